@@ -1,0 +1,193 @@
+-- One entry of the schedule: giving away, meeting, and what the named process's act does to the configuration and to
+-- the trace.
+use Prim.Native.Nat.{ℕ, zero, suc, _+_}
+use mathlib.Core.Bool.{Bool, true, false, cond, _&&_, _||_, not, Bool·beq}
+use mathlib.Core.List.{List, [], _∷_, _++_, map}
+use mathlib.Core.Option.{Option, none, some}
+use lib.ListN.{getD, set, length}
+use lib.Dec.{eqb, leb, ltb}
+use Rattle.lists.specs.Lists.{any, firstSome}
+use Rattle.machine.specs.Value.{Thing, qubit, channel, end, Value, empty, int, bool, ref, covers}
+use Rattle.machine.specs.State.{Frame, Status, running, finished, stopped, Process, Config, Line, State, Event, processAt, setProcess, started, withPending, push, madeQubit, madeChannel, forked, gave, met, passed, finishes, stops, lineOf}
+use Rattle.machine.specs.Act.{Offer, sends, receives, Act, idle, stuck, faults, goes, ends, makes, forks, offers, actOf}
+
+-- "Giving away": "Every slot and every pending value of the giver, in all frames, that holds the thing is emptied.
+-- Giving an end also empties the channel, not the opposite end. Giving a channel empties channel and both ends."
+unfoldable pub lostWith : Thing → Value → Bool
+lostWith t empty = false
+lostWith t (int z) = false
+lostWith t (bool b) = false
+lostWith t (ref u) = covers t u || covers u t
+
+-- a value once all of ts are given away
+unfoldable pub without : List Thing → Value → Value
+without ts v = cond (any (λ t. lostWith t v) ts) empty v
+
+unfoldable pub frameWithout : List Thing → Frame → Frame
+frameWithout ts f = record {
+  method = f .method;
+  place = f .place;
+  slots = map (without ts) (f .slots);
+  pending = map (without ts) (f .pending) }
+
+unfoldable pub framesWithout : List Thing → List Frame → List Frame
+framesWithout ts fs = map (frameWithout ts) fs
+
+-- the qubits, channels and ends among these values, in order, repeats included
+unfoldable pub thingsOf : List Value → List Thing
+thingsOf [] = []
+thingsOf (empty ∷ vs) = thingsOf vs
+thingsOf (int z ∷ vs) = thingsOf vs
+thingsOf (bool b ∷ vs) = thingsOf vs
+thingsOf (ref t ∷ vs) = t ∷ thingsOf vs
+
+-- A meeting: the sender's side of the channel, the value, and both processes' frames once their operands are off.
+pub record Meeting : Type 0 where
+  pub sender : ℕ
+  pub receiver : ℕ
+  pub channel : ℕ
+  pub side : Bool
+  pub value : Value
+  pub senderFrames : List Frame
+  pub receiverFrames : List Frame
+
+-- "SEND waits unless another process stands at RECV with the opposite end as its operand, and RECV likewise": the
+-- meeting of process n's offer with process q's
+unfoldable pub joins : ℕ → Offer → ℕ → Offer → Option Meeting
+joins n (sends c d v fs) q (sends c′ d′ w gs) = none
+joins n (sends c d v fs) q (receives c′ d′ gs) =
+    cond (eqb c c′ && Bool·beq d (not d′))
+    (some (record { sender = n; receiver = q; channel = c; side = d; value = v; senderFrames = fs; receiverFrames = gs }))
+    none
+joins n (receives c d fs) q (sends c′ d′ w gs) =
+    cond (eqb c c′ && Bool·beq d (not d′))
+    (some (record { sender = q; receiver = n; channel = c′; side = d′; value = w; senderFrames = gs; receiverFrames = fs }))
+    none
+joins n (receives c d fs) q (receives c′ d′ gs) = none
+
+unfoldable pub offered : Act → Option Offer
+offered idle = none
+offered stuck = none
+offered (faults f) = none
+offered (goes fs es u) = none
+offered ends = none
+offered (makes t fs) = none
+offered (forks m args fs) = none
+offered (offers o) = some o
+
+unfoldable pub meetsWith : ℕ → Offer → ℕ → Option Offer → Option Meeting
+meetsWith n o q none = none
+meetsWith n o q (some r) = joins n o q r
+
+-- the meeting of process n, which makes offer o, with another process, if one is ready
+unfoldable pub meetingOf : List ℕ → List ℕ → State → ℕ → Offer → Option Meeting
+meetingOf p outcomes s n o =
+    firstSome (λ q. cond (eqb q n) none (meetsWith n o q (offered (actOf p outcomes s q)))) (length (s .config .processes))
+
+-- What an entry does: the configuration it leaves, how many outcomes it uses, and its lines.
+pub record Effect : Type 0 where
+  pub config : Config
+  pub used : ℕ
+  pub lines : List Line
+
+abbrev pub nothing : State → Effect
+nothing s = record { config = s .config; used = 0; lines = [] }
+
+-- process n in another state, with these lines
+abbrev pub changes : ℕ → State → ℕ → Process → List Event → ℕ → Effect
+changes k s n pr es u = record { config = setProcess (s .config) n pr; used = u; lines = map (lineOf k n) es }
+
+abbrev pub runs : List Frame → Process
+runs fs = record { status = running; frames = fs }
+
+-- the new thing is counted
+unfoldable pub counted : Thing → Config → Config
+counted (qubit q) c = record { processes = c .processes; qubits = suc (c .qubits); channels = c .channels }
+counted (channel q) c = record { processes = c .processes; qubits = c .qubits; channels = suc (c .channels) }
+counted (end q d) c = c
+
+unfoldable pub making : Thing → Event
+making (qubit q) = madeQubit q
+making (channel q) = madeChannel q
+making (end q d) = madeChannel q
+
+-- one more process
+unfoldable pub joined : Config → Process → Config
+joined c pr = record { processes = c .processes ++ (pr ∷ []); qubits = c .qubits; channels = c .channels }
+
+-- "FORK gives its qubit, channel and end arguments to the new process, all taken off first, so the child has every
+-- one": a line of kind 5, then one of kind 6 for each thing given, in order
+unfoldable pub forking : List ℕ → ℕ → State → ℕ → ℕ → List Value → List Frame → Effect
+forking p k s n m args fs = record {
+  config =
+    joined (setProcess (s .config) n (runs (framesWithout (thingsOf args) fs))) (runs (started p m args ∷ []));
+  used = 0;
+  lines =
+    map (lineOf k n)
+    (forked (length (s .config .processes)) m (length args)
+    ∷ map (gave (length (s .config .processes))) (thingsOf args)) }
+
+-- the value on top of the frame at work
+unfoldable pub pushTop : Value → List Frame → List Frame
+pushTop v [] = []
+pushTop v (f ∷ fs) = push v f ∷ fs
+
+-- what follows a meeting's line: a giving, or the value passed
+unfoldable pub handing : ℕ → Value → List Event
+handing to empty = passed empty ∷ []
+handing to (int z) = passed (int z) ∷ []
+handing to (bool b) = passed (bool b) ∷ []
+handing to (ref t) = gave to t ∷ []
+
+-- "When either is named, both move on together."
+unfoldable pub meeting : ℕ → State → Meeting → Effect
+meeting k s e = record {
+  config =
+    setProcess
+    (setProcess (s .config) (e .sender) (runs (framesWithout (thingsOf (e .value ∷ [])) (e .senderFrames))))
+    (e .receiver)
+    (runs (pushTop (e .value) (e .receiverFrames)));
+  used = 0;
+  lines = map (lineOf k (e .sender)) (met (e .receiver) (e .channel) (e .side) ∷ handing (e .receiver) (e .value)) }
+
+unfoldable pub meetingIf : ℕ → State → Option Meeting → Effect
+meetingIf k s none = nothing s
+meetingIf k s (some e) = meeting k s e
+
+-- "Faults stop the process, which keeps all slots and pending values as they were before the entry, and use no
+-- outcome"; "The root frame's RET finishes the process, which then reaches nothing."
+unfoldable pub applied : List ℕ → List ℕ → ℕ → State → ℕ → Act → Effect
+applied p outcomes k s n idle = nothing s
+applied p outcomes k s n stuck = nothing s
+applied p outcomes k s n (faults f) =
+    changes k s n (record { status = stopped f; frames = processAt (s .config) n .frames }) (stops f ∷ []) 0
+applied p outcomes k s n (goes fs es u) = changes k s n (runs fs) es u
+applied p outcomes k s n ends = changes k s n (record { status = finished; frames = [] }) (finishes ∷ []) 0
+applied p outcomes k s n (makes t fs) = record {
+  config = counted t (setProcess (s .config) n (runs fs));
+  used = 0;
+  lines = lineOf k n (making t) ∷ [] }
+applied p outcomes k s n (forks m args fs) = forking p k s n m args fs
+applied p outcomes k s n (offers o) = meetingIf k s (meetingOf p outcomes s n o)
+
+-- what entry k does where the schedule's byte names process n
+unfoldable pub effectOf : List ℕ → List ℕ → ℕ → State → ℕ → Effect
+effectOf p outcomes k s n = applied p outcomes k s n (actOf p outcomes s n)
+
+unfoldable pub isMeeting : Option Meeting → Bool
+isMeeting none = false
+isMeeting (some e) = true
+
+-- "able to move (to step, meet or fault)"
+unfoldable pub moves : List ℕ → List ℕ → State → ℕ → Act → Bool
+moves p outcomes s n idle = false
+moves p outcomes s n stuck = false
+moves p outcomes s n (faults f) = true
+moves p outcomes s n (goes fs es u) = true
+moves p outcomes s n ends = true
+moves p outcomes s n (makes t fs) = true
+moves p outcomes s n (forks m args fs) = true
+moves p outcomes s n (offers o) = isMeeting (meetingOf p outcomes s n o)
+
+unfoldable pub able : List ℕ → List ℕ → State → ℕ → Bool
+able p outcomes s n = moves p outcomes s n (actOf p outcomes s n)

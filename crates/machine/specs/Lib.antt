@@ -1,0 +1,9 @@
+pub mod Value
+pub mod State
+pub mod Act
+pub mod Entry
+pub mod Run
+pub mod Owner
+pub mod Sound
+pub mod Answer
+pub mod Cases

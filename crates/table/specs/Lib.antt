@@ -1,0 +1,4 @@
+pub mod Table
+pub mod Ops
+pub mod Reading
+pub mod Questions
