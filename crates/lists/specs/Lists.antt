@@ -2,7 +2,7 @@
 use Prim.Native.Nat.{ℕ, zero, suc, _+_}
 use mathlib.Core.Bool.{Bool, true, false, cond, _&&_, _||_}
 use mathlib.Core.List.{List, [], _∷_, _++_}
-use mathlib.Core.Option.{Option, none, some}
+use mathlib.Core.Option.{Option, none, some, orElse}
 use lib.Dec.{eqb, ltb}
 
 -- some element passes the test
@@ -39,8 +39,9 @@ allBelow f (suc n) = allBelow f n && f n
 
 -- the first answer that is given at an index below n
 unfoldable pub firstSome : {A : Type 0} → (ℕ → Option A) → ℕ → Option A
+unfolding orElse
 firstSome f zero = none
-firstSome f (suc n) = elim (firstSome f n) [ none ↦ f n | some a ↦ some a ]
+firstSome f (suc n) = orElse (firstSome f n) (f n)
 
 -- the numbers below n, in order
 unfoldable pub below : ℕ → List ℕ

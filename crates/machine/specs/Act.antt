@@ -56,63 +56,63 @@ pub record At : Type 0 where
   pub callers : List Frame
 
 -- the operand at depth i, where it is of the kind wanted
-abbrev operand : At → ℕ → Value
+abbrev pub operand : At → ℕ → Value
 operand a i = getD (a .operands) i empty
 
-abbrev asInt : Value → (ℤ → Act) → Act
+abbrev pub asInt : Value → (ℤ → Act) → Act
 asInt empty k = stuck
 asInt (int z) k = k z
 asInt (bool b) k = stuck
 asInt (ref t) k = stuck
 
-abbrev asBool : Value → (Bool → Act) → Act
+abbrev pub asBool : Value → (Bool → Act) → Act
 asBool empty k = stuck
 asBool (int z) k = stuck
 asBool (bool b) k = k b
 asBool (ref t) k = stuck
 
-abbrev asThing : Value → (Thing → Act) → Act
+abbrev pub asThing : Value → (Thing → Act) → Act
 asThing empty k = stuck
 asThing (int z) k = stuck
 asThing (bool b) k = stuck
 asThing (ref t) k = k t
 
-abbrev thingQubit : (ℕ → Act) → Thing → Act
+abbrev pub thingQubit : (ℕ → Act) → Thing → Act
 thingQubit k (qubit n) = k n
 thingQubit k (channel n) = stuck
 thingQubit k (end n s) = stuck
 
-abbrev thingChannel : (ℕ → Act) → Thing → Act
+abbrev pub thingChannel : (ℕ → Act) → Thing → Act
 thingChannel k (qubit n) = stuck
 thingChannel k (channel n) = k n
 thingChannel k (end n s) = stuck
 
-abbrev thingEnd : (ℕ → Bool → Act) → Thing → Act
+abbrev pub thingEnd : (ℕ → Bool → Act) → Thing → Act
 thingEnd k (qubit n) = stuck
 thingEnd k (channel n) = stuck
 thingEnd k (end n s) = k n s
 
-abbrev asQubit : Value → (ℕ → Act) → Act
+abbrev pub asQubit : Value → (ℕ → Act) → Act
 asQubit v k = asThing v (thingQubit k)
 
-abbrev asChannel : Value → (ℕ → Act) → Act
+abbrev pub asChannel : Value → (ℕ → Act) → Act
 asChannel v k = asThing v (thingChannel k)
 
-abbrev asEnd : Value → (ℕ → Bool → Act) → Act
+abbrev pub asEnd : Value → (ℕ → Bool → Act) → Act
 asEnd v k = asThing v (thingEnd k)
 
 -- "20 the slot read .. is empty"
-abbrev present : Value → (Value → Act) → Act
+abbrev pub present : Value → (Value → Act) → Act
 present empty k = faults 20
 present (int z) k = k (int z)
 present (bool b) k = k (bool b)
 present (ref t) k = k (ref t)
 
 -- going on with this top frame, with no line; pushing a value
-abbrev onward : At → Frame → Act
+abbrev pub onward : At → Frame → Act
 onward a f = goes (f ∷ a .callers) [] 0
 
-abbrev pushes : At → Value → Act
+abbrev pub pushes : At → Value → Act
 pushes a v = onward a (push v (a .frame))
 
 -- "INT: two's complement, -32768 to 32767", "push it"
@@ -169,7 +169,7 @@ unfoldable pub doGate : At → Act
 doGate a = cond (leb (a .argument) 5) (doGateOne a) (doGateTwo a)
 
 -- "qubit off, next outcome on as int"; "24 no outcome left"
-abbrev withOutcome : List ℕ → (ℕ → Act) → Act
+abbrev pub withOutcome : List ℕ → (ℕ → Act) → Act
 withOutcome [] k = faults 24
 withOutcome (o ∷ os) k = k o
 
@@ -186,7 +186,7 @@ doCall a =
     (faults 25)
 
 -- "return value off unless void; the frame goes"; "The root frame's RET finishes the process"
-abbrev returnTo : List Value → List Frame → Act
+abbrev pub returnTo : List Value → List Frame → Act
 returnTo vs [] = ends
 returnTo vs (f ∷ fs) = goes (withPending (vs ++ f .pending) f ∷ fs) [] 0
 
@@ -207,7 +207,7 @@ unfoldable pub doRecv : At → Act
 doRecv a = asEnd (operand a 0) (λ n s. offers (receives n s (a .frame ∷ a .callers)))
 
 -- "instruction, from the method's start"
-abbrev jump : At → Act
+abbrev pub jump : At → Act
 jump a = onward a (atPlace (offsetOf (a .program) (a .frame .method) + a .argument) (a .frame))
 
 unfoldable pub doJump : At → Act
@@ -218,10 +218,10 @@ unfoldable pub doJFalse : At → Act
 doJFalse a = asBool (operand a 0) (λ b. cond b (onward a (a .frame)) (jump a))
 
 -- "two ints; SUB and LESS put the deeper first"; "26 int out of range"
-abbrev twoInts : At → (ℤ → ℤ → Act) → Act
+abbrev pub twoInts : At → (ℤ → ℤ → Act) → Act
 twoInts a k = asInt (operand a 1) (λ x. asInt (operand a 0) (λ y. k x y))
 
-abbrev result : At → ℤ → Act
+abbrev pub result : At → ℤ → Act
 result a z = cond (inRange z) (pushes a (int z)) (faults 26)
 
 unfoldable pub doAdd : At → Act

@@ -1,0 +1,477 @@
+-- Demand 3 over the whole schedule. The invariant: whatever a process reaches, the lines so far name it as holder, and
+-- it was made; and every line is lawful by the lines above it. One lemma carries it over any entry: whatever the entry
+-- did, some things went to one process by its lines, and beyond them nobody reaches more than before.
+use Prim.Native.Nat.{ℕ, zero, suc, _+_, _<_, _≤_}
+use mathlib.Core.Path.{_≡_, refl, sym, _∙_, ap, subst}
+use mathlib.Core.Logic.{_≢_, _⊎_, inl, inr, ⊎-elim}
+use mathlib.Core.Bool.{Bool, true, false, cond, not, _&&_, _||_, Bool·beq}
+use mathlib.Core.List.{List, [], _∷_, _++_, map, foldl, append-nil}
+use mathlib.Core.Option.{Option, none, some, Option·some-injective, Option·none-ne-some}
+use native.Mathlib.Nat.{le-step, le-refl, lt-irrefl}
+use native.Mathlib.Omega.{arith}
+use lib.ListN.{getD, take, length}
+use lib.Dec.{T, eqb, eqb→eq, eqb-refl}
+use borrow.Author.Tests.{eqb-true, eqb-false}
+use Rattle.lists.specs.Lists.{any, All, firstSome}
+use Rattle.lists.proofs.Tests.{decide, passed, passes, failed, clash, or-cases, or-left, and-left, and-right, cond-both}
+use Rattle.lists.proofs.Any.{any-elim, firstSome-found}
+use Rattle.machine.specs.Value.{Thing, qubit, channel, end, Value, empty, int, bool, ref, covers, sideNo, sideOf}
+use Rattle.machine.specs.State.{Frame, Status, running, finished, stopped, Process, Config, Line, State, Event, processAt, setProcess, started, startConfig, start, unmade, lineOf, gave, forked, met, finishes, stops}
+use Rattle.machine.specs.Act.{Offer, sends, receives, Act, idle, stuck, faults, goes, ends, makes, forks, offers, actOf}
+use Rattle.machine.specs.Entry.{Effect, Meeting, joins, offered, meetsWith, meetingOf, meetingIf, meeting, nothing, changes, runs, counted, making, joined, forking, framesWithout, thingsOf, pushTop, handing, applied, effectOf}
+use Rattle.machine.specs.Run.{Result, allOver, noneAble, fits, afterEffect, ended, runFrom, run}
+use Rattle.machine.specs.Owner.{names, valuesOf, reaches, holder, holderAfter, Holds, LineHeld, MeetingHeld, noLine, Owned}
+use Rattle.machine.specs.Sound.{Made}
+use Rattle.machine.proofs.Things.{beq-eq}
+use Rattle.machine.proofs.Within.{InReach, Within, FramesWithin, Quiet, Next, OfferWithin, ActWithin, frames-own, frame-started, act-within}
+use Rattle.machine.proofs.Holder.{covered, LinesHeld, holder-append, holder-kept, holder-making, holder-quiet, holder-given, holder-handing, lines-append, line-at, line-free, lines-quiet, lines-given, lines-handing}
+use Rattle.machine.proofs.Giving.{frames-reach, things-within, giver-left, child-reach, receiver-reach, others-keep, reach-set, reach-joined, count-set}
+
+-- The invariant of a configuration and the lines so far.
+pub record Kept (c : Config) (ls : List Line) : Type 0 where
+  pub named : (x : Thing) (n : ℕ) → T (reaches (processAt c n) x) → Holds ls n x
+  pub made : (x : Thing) (n : ℕ) → T (reaches (processAt c n) x) → Made c x
+  pub lawful : LinesHeld [] ls
+
+-- What an entry does to ownership: the things ts go to process q by its lines. Beyond what they cover, a process
+-- reaches only what it reached, and of that nothing that they cover unless it is q.
+record Moved (c c′ : Config) (ls new : List Line) (q : ℕ) (ts : List Thing) : Type 0 where
+  reach : (m : ℕ) (x : Thing) → T (reaches (processAt c′ m) x)
+      → ((m ≡ q) × T (covered ts x)) ⊎ (T (reaches (processAt c m) x) × ((m ≡ q) ⊎ (T (covered ts x) → ⊥)))
+  still : (x : Thing) → Made c x → Made c′ x
+  fresh : (x : Thing) → T (covered ts x) → Made c′ x
+  holders : (x : Thing) → holder (ls ++ new) x ≡ cond (covered ts x) (some q) (holder ls x)
+  lines : LinesHeld ls new
+
+choice-same : (b : Bool) (h : Option ℕ) (q : ℕ) → h ≡ some q → cond b (some q) h ≡ some q
+choice-same true h q e = refl
+choice-same false h q e = e
+
+choice-true : (b : Bool) (h g : Option ℕ) → T b → cond b g h ≡ g
+choice-true true h g t = refl
+choice-true false h g t = absurd t
+
+choice-false : (b : Bool) (h g : Option ℕ) → (T b → ⊥) → cond b g h ≡ h
+choice-false true h g f = absurd (f tt)
+choice-false false h g f = refl
+
+-- any entry keeps the invariant
+moved-keeps : (c c′ : Config) (ls new : List Line) (q : ℕ) (ts : List Thing) → Moved c c′ ls new q ts → Kept c ls
+    → Kept c′ (ls ++ new)
+moved-keeps c c′ ls new q ts v h = record {
+  named = λ x n r. v .holders x ∙ ⊎-elim (given x n) (stayed x n) (v .reach n x r);
+  made = λ x n r. ⊎-elim (λ g. v .fresh x (g .1)) (λ o. v .still x (h .made x n (o .0))) (v .reach n x r);
+  lawful = lines-append [] ls new (h .lawful) (v .lines) }
+  where
+    given : (x : Thing) (n : ℕ) → (n ≡ q) × T (covered ts x) → cond (covered ts x) (some q) (holder ls x) ≡ some n
+    given x n g = choice-true (covered ts x) (holder ls x) (some q) (g .1) ∙ ap {B = Option ℕ} some (sym (g .0))
+    stayed : (x : Thing) (n : ℕ) → T (reaches (processAt c n) x) × ((n ≡ q) ⊎ (T (covered ts x) → ⊥))
+        → cond (covered ts x) (some q) (holder ls x) ≡ some n
+    stayed x n o =
+        ⊎-elim
+        (λ e. choice-same (covered ts x) (holder ls x) q (h .named x n (o .0) ∙ ap {B = Option ℕ} some e) ∙ ap {B = Option ℕ} some (sym e))
+        (λ f. choice-false (covered ts x) (holder ls x) (some q) f ∙ h .named x n (o .0))
+        (o .1)
+
+-- entries that give nothing: idle, waiting, and every step within one process
+
+still-set : (c : Config) (n : ℕ) (pr : Process) (x : Thing) → Made c x → Made (setProcess c n pr) x
+unfolding setProcess
+still-set c n pr (qubit k) h = h
+still-set c n pr (channel k) h = h
+still-set c n pr (end k s) h = h
+
+still-joined : (c : Config) (pr : Process) (x : Thing) → Made c x → Made (joined c pr) x
+unfolding joined
+still-joined c pr (qubit k) h = h
+still-joined c pr (channel k) h = h
+still-joined c pr (end k s) h = h
+
+moved-nothing : (c : Config) (ls : List Line) → Moved c c ls [] 0 []
+moved-nothing c ls = record {
+  reach = λ m x r. inr (r, inr (λ b. b));
+  still = λ x h. h;
+  fresh = λ x b. absurd b;
+  holders = λ x. holder-append ls [] x;
+  lines = tt }
+
+module _ (c : Config) (ls : List Line) (h : Kept c ls) (k n : ℕ) where
+  -- the values of process n
+  abbrev own : List Value
+  own = valuesOf (processAt c n .frames)
+
+  moved-within : (pr : Process) (es : List Event) → FramesWithin own (pr .frames) → All (Quiet own) es
+      → Moved c (setProcess c n pr) ls (map (lineOf k n) es) n []
+  unfolding reaches
+  moved-within pr es w q = record {
+    reach = λ m x r.
+      inr
+      (⊎-elim
+      (λ g. subst (λ (i : ℕ). T (reaches (processAt c i) x)) (sym (g .0)) (frames-reach own (pr .frames) w x (g .1)))
+      (λ g. g .1)
+      (reach-set c n pr m x r),
+      inr (λ b. b));
+    still = still-set c n pr;
+    fresh = λ x b. absurd b;
+    holders = λ x. holder-append ls (map (lineOf k n) es) x ∙ holder-quiet own x k n es (holder ls x) q;
+    lines = lines-quiet own ls k n es (λ x r. h .named x n r) q }
+
+  -- making a qubit or a channel
+
+  -- the next thing to be made covers nothing that was made
+  next-apart : (t x : Thing) → Next (c .qubits) (c .channels) t → Made c x → T (covers t x) → ⊥
+  unfolding covers
+  next-apart (qubit a) (qubit b) e m r = lt-irrefl b (subst (λ (i : ℕ). b < i) (sym (sym (eqb→eq a b r) ∙ e)) m)
+  next-apart (qubit a) (channel b) e m r = r
+  next-apart (qubit a) (end b s) e m r = r
+  next-apart (channel a) (qubit b) e m r = r
+  next-apart (channel a) (channel b) e m r = lt-irrefl b (subst (λ (i : ℕ). b < i) (sym (sym (eqb→eq a b r) ∙ e)) m)
+  next-apart (channel a) (end b s) e m r = lt-irrefl b (subst (λ (i : ℕ). b < i) (sym (sym (eqb→eq a b r) ∙ e)) m)
+  next-apart (end a t) x e m r = e
+
+  next-no-end : (t : Thing) → Next (c .qubits) (c .channels) t → (i : ℕ) (s : Bool) → t ≢ end i s
+  next-no-end t e i s q = subst (Next (c .qubits) (c .channels)) q e
+
+  -- counting it makes it and whatever it covers, and keeps what was made
+  counted-still : (t : Thing) (pr : Process) (x : Thing) → Made c x → Made (counted t (setProcess c n pr)) x
+  unfolding counted setProcess
+  counted-still (qubit a) pr (qubit b) m = le-step m
+  counted-still (qubit a) pr (channel b) m = m
+  counted-still (qubit a) pr (end b s) m = m
+  counted-still (channel a) pr (qubit b) m = m
+  counted-still (channel a) pr (channel b) m = le-step m
+  counted-still (channel a) pr (end b s) m = le-step m
+  counted-still (end a t) pr (qubit b) m = m
+  counted-still (end a t) pr (channel b) m = m
+  counted-still (end a t) pr (end b s) m = m
+
+  counted-fresh : (t : Thing) (pr : Process) (x : Thing) → Next (c .qubits) (c .channels) t → T (covers t x)
+      → Made (counted t (setProcess c n pr)) x
+  unfolding counted setProcess covers
+  counted-fresh (qubit a) pr (qubit b) e r = subst (λ (i : ℕ). b < suc i) (sym (eqb→eq a b r) ∙ e) (le-refl (suc b))
+  counted-fresh (qubit a) pr (channel b) e r = absurd r
+  counted-fresh (qubit a) pr (end b s) e r = absurd r
+  counted-fresh (channel a) pr (qubit b) e r = absurd r
+  counted-fresh (channel a) pr (channel b) e r = subst (λ (i : ℕ). b < suc i) (sym (eqb→eq a b r) ∙ e) (le-refl (suc b))
+  counted-fresh (channel a) pr (end b s) e r = subst (λ (i : ℕ). b < suc i) (sym (eqb→eq a b r) ∙ e) (le-refl (suc b))
+  counted-fresh (end a t) pr x e r = absurd e
+
+  counted-process : (t : Thing) (c′ : Config) (m : ℕ) → processAt (counted t c′) m ≡ processAt c′ m
+  unfolding counted processAt
+  counted-process (qubit a) c′ m = refl
+  counted-process (channel a) c′ m = refl
+  counted-process (end a s) c′ m = refl
+
+  one-covered : (t x : Thing) → T (covered (t ∷ []) x) → T (covers t x)
+  one-covered t x r = ⊎-elim (λ u. u) (λ u. absurd u) (or-cases (covers t x) false r)
+
+  or-false : (b : Bool) → b ≡ (b || false)
+  or-false true = refl
+  or-false false = refl
+
+  line-making : (t : Thing) → LineHeld ls (lineOf k n (making t))
+  unfolding making
+  line-making (qubit a) = line-free ls (lineOf k n (making (qubit a))) (omega arith) (omega arith) (omega arith)
+  line-making (channel a) = line-free ls (lineOf k n (making (channel a))) (omega arith) (omega arith) (omega arith)
+  line-making (end a s) = line-free ls (lineOf k n (making (end a s))) (omega arith) (omega arith) (omega arith)
+
+  moved-making : (t : Thing) (fs : List Frame) → Next (c .qubits) (c .channels) t → FramesWithin (ref t ∷ own) fs
+      → Moved c (counted t (setProcess c n (runs fs))) ls (lineOf k n (making t) ∷ []) n (t ∷ [])
+  unfolding reaches names
+  moved-making t fs e w = record {
+    reach = λ m x r.
+      ⊎-elim
+      (λ g.
+      ⊎-elim (λ u. inl (g .0, or-left (covers t x) false u))
+      (λ u. inr (subst (λ (i : ℕ). T (reaches (processAt c i) x)) (sym (g .0)) u, inl (g .0)))
+      (or-cases (covers t x) (any (names x) own) (frames-reach (ref t ∷ own) fs w x (g .1))))
+      (λ g. inr (g .1, inr (λ b. next-apart t x e (h .made x m (g .1)) (one-covered t x b))))
+      (reach-set c n (runs fs) m x
+      (subst (λ (pr : Process). T (reaches pr x)) (counted-process t (setProcess c n (runs fs)) m) r));
+    still = counted-still t (runs fs);
+    fresh = λ x b. counted-fresh t (runs fs) x e (one-covered t x b);
+    holders = λ x.
+      holder-append ls (lineOf k n (making t) ∷ []) x
+      ∙ holder-making x (holder ls x) k n t (next-no-end t e)
+      ∙ ap (λ (b : Bool). cond b (some n) (holder ls x)) (or-false (covers t x));
+    lines = (line-making t, tt) }
+
+  -- giving: what the giver keeps is not covered, and what others reach is not either
+
+  -- process m of the configuration in which process n has given ts away and kept fs, m not being the new holder
+  reach-giver : (ts : List Thing) (fs : List Frame) → All (λ t. Within own (ref t)) ts → FramesWithin own fs
+      → (m : ℕ) (x : Thing) → T (reaches (processAt (setProcess c n (runs (framesWithout ts fs))) m) x)
+      → T (reaches (processAt c m) x) × (T (covered ts x) → ⊥)
+  unfolding reaches
+  reach-giver ts fs ht hf m x r =
+      ⊎-elim
+      (λ g.
+      let l = giver-left own ts fs hf x (g .1) in
+      (subst (λ (i : ℕ). T (reaches (processAt c i) x)) (sym (g .0)) (l .0), l .1))
+      (λ g. (g .1, others-keep c ls (h .named) n m ts ht (g .0) x (g .1)))
+      (reach-set c n (runs (framesWithout ts fs)) m x r)
+
+  -- what is given was made
+  given-made : (ts : List Thing) → All (λ t. Within own (ref t)) ts → (x : Thing) → T (covered ts x) → Made c x
+  unfolding names reaches
+  given-made ts ht x b =
+      any-elim (λ t. covers t x) (λ t. Within own (ref t)) (Made c x) (λ t w u. h .made x n (w x u)) ts ht b
+
+  moved-forking : (p : List ℕ) (m : ℕ) (args : List Value) (fs : List Frame) (params : ℕ)
+      → All (Within own) args → FramesWithin own fs
+      → Moved c (joined (setProcess c n (runs (framesWithout (thingsOf args) fs))) (runs (started p m args ∷ []))) ls
+      (map (lineOf k n) (forked (length (c .processes)) m params ∷ map (gave (length (c .processes))) (thingsOf args)))
+      (length (c .processes))
+      (thingsOf args)
+  unfolding reaches
+  moved-forking p m args fs params ha hf = record {
+    reach = λ i x r.
+      ⊎-elim
+      (λ g. inl (g .0 ∙ count-set c n (runs (framesWithout ts fs)), child-reach p m args x (g .1)))
+      (λ g. let l = reach-giver ts fs (things-within own args ha) hf i x g in inr (l .0, inr (l .1)))
+      (reach-joined (setProcess c n (runs (framesWithout ts fs))) (runs (started p m args ∷ [])) i x r);
+    still = still;
+    fresh = λ x b. still x (given-made ts (things-within own args ha) x b);
+    holders = λ x.
+      holder-append ls (map (lineOf k n) (forked child m params ∷ map (gave child) ts)) x
+      ∙ ap (λ (g : Option ℕ). foldl (holderAfter x) g (map (lineOf k n) (map (gave child) ts)))
+      (holder-kept x (holder ls x) (lineOf k n (forked child m params)) (omega arith) (omega arith) (omega arith))
+      ∙ holder-given x k n child ts (holder ls x);
+    lines =
+      (line-free ls (lineOf k n (forked child m params)) (omega arith) (omega arith) (omega arith),
+      lines-given (ls ++ (lineOf k n (forked child m params) ∷ [])) k n child ts) }
+    where
+      ts : List Thing
+      ts = thingsOf args
+      child : ℕ
+      child = length (c .processes)
+      still : (x : Thing) → Made c x → Made (joined (setProcess c n (runs (framesWithout ts fs))) (runs (started p m args ∷ []))) x
+      still x e =
+          still-joined (setProcess c n (runs (framesWithout ts fs))) (runs (started p m args ∷ [])) x
+          (still-set c n (runs (framesWithout ts fs)) x e)
+
+  -- a meeting, process n being the sender
+
+  line-met : (q ch : ℕ) (d : Bool) → n ≢ q → Holds ls n (end ch d) → Holds ls q (end ch (not d))
+      → LineHeld ls (lineOf k n (met q ch d))
+  line-met q ch d ne hs hr = record {
+    gate = λ e. absurd (omega arith);
+    measurement = λ e. absurd (omega arith);
+    meeting = λ e. held d hs hr }
+    where
+      held : (d : Bool) → Holds ls n (end ch d) → Holds ls q (end ch (not d)) → MeetingHeld ls (lineOf k n (met q ch d))
+      held true hs hr = record { two = ne; sender = hs; receiver = hr }
+      held false hs hr = record { two = ne; sender = hs; receiver = hr }
+
+  moved-meeting : (q ch : ℕ) (d : Bool) (v : Value) (fs gs : List Frame) → n ≢ q
+      → OfferWithin own (sends ch d v fs) → OfferWithin (valuesOf (processAt c q .frames)) (receives ch (not d) gs)
+      → Moved c (setProcess (setProcess c n (runs (framesWithout (thingsOf (v ∷ [])) fs))) q (runs (pushTop v gs))) ls
+      (map (lineOf k n) (met q ch d ∷ handing q v))
+      q
+      (thingsOf (v ∷ []))
+  unfolding reaches
+  moved-meeting q ch d v fs gs ne hs hr = record {
+    reach = λ m x r.
+      ⊎-elim
+      (λ g.
+      ⊎-elim (λ u. inl (g .0, u))
+      (λ u. inr (subst (λ (i : ℕ). T (reaches (processAt c i) x)) (sym (g .0)) u, inl (g .0)))
+      (receiver-reach (valuesOf (processAt c q .frames)) v gs (hr .1) x (g .1)))
+      (λ g. let l = reach-giver ts fs (things-within own (v ∷ []) (hs .1, tt)) (hs .2) m x (g .1) in inr (l .0, inr (l .1)))
+      (reach-set c₁ q (runs (pushTop v gs)) m x r);
+    still = still;
+    fresh = λ x b. still x (given-made ts (things-within own (v ∷ []) (hs .1, tt)) x b);
+    holders = λ x.
+      holder-append ls (map (lineOf k n) (met q ch d ∷ handing q v)) x
+      ∙ ap (λ (g : Option ℕ). foldl (holderAfter x) g (map (lineOf k n) (handing q v)))
+      (holder-kept x (holder ls x) (lineOf k n (met q ch d)) (omega arith) (omega arith) (omega arith))
+      ∙ holder-handing x k n q v (holder ls x);
+    lines =
+      (line-met q ch d ne (h .named (end ch d) n (hs .0)) (h .named (end ch (not d)) q (hr .0)),
+      lines-handing (ls ++ (lineOf k n (met q ch d) ∷ [])) k n q v) }
+    where
+      ts : List Thing
+      ts = thingsOf (v ∷ [])
+      c₁ : Config
+      c₁ = setProcess c n (runs (framesWithout ts fs))
+      still : (x : Thing) → Made c x → Made (setProcess c₁ q (runs (pushTop v gs))) x
+      still x e = still-set c₁ q (runs (pushTop v gs)) x (still-set c n (runs (framesWithout ts fs)) x e)
+
+-- a meeting joins two offers, made by two processes on the two ends of one channel
+
+record Joined (c : Config) (e : Meeting) : Type 0 where
+  two : e .sender ≢ e .receiver
+  sending : OfferWithin (valuesOf (processAt c (e .sender) .frames)) (sends (e .channel) (e .side) (e .value) (e .senderFrames))
+  receiving : OfferWithin (valuesOf (processAt c (e .receiver) .frames)) (receives (e .channel) (not (e .side)) (e .receiverFrames))
+
+cond-some : (b : Bool) (x e : Meeting) → cond b (some x) none ≡ some e → T b × (x ≡ e)
+cond-some true x e h = (tt, Option·some-injective x e h)
+cond-some false x e h = absurd (Option·none-ne-some e h)
+
+-- the opposite side of an end that was tested to be the opposite one
+opposite : (c c′ : ℕ) (d d′ : Bool) → T (eqb c c′ && Bool·beq d (not d′)) → end c (not d) ≡ end c′ d′
+opposite c c′ d d′ t =
+    ap (λ (i : ℕ). end i (not d)) (eqb→eq c c′ (and-left (eqb c c′) (Bool·beq d (not d′)) t))
+    ∙ ap (λ (b : Bool). end c′ b) (turned d d′ (and-right (eqb c c′) (Bool·beq d (not d′)) t))
+  where
+    turned : (d d′ : Bool) → T (Bool·beq d (not d′)) → not d ≡ d′
+    turned true true t = absurd t
+    turned true false t = refl
+    turned false true t = refl
+    turned false false t = absurd t
+
+joins-within : (c : Config) (n q : ℕ) (o r : Offer) (e : Meeting) → n ≢ q → OfferWithin (valuesOf (processAt c n .frames)) o
+    → OfferWithin (valuesOf (processAt c q .frames)) r → joins n o q r ≡ some e → Joined c e
+unfolding joins
+joins-within c n q (sends a d v fs) (sends a′ d′ w gs) e ne ho hr h = absurd (Option·none-ne-some e h)
+joins-within c n q (sends a d v fs) (receives a′ d′ gs) e ne ho hr h =
+    let f = cond-some (eqb a a′ && Bool·beq d (not d′)) _ e h in
+    subst (Joined c) (f .1)
+    (record {
+      two = ne; sending = ho;
+      receiving = (subst (InReach (valuesOf (processAt c q .frames))) (sym (opposite a a′ d d′ (f .0))) (hr .0), hr .1) })
+joins-within c n q (receives a d fs) (sends a′ d′ w gs) e ne ho hr h =
+    let f = cond-some (eqb a a′ && Bool·beq d (not d′)) _ e h in
+    subst (Joined c) (f .1)
+    (record {
+      two = λ i. ne (sym i); sending = hr;
+      receiving = (subst (InReach (valuesOf (processAt c n .frames))) (facing (f .0)) (ho .0), ho .1) })
+  where
+    facing : T (eqb a a′ && Bool·beq d (not d′)) → end a d ≡ end a′ (not d′)
+    facing t =
+        ap (λ (i : ℕ). end i d) (eqb→eq a a′ (and-left (eqb a a′) (Bool·beq d (not d′)) t))
+        ∙ ap (λ (b : Bool). end a′ b) (beq-eq d (not d′) (and-right (eqb a a′) (Bool·beq d (not d′)) t))
+joins-within c n q (receives a d fs) (receives a′ d′ gs) e ne ho hr h = absurd (Option·none-ne-some e h)
+
+-- the partner's act is an offer
+meets-offer : (n q : ℕ) (o : Offer) (act : Act) (e : Meeting) → meetsWith n o q (offered act) ≡ some e
+    → (r : Offer) × (act ≡ offers r) × (joins n o q r ≡ some e)
+unfolding meetsWith offered
+meets-offer n q o idle e h = absurd (Option·none-ne-some e h)
+meets-offer n q o stuck e h = absurd (Option·none-ne-some e h)
+meets-offer n q o (faults f) e h = absurd (Option·none-ne-some e h)
+meets-offer n q o (goes fs es u) e h = absurd (Option·none-ne-some e h)
+meets-offer n q o ends e h = absurd (Option·none-ne-some e h)
+meets-offer n q o (makes t fs) e h = absurd (Option·none-ne-some e h)
+meets-offer n q o (forks m args fs) e h = absurd (Option·none-ne-some e h)
+meets-offer n q o (offers r) e h = (r, refl, h)
+
+meeting-joined : (p outcomes : List ℕ) (s : State) (n : ℕ) (o : Offer) (e : Meeting)
+    → OfferWithin (valuesOf (processAt (s .config) n .frames)) o → meetingOf p outcomes s n o ≡ some e → Joined (s .config) e
+unfolding meetingOf
+meeting-joined p outcomes s n o e ho h = found (firstSome-found _ (length (s .config .processes)) e h)
+  where
+    partner : (q : ℕ) → q ≢ n → meetsWith n o q (offered (actOf p outcomes s q)) ≡ some e → Joined (s .config) e
+    partner q ne m =
+        let w = meets-offer n q o (actOf p outcomes s q) e m in
+        joins-within (s .config) n q o (w .0) e (λ i. ne (sym i)) ho
+        (subst (ActWithin (valuesOf (processAt (s .config) q .frames)) (s .config .qubits) (s .config .channels)) (w .1) (act-within p outcomes s q))
+        (w .2)
+    tested : (q : ℕ) (b : Bool) → eqb q n ≡ b → cond b none (meetsWith n o q (offered (actOf p outcomes s q))) ≡ some e → Joined (s .config) e
+    tested q true i m = absurd (Option·none-ne-some e m)
+    tested q false i m = partner q (eqb-false q n i) m
+    found : (q : ℕ) × (q < length (s .config .processes)) × (cond (eqb q n) none (meetsWith n o q (offered (actOf p outcomes s q))) ≡ some e) → Joined (s .config) e
+    found w = tested (w .0) (eqb (w .0) n) refl (w .2)
+
+-- every entry
+
+-- some things moved to some process
+abbrev SomeMoved : State → Effect → Type 0
+SomeMoved s e = (q : ℕ) × (ts : List Thing) × Moved (s .config) (e .config) (s .lines) (e .lines) q ts
+
+quiet-stops : (ys : List Value) (f : ℕ) → Quiet ys (stops f)
+quiet-stops ys f = record {
+  notMade = (omega arith, omega arith); notGiven = omega arith; notMet = omega arith;
+  gate = λ e. absurd (omega arith); measurement = λ e. absurd (omega arith) }
+
+quiet-finishes : (ys : List Value) → Quiet ys finishes
+quiet-finishes ys = record {
+  notMade = (omega arith, omega arith); notGiven = omega arith; notMet = omega arith;
+  gate = λ e. absurd (omega arith); measurement = λ e. absurd (omega arith) }
+
+moved-met : (k : ℕ) (s : State) (o : Option Meeting) → Kept (s .config) (s .lines)
+    → ((e : Meeting) → o ≡ some e → Joined (s .config) e) → SomeMoved s (meetingIf k s o)
+unfolding meetingIf meeting
+moved-met k s none h j = (0, [], moved-nothing (s .config) (s .lines))
+moved-met k s (some e) h j =
+    let w = j e refl in
+    (e .receiver, thingsOf (e .value ∷ []),
+    moved-meeting (s .config) (s .lines) h k (e .sender) (e .receiver) (e .channel) (e .side) (e .value) (e .senderFrames) (e .receiverFrames)
+    (w .two) (w .sending) (w .receiving))
+
+applied-moved : (p outcomes : List ℕ) (k : ℕ) (s : State) (n : ℕ) → Kept (s .config) (s .lines) → (act : Act)
+    → ActWithin (valuesOf (processAt (s .config) n .frames)) (s .config .qubits) (s .config .channels) act
+    → SomeMoved s (applied p outcomes k s n act)
+unfolding applied forking
+applied-moved p outcomes k s n h idle w = (0, [], moved-nothing (s .config) (s .lines))
+applied-moved p outcomes k s n h stuck w = (0, [], moved-nothing (s .config) (s .lines))
+applied-moved p outcomes k s n h (faults f) w =
+    (n, [],
+    moved-within (s .config) (s .lines) h k n (record { status = stopped f; frames = processAt (s .config) n .frames }) (stops f ∷ [])
+    (frames-own (processAt (s .config) n .frames) (valuesOf (processAt (s .config) n .frames)) (λ t u. u))
+    (quiet-stops (valuesOf (processAt (s .config) n .frames)) f, tt))
+applied-moved p outcomes k s n h (goes fs es u) w =
+    (n, [], moved-within (s .config) (s .lines) h k n (runs fs) es (w .0) (w .1))
+applied-moved p outcomes k s n h ends w =
+    (n, [],
+    moved-within (s .config) (s .lines) h k n (record { status = finished; frames = [] }) (finishes ∷ []) tt
+    (quiet-finishes (valuesOf (processAt (s .config) n .frames)), tt))
+applied-moved p outcomes k s n h (makes t fs) w =
+    (n, t ∷ [], moved-making (s .config) (s .lines) h k n t fs (w .0) (w .1))
+applied-moved p outcomes k s n h (forks m args fs) w =
+    (length (s .config .processes), thingsOf args,
+    moved-forking (s .config) (s .lines) h k n p m args fs (length args) (w .0) (w .1))
+applied-moved p outcomes k s n h (offers o) w =
+    moved-met k s (meetingOf p outcomes s n o) h (λ e i. meeting-joined p outcomes s n o e w i)
+
+pub entry-kept : (p outcomes : List ℕ) (k : ℕ) (s : State) (n : ℕ) → Kept (s .config) (s .lines)
+    → Kept (effectOf p outcomes k s n .config) (s .lines ++ effectOf p outcomes k s n .lines)
+unfolding effectOf
+entry-kept p outcomes k s n h =
+    let w = applied-moved p outcomes k s n h (actOf p outcomes s n) (act-within p outcomes s n) in
+    moved-keeps (s .config) (effectOf p outcomes k s n .config) (s .lines) (effectOf p outcomes k s n .lines) (w .0) (w .1) (w .2) h
+
+-- the run
+
+start-kept : (p : List ℕ) → Kept (startConfig p) []
+unfolding startConfig processAt reaches
+start-kept p = record {
+  named = λ x n r. absurd (nothing-reached x n r);
+  made = λ x n r. absurd (nothing-reached x n r);
+  lawful = tt }
+  where
+    nothing-reached : (x : Thing) (n : ℕ) → T (reaches (processAt (startConfig p) n) x) → ⊥
+    nothing-reached x zero r = frames-reach [] (started p 0 [] ∷ []) (frame-started [] p 0 [] tt, tt) x r
+    nothing-reached x (suc n) r = frames-reach [] [] tt x r
+
+run-kept : (p outcomes : List ℕ) (room : ℕ) (s : State) (k : ℕ) (schedule : List ℕ) → Kept (s .config) (s .lines)
+    → Kept (runFrom p outcomes room s k schedule .state .config) (runFrom p outcomes room s k schedule .state .lines)
+unfolding runFrom afterEffect
+run-kept p outcomes room s k [] h =
+    cond-both Fine (allOver s) h (cond-both Fine (noneAble p outcomes s) h h)
+  where
+    Fine : Result → Type 0
+    Fine r = Kept (r .state .config) (r .state .lines)
+run-kept p outcomes room s k (n ∷ schedule) h =
+    cond-both Fine (allOver s) h
+    (cond-both Fine (noneAble p outcomes s) h
+    (cond-both Fine (fits room s (effectOf p outcomes k s n))
+    (run-kept p outcomes room (afterEffect s (effectOf p outcomes k s n)) (suc k) schedule (entry-kept p outcomes k s n h))
+    h))
+  where
+    Fine : Result → Type 0
+    Fine r = Kept (r .state .config) (r .state .lines)
+
+kept-owned : (c : Config) (ls : List Line) → Kept c ls → Owned c ls
+kept-owned c ls h = record {
+  alone = λ x m n r t. Option·some-injective m n (sym (h .named x m r) ∙ h .named x n t);
+  named = h .named;
+  lawful = line-at [] ls (h .lawful) }
+
+-- Demand 3: for every table, outcome list, schedule, room and k, what stands after the run on the schedule's first k
+-- entries is owned.
+pub ownership : (p outcomes : List ℕ) (room : ℕ) (schedule : List ℕ) (k : ℕ)
+    → Owned (run p outcomes room (take k schedule) .state .config) (run p outcomes room (take k schedule) .state .lines)
+unfolding run start
+ownership p outcomes room schedule k =
+    kept-owned _ _ (run-kept p outcomes room (start p) 0 (take k schedule) (start-kept p))
