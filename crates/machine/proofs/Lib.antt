@@ -6,3 +6,4 @@ pub mod Within
 pub mod Holder
 pub mod Giving
 pub mod Ownership
+pub mod Prefix

@@ -59,3 +59,14 @@ runFrom p outcomes room s k (n ∷ schedule) =
 
 unfoldable pub run : List ℕ → List ℕ → ℕ → List ℕ → Result
 run p outcomes room schedule = runFrom p outcomes room (start p) 0 schedule
+
+-- What stands after one more entry: the run goes on where it stopped for want of entries, and else stays as it ended.
+-- That a run on k + 1 entries is the run on k followed by the next is proved in proofs/Prefix.antt.
+unfoldable pub followed : List ℕ → List ℕ → ℕ → Result → ℕ → Result
+followed p outcomes room r n =
+    let e = effectOf p outcomes (r .entries) (r .state) n in
+    cond (eqb (r .end) 0)
+    (cond (fits room (r .state) e)
+    (runFrom p outcomes room (afterEffect (r .state) e) (suc (r .entries)) [])
+    (ended 3 (r .entries) (r .state)))
+    r
