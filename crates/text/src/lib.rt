@@ -1,0 +1,1 @@
+// What the printing program prints for a file. Only the definition is here so far.

@@ -1,0 +1,41 @@
+-- Traces read by themselves: any words are lines. "Six words make a line, and a part of one at the end is ignored."
+use Prim.Native.Nat.{ℕ}
+use mathlib.Core.Bool.{Bool, true, false, _&&_}
+use mathlib.Core.List.{List, [], _∷_}
+use mathlib.Core.Option.{Option·getD}
+use lib.ListN.{take}
+use lib.Dec.{eqb}
+use Rattle.machine.specs.Value.{qubit}
+use Rattle.machine.specs.State.{Line}
+use Rattle.machine.specs.Owner.{holder}
+
+unfoldable pub linesOf : List ℕ → List Line
+linesOf [] = []
+linesOf (e ∷ []) = []
+linesOf (e ∷ n ∷ []) = []
+linesOf (e ∷ n ∷ k ∷ []) = []
+linesOf (e ∷ n ∷ k ∷ a ∷ []) = []
+linesOf (e ∷ n ∷ k ∷ a ∷ b ∷ []) = []
+linesOf (e ∷ n ∷ k ∷ a ∷ b ∷ c ∷ ws) = record { entry = e; process = n; kind = k; a = a; b = b; c = c } ∷ linesOf ws
+
+-- "The look-up takes any words, k and a qubit number: among the first k lines (all, if fewer) the latest kind 1 line of
+-- that qubit answers its process, the latest kind 6 line with thing 3 and that number its a, whichever is later; 65535
+-- if there is neither." That is the qubit's holder by those lines.
+unfoldable pub lookUp : List ℕ → ℕ → ℕ → ℕ
+lookUp ws k q = Option·getD (holder (take k (linesOf ws)) (qubit q)) 65535
+
+-- two lines agree, column 0 left out
+unfoldable pub sameLine : Line → Line → Bool
+sameLine l m =
+    eqb (l .process) (m .process)
+    && (eqb (l .kind) (m .kind) && (eqb (l .a) (m .a) && (eqb (l .b) (m .b) && eqb (l .c) (m .c))))
+
+unfoldable pub sameAll : List Line → List Line → Bool
+sameAll [] [] = true
+sameAll [] (m ∷ ms) = false
+sameAll (l ∷ ls) [] = false
+sameAll (l ∷ ls) (m ∷ ms) = sameLine l m && sameAll ls ms
+
+-- "a yes or no on whether two traces have the same lines with column 0 left out"; "no where the numbers of lines differ"
+unfoldable pub sameLines : List ℕ → List ℕ → Bool
+sameLines xs ys = sameAll (linesOf xs) (linesOf ys)
