@@ -14,6 +14,9 @@ use Rattle.lists.proofs.Any.{All-map, All-implies, All-reverse}
 use Rattle.machine.specs.Value.{Thing, qubit, channel, end, Value, empty, int, bool, ref, inRange, word32, sideNo, sideOf}
 use Rattle.machine.specs.State.{Frame, Status, running, finished, stopped, Process, Config}
 use Rattle.machine.specs.Sound.{ValueSound, FrameSound, StatusSound, ProcessSound, ConfigSound}
+use Rattle.table.specs.Questions.{Accepted}
+use Rattle.machine.specs.Run.{run}
+use Rattle.machine.proofs.Sound.{sound}
 use Rattle.layout.specs.Layout.{padded, groups, valueWords, headWords, frameValues, statusWords, processWords, encode, signed32, tagged, valueFrom, frameFrom, statusFrom, processFrom, decode}
 use Rattle.layout.proofs.Groups.{padded-length, padded-drop, flatten-length, groups-padded, map-back, zip-back}
 
@@ -99,7 +102,8 @@ frame-back p c f h = λ i. record {
   method = f .method;
   place = f .place;
   slots = values-back c 32 16 (f .slots) (padded 16 (flatten (map valueWords (reverse (f .pending))))) (h .slots) (sym (h .width)) i;
-  pending = pending-back p c f h i }
+  pending = pending-back p c f h i;
+}
 
 -- processes
 
@@ -140,15 +144,23 @@ module _ (p : List ℕ) (c : Config) (pr : Process) (h : ProcessSound p c pr) wh
 
   heads-size : length (flatten (map headWords (reverse (pr .frames)))) ≤ 56
   heads-size =
-      omega
-      (arith, flatten-length 4 (map headWords (reverse (pr .frames))) (head-lengths (reverse (pr .frames))),
-      length-map (reverse (pr .frames)) headWords, length-reverse (pr .frames), h .depth)
+      omega (
+        arith,
+        flatten-length 4 (map headWords (reverse (pr .frames))) (head-lengths (reverse (pr .frames))),
+        length-map (reverse (pr .frames)) headWords,
+        length-reverse (pr .frames),
+        h .depth,
+      )
 
   values-fit : length (flatten (map frameValues (reverse (pr .frames)))) ≤ 448
   values-fit =
-      omega
-      (arith, flatten-length 48 (map frameValues (reverse (pr .frames))) frame-lengths, length-map (reverse (pr .frames)) frameValues,
-      length-reverse (pr .frames), h .depth)
+      omega (
+        arith,
+        flatten-length 48 (map frameValues (reverse (pr .frames))) frame-lengths,
+        length-map (reverse (pr .frames)) frameValues,
+        length-reverse (pr .frames),
+        h .depth,
+      )
 
   process-length : length (processWords pr) ≡ 512
   unfolding processWords
@@ -207,10 +219,11 @@ unfolding processFrom processWords
 process-back p c pr h = λ i. record {
   status = part-status (pr .status) (length (pr .frames)) (headsOf pr) (framesOf pr) i;
   frames =
-    (ap
-    (λ (n : ℕ). reverse (zipWith frameFrom (groups 4 n (drop 8 (processWords pr))) (groups 48 n (drop 64 (processWords pr)))))
-    (part-count (pr .status) (length (pr .frames)) (headsOf pr) (framesOf pr))
-    ∙ frames-back p c pr h) i }
+      (ap
+      (λ (n : ℕ). reverse (zipWith frameFrom (groups 4 n (drop 8 (processWords pr))) (groups 48 n (drop 64 (processWords pr)))))
+      (part-count (pr .status) (length (pr .frames)) (headsOf pr) (framesOf pr))
+      ∙ frames-back p c pr h) i;
+}
 
 -- the configuration
 
@@ -248,3 +261,9 @@ module _ (p : List ℕ) (c : Config) (h : ConfigSound p c) where
   pub decode-encode : decode (encode c) ≡ c
   unfolding decode encode padded
   decode-encode = λ i. record { processes = processes-back i; qubits = c .qubits; channels = c .channels }
+
+-- whatever configuration a run of an accepted table leaves, its 8,192 words give it back
+pub run-back : (p outcomes : List ℕ) (room : ℕ) (schedule : List ℕ) → Accepted p → All (λ o. o < 256) outcomes
+    → decode (encode (run p outcomes room schedule .state .config)) ≡ run p outcomes room schedule .state .config
+run-back p outcomes room schedule a b =
+    decode-encode p (run p outcomes room schedule .state .config) (sound p outcomes room schedule a b .config)

@@ -84,7 +84,8 @@ frameFrom head values = record {
   method = getD head 0 0;
   place = getD head 1 0;
   slots = map valueFrom (groups 2 16 values);
-  pending = reverse (map valueFrom (groups 2 (getD head 2 0) (drop 32 values))) }
+  pending = reverse (map valueFrom (groups 2 (getD head 2 0) (drop 32 values)));
+}
 
 unfoldable pub statusFrom : ℕ → ℕ → Status
 statusFrom status fault = cond (eqb status 1) running (cond (eqb status 3) (stopped fault) finished)
@@ -93,10 +94,12 @@ unfoldable pub processFrom : List ℕ → Process
 processFrom part = record {
   status = statusFrom (getD part 0 0) (getD part 1 0);
   frames =
-    reverse (zipWith frameFrom (groups 4 (getD part 2 0) (drop 8 part)) (groups 48 (getD part 2 0) (drop 64 part))) }
+      reverse (zipWith frameFrom (groups 4 (getD part 2 0) (drop 8 part)) (groups 48 (getD part 2 0) (drop 64 part)));
+}
 
 unfoldable pub decode : List ℕ → Config
 decode ws = record {
   processes = map processFrom (groups 512 (getD ws 0 0) (drop 512 ws));
   qubits = getD ws 1 0;
-  channels = getD ws 2 0 }
+  channels = getD ws 2 0;
+}

@@ -1,2 +1,5 @@
 pub mod Tests
+pub mod Laws
 pub mod Any
+pub mod First
+pub mod Each

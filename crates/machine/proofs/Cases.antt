@@ -28,7 +28,8 @@ cases = record {
   p10 = refl;
   p10-line = refl;
   p11 = refl;
-  p12 = refl }
+  p12 = refl;
+}
 
 -- A run of 8,000 entries computes: silent entries, and none of them idle.
 pub long-run : answer silentLoop (replicate 8000 0) [] ≡ ran 0 8000 0 0

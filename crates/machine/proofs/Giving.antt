@@ -110,9 +110,10 @@ child-reach p m args x r =
 top-within : (ys : List Value) (v : Value) (fs : List Frame) → FramesWithin ys fs → FramesWithin (v ∷ ys) (pushTop v fs)
 unfolding pushTop
 top-within ys v [] h = tt
-top-within ys v (f ∷ fs) h =
-    (frame-push (v ∷ ys) v f (λ x u. or-left (names x v) (any (names x) ys) u) (frame-more ys v f (h .0)),
-    frames-more ys v fs (h .1))
+top-within ys v (f ∷ fs) h = (
+  frame-push (v ∷ ys) v f (λ x u. or-left (names x v) (any (names x) ys) u) (frame-more ys v f (h .0)),
+  frames-more ys v fs (h .1),
+)
 
 pub receiver-reach : (ys : List Value) (v : Value) (fs : List Frame) → FramesWithin ys fs → (x : Thing)
     → InReach (valuesOf (pushTop v fs)) x → T (covered (thingsOf (v ∷ [])) x) ⊎ InReach ys x
@@ -160,10 +161,13 @@ reach-set c n pr m x r = ⊎-elim (λ e. inl (same (eqb-true m n e))) (λ e. inr
   where
     other : m ≢ n → (m ≢ n) × T (reaches (processAt c m) x)
     other ne = (ne, subst (λ (q : Process). T (reaches q x)) (process-other c n m pr ne) r)
+
     here : m ≡ n → T (reaches (processAt (setProcess c n pr) n) x)
     here e = subst (λ (k : ℕ). T (reaches (processAt (setProcess c n pr) k) x)) e r
+
     made : m ≡ n → n < length (c .processes)
     made e = subst (λ (l : ℕ). n < l) (count-set c n pr) (reach-made (setProcess c n pr) n x (here e))
+
     same : m ≡ n → (m ≡ n) × T (reaches pr x)
     same e = (e, subst (λ (q : Process). T (reaches q x)) (process-same c n pr (made e)) (here e))
 
@@ -188,5 +192,6 @@ reach-joined c pr m x r =
   where
     old : m < length (c .processes) → T (reaches (processAt c m) x)
     old h = subst (λ (q : Process). T (reaches q x)) (joined-old c pr m h) r
+
     new : m ≡ length (c .processes) → (m ≡ length (c .processes)) × T (reaches pr x)
     new e = (e, subst (λ (q : Process). T (reaches q x)) (ap (processAt (joined c pr)) e ∙ joined-new c pr) r)

@@ -85,10 +85,11 @@ LinesHeld above (l ∷ ls) = LineHeld above l × LinesHeld (above ++ (l ∷ []))
 
 pub lines-append : (above xs ys : List Line) → LinesHeld above xs → LinesHeld (above ++ xs) ys → LinesHeld above (xs ++ ys)
 lines-append above [] ys a b = subst (λ (ls : List Line). LinesHeld ls ys) (append-nil above) b
-lines-append above (x ∷ xs) ys a b =
-    (a .0,
-    lines-append (above ++ (x ∷ [])) xs ys (a .1)
-    (subst (λ (ls : List Line). LinesHeld ls ys) (sym (append-assoc above (x ∷ []) xs)) b))
+lines-append above (x ∷ xs) ys a b = (
+  a .0,
+  lines-append (above ++ (x ∷ [])) xs ys (a .1)
+      (subst (λ (ls : List Line). LinesHeld ls ys) (sym (append-assoc above (x ∷ []) xs)) b),
+)
 
 pub line-at : (above ls : List Line) → LinesHeld above ls → (i : ℕ) → i < length ls
     → LineHeld (above ++ take i ls) (getD ls i noLine)
@@ -106,23 +107,26 @@ line-free above l a b c = record { gate = λ e. absurd (a e); measurement = λ e
 pub lines-quiet : (ys : List Value) (above : List Line) (k n : ℕ) (es : List Event)
     → ((x : Thing) → InReach ys x → Holds above n x) → All (Quiet ys) es → LinesHeld above (map (lineOf k n) es)
 lines-quiet ys above k n [] held a = tt
-lines-quiet ys above k n (e ∷ es) held a =
-    (record {
-      gate = λ i. record { first = held (qubit (e .b)) (a .0 .gate i .0); second = λ j. held (qubit (e .c)) (a .0 .gate i .1 j) };
-      measurement = λ i. held (qubit (e .a)) (a .0 .measurement i);
-      meeting = λ i. absurd (a .0 .notMet i) },
-    lines-quiet ys (above ++ (lineOf k n e ∷ [])) k n es
-    (λ x r. holder-append above (lineOf k n e ∷ []) x
-    ∙ holder-kept x (holder above x) (lineOf k n e) (a .0 .notMade .0) (a .0 .notMade .1) (a .0 .notGiven)
-    ∙ held x r)
-    (a .1))
+lines-quiet ys above k n (e ∷ es) held a = (
+  record {
+    gate = λ i. record { first = held (qubit (e .b)) (a .0 .gate i .0); second = λ j. held (qubit (e .c)) (a .0 .gate i .1 j) };
+    measurement = λ i. held (qubit (e .a)) (a .0 .measurement i);
+    meeting = λ i. absurd (a .0 .notMet i);
+  },
+  lines-quiet ys (above ++ (lineOf k n e ∷ [])) k n es
+      (λ x r. holder-append above (lineOf k n e ∷ []) x
+      ∙ holder-kept x (holder above x) (lineOf k n e) (a .0 .notMade .0) (a .0 .notMade .1) (a .0 .notGiven)
+      ∙ held x r)
+      (a .1),
+)
 
 -- the lines of givings, and of what follows a meeting's line, ask for nothing
 pub lines-given : (above : List Line) (k n q : ℕ) (ts : List Thing) → LinesHeld above (map (lineOf k n) (map (gave q) ts))
 lines-given above k n q [] = tt
-lines-given above k n q (t ∷ ts) =
-    (line-free above (lineOf k n (gave q t)) (omega arith) (omega arith) (omega arith),
-    lines-given (above ++ (lineOf k n (gave q t) ∷ [])) k n q ts)
+lines-given above k n q (t ∷ ts) = (
+  line-free above (lineOf k n (gave q t)) (omega arith) (omega arith) (omega arith),
+  lines-given (above ++ (lineOf k n (gave q t) ∷ [])) k n q ts,
+)
 
 pub lines-handing : (above : List Line) (k n q : ℕ) (v : Value) → LinesHeld above (map (lineOf k n) (handing q v))
 unfolding handing

@@ -7,3 +7,10 @@ pub mod Holder
 pub mod Giving
 pub mod Ownership
 pub mod Prefix
+pub mod Typing
+pub mod Acts
+pub mod Taken
+pub mod Doings
+pub mod Standing
+pub mod Effects
+pub mod Sound

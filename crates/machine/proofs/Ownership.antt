@@ -61,10 +61,12 @@ moved-keeps : (c c′ : Config) (ls new : List Line) (q : ℕ) (ts : List Thing)
 moved-keeps c c′ ls new q ts v h = record {
   named = λ x n r. v .holders x ∙ ⊎-elim (given x n) (stayed x n) (v .reach n x r);
   made = λ x n r. ⊎-elim (λ g. v .fresh x (g .1)) (λ o. v .still x (h .made x n (o .0))) (v .reach n x r);
-  lawful = lines-append [] ls new (h .lawful) (v .lines) }
+  lawful = lines-append [] ls new (h .lawful) (v .lines);
+}
   where
     given : (x : Thing) (n : ℕ) → (n ≡ q) × T (covered ts x) → cond (covered ts x) (some q) (holder ls x) ≡ some n
     given x n g = choice-true (covered ts x) (holder ls x) (some q) (g .1) ∙ ap {B = Option ℕ} some (sym (g .0))
+
     stayed : (x : Thing) (n : ℕ) → T (reaches (processAt c n) x) × ((n ≡ q) ⊎ (T (covered ts x) → ⊥))
         → cond (covered ts x) (some q) (holder ls x) ≡ some n
     stayed x n o =
@@ -93,7 +95,8 @@ moved-nothing c ls = record {
   still = λ x h. h;
   fresh = λ x b. absurd b;
   holders = λ x. holder-append ls [] x;
-  lines = tt }
+  lines = tt;
+}
 
 module _ (c : Config) (ls : List Line) (h : Kept c ls) (k n : ℕ) where
   -- the values of process n
@@ -105,16 +108,18 @@ module _ (c : Config) (ls : List Line) (h : Kept c ls) (k n : ℕ) where
   unfolding reaches
   moved-within pr es w q = record {
     reach = λ m x r.
-      inr
-      (⊎-elim
-      (λ g. subst (λ (i : ℕ). T (reaches (processAt c i) x)) (sym (g .0)) (frames-reach own (pr .frames) w x (g .1)))
-      (λ g. g .1)
-      (reach-set c n pr m x r),
-      inr (λ b. b));
+        inr (
+          ⊎-elim
+              (λ g. subst (λ (i : ℕ). T (reaches (processAt c i) x)) (sym (g .0)) (frames-reach own (pr .frames) w x (g .1)))
+              (λ g. g .1)
+              (reach-set c n pr m x r),
+          inr (λ b. b),
+        );
     still = still-set c n pr;
     fresh = λ x b. absurd b;
     holders = λ x. holder-append ls (map (lineOf k n) es) x ∙ holder-quiet own x k n es (holder ls x) q;
-    lines = lines-quiet own ls k n es (λ x r. h .named x n r) q }
+    lines = lines-quiet own ls k n es (λ x r. h .named x n r) q;
+  }
 
   -- making a qubit or a channel
 
@@ -180,21 +185,22 @@ module _ (c : Config) (ls : List Line) (h : Kept c ls) (k n : ℕ) where
   unfolding reaches names
   moved-making t fs e w = record {
     reach = λ m x r.
-      ⊎-elim
-      (λ g.
-      ⊎-elim (λ u. inl (g .0, or-left (covers t x) false u))
-      (λ u. inr (subst (λ (i : ℕ). T (reaches (processAt c i) x)) (sym (g .0)) u, inl (g .0)))
-      (or-cases (covers t x) (any (names x) own) (frames-reach (ref t ∷ own) fs w x (g .1))))
-      (λ g. inr (g .1, inr (λ b. next-apart t x e (h .made x m (g .1)) (one-covered t x b))))
-      (reach-set c n (runs fs) m x
-      (subst (λ (pr : Process). T (reaches pr x)) (counted-process t (setProcess c n (runs fs)) m) r));
+        ⊎-elim
+        (λ g.
+        ⊎-elim (λ u. inl (g .0, or-left (covers t x) false u))
+        (λ u. inr (subst (λ (i : ℕ). T (reaches (processAt c i) x)) (sym (g .0)) u, inl (g .0)))
+        (or-cases (covers t x) (any (names x) own) (frames-reach (ref t ∷ own) fs w x (g .1))))
+        (λ g. inr (g .1, inr (λ b. next-apart t x e (h .made x m (g .1)) (one-covered t x b))))
+        (reach-set c n (runs fs) m x
+        (subst (λ (pr : Process). T (reaches pr x)) (counted-process t (setProcess c n (runs fs)) m) r));
     still = counted-still t (runs fs);
     fresh = λ x b. counted-fresh t (runs fs) x e (one-covered t x b);
     holders = λ x.
-      holder-append ls (lineOf k n (making t) ∷ []) x
-      ∙ holder-making x (holder ls x) k n t (next-no-end t e)
-      ∙ ap (λ (b : Bool). cond b (some n) (holder ls x)) (or-false (covers t x));
-    lines = (line-making t, tt) }
+        holder-append ls (lineOf k n (making t) ∷ []) x
+        ∙ holder-making x (holder ls x) k n t (next-no-end t e)
+        ∙ ap (λ (b : Bool). cond b (some n) (holder ls x)) (or-false (covers t x));
+    lines = (line-making t, tt);
+  }
 
   -- giving: what the giver keeps is not covered, and what others reach is not either
 
@@ -226,25 +232,29 @@ module _ (c : Config) (ls : List Line) (h : Kept c ls) (k n : ℕ) where
   unfolding reaches
   moved-forking p m args fs params ha hf = record {
     reach = λ i x r.
-      ⊎-elim
-      (λ g. inl (g .0 ∙ count-set c n (runs (framesWithout ts fs)), child-reach p m args x (g .1)))
-      (λ g. let l = reach-giver ts fs (things-within own args ha) hf i x g in inr (l .0, inr (l .1)))
-      (reach-joined (setProcess c n (runs (framesWithout ts fs))) (runs (started p m args ∷ [])) i x r);
+        ⊎-elim
+        (λ g. inl (g .0 ∙ count-set c n (runs (framesWithout ts fs)), child-reach p m args x (g .1)))
+        (λ g. let l = reach-giver ts fs (things-within own args ha) hf i x g in inr (l .0, inr (l .1)))
+        (reach-joined (setProcess c n (runs (framesWithout ts fs))) (runs (started p m args ∷ [])) i x r);
     still = still;
     fresh = λ x b. still x (given-made ts (things-within own args ha) x b);
     holders = λ x.
-      holder-append ls (map (lineOf k n) (forked child m params ∷ map (gave child) ts)) x
-      ∙ ap (λ (g : Option ℕ). foldl (holderAfter x) g (map (lineOf k n) (map (gave child) ts)))
-      (holder-kept x (holder ls x) (lineOf k n (forked child m params)) (omega arith) (omega arith) (omega arith))
-      ∙ holder-given x k n child ts (holder ls x);
-    lines =
-      (line-free ls (lineOf k n (forked child m params)) (omega arith) (omega arith) (omega arith),
-      lines-given (ls ++ (lineOf k n (forked child m params) ∷ [])) k n child ts) }
+        holder-append ls (map (lineOf k n) (forked child m params ∷ map (gave child) ts)) x
+        ∙ ap (λ (g : Option ℕ). foldl (holderAfter x) g (map (lineOf k n) (map (gave child) ts)))
+        (holder-kept x (holder ls x) (lineOf k n (forked child m params)) (omega arith) (omega arith) (omega arith))
+        ∙ holder-given x k n child ts (holder ls x);
+    lines = (
+      line-free ls (lineOf k n (forked child m params)) (omega arith) (omega arith) (omega arith),
+      lines-given (ls ++ (lineOf k n (forked child m params) ∷ [])) k n child ts,
+    );
+  }
     where
       ts : List Thing
       ts = thingsOf args
+
       child : ℕ
       child = length (c .processes)
+
       still : (x : Thing) → Made c x → Made (joined (setProcess c n (runs (framesWithout ts fs))) (runs (started p m args ∷ []))) x
       still x e =
           still-joined (setProcess c n (runs (framesWithout ts fs))) (runs (started p m args ∷ [])) x
@@ -257,7 +267,8 @@ module _ (c : Config) (ls : List Line) (h : Kept c ls) (k n : ℕ) where
   line-met q ch d ne hs hr = record {
     gate = λ e. absurd (omega arith);
     measurement = λ e. absurd (omega arith);
-    meeting = λ e. held d hs hr }
+    meeting = λ e. held d hs hr;
+  }
     where
       held : (d : Bool) → Holds ls n (end ch d) → Holds ls q (end ch (not d)) → MeetingHeld ls (lineOf k n (met q ch d))
       held true hs hr = record { two = ne; sender = hs; receiver = hr }
@@ -272,28 +283,32 @@ module _ (c : Config) (ls : List Line) (h : Kept c ls) (k n : ℕ) where
   unfolding reaches
   moved-meeting q ch d v fs gs ne hs hr = record {
     reach = λ m x r.
-      ⊎-elim
-      (λ g.
-      ⊎-elim (λ u. inl (g .0, u))
-      (λ u. inr (subst (λ (i : ℕ). T (reaches (processAt c i) x)) (sym (g .0)) u, inl (g .0)))
-      (receiver-reach (valuesOf (processAt c q .frames)) v gs (hr .1) x (g .1)))
-      (λ g. let l = reach-giver ts fs (things-within own (v ∷ []) (hs .1, tt)) (hs .2) m x (g .1) in inr (l .0, inr (l .1)))
-      (reach-set c₁ q (runs (pushTop v gs)) m x r);
+        ⊎-elim
+        (λ g.
+        ⊎-elim (λ u. inl (g .0, u))
+        (λ u. inr (subst (λ (i : ℕ). T (reaches (processAt c i) x)) (sym (g .0)) u, inl (g .0)))
+        (receiver-reach (valuesOf (processAt c q .frames)) v gs (hr .1) x (g .1)))
+        (λ g. let l = reach-giver ts fs (things-within own (v ∷ []) (hs .1, tt)) (hs .2) m x (g .1) in inr (l .0, inr (l .1)))
+        (reach-set c₁ q (runs (pushTop v gs)) m x r);
     still = still;
     fresh = λ x b. still x (given-made ts (things-within own (v ∷ []) (hs .1, tt)) x b);
     holders = λ x.
-      holder-append ls (map (lineOf k n) (met q ch d ∷ handing q v)) x
-      ∙ ap (λ (g : Option ℕ). foldl (holderAfter x) g (map (lineOf k n) (handing q v)))
-      (holder-kept x (holder ls x) (lineOf k n (met q ch d)) (omega arith) (omega arith) (omega arith))
-      ∙ holder-handing x k n q v (holder ls x);
-    lines =
-      (line-met q ch d ne (h .named (end ch d) n (hs .0)) (h .named (end ch (not d)) q (hr .0)),
-      lines-handing (ls ++ (lineOf k n (met q ch d) ∷ [])) k n q v) }
+        holder-append ls (map (lineOf k n) (met q ch d ∷ handing q v)) x
+        ∙ ap (λ (g : Option ℕ). foldl (holderAfter x) g (map (lineOf k n) (handing q v)))
+        (holder-kept x (holder ls x) (lineOf k n (met q ch d)) (omega arith) (omega arith) (omega arith))
+        ∙ holder-handing x k n q v (holder ls x);
+    lines = (
+      line-met q ch d ne (h .named (end ch d) n (hs .0)) (h .named (end ch (not d)) q (hr .0)),
+      lines-handing (ls ++ (lineOf k n (met q ch d) ∷ [])) k n q v,
+    );
+  }
     where
       ts : List Thing
       ts = thingsOf (v ∷ [])
+
       c₁ : Config
       c₁ = setProcess c n (runs (framesWithout ts fs))
+
       still : (x : Thing) → Made c x → Made (setProcess c₁ q (runs (pushTop v gs))) x
       still x e = still-set c₁ q (runs (pushTop v gs)) x (still-set c n (runs (framesWithout ts fs)) x e)
 
@@ -328,14 +343,18 @@ joins-within c n q (sends a d v fs) (receives a′ d′ gs) e ne ho hr h =
     let f = cond-some (eqb a a′ && Bool·beq d (not d′)) _ e h in
     subst (Joined c) (f .1)
     (record {
-      two = ne; sending = ho;
-      receiving = (subst (InReach (valuesOf (processAt c q .frames))) (sym (opposite a a′ d d′ (f .0))) (hr .0), hr .1) })
+      two = ne;
+      sending = ho;
+      receiving = (subst (InReach (valuesOf (processAt c q .frames))) (sym (opposite a a′ d d′ (f .0))) (hr .0), hr .1);
+    })
 joins-within c n q (receives a d fs) (sends a′ d′ w gs) e ne ho hr h =
     let f = cond-some (eqb a a′ && Bool·beq d (not d′)) _ e h in
     subst (Joined c) (f .1)
     (record {
-      two = λ i. ne (sym i); sending = hr;
-      receiving = (subst (InReach (valuesOf (processAt c n .frames))) (facing (f .0)) (ho .0), ho .1) })
+      two = λ i. ne (sym i);
+      sending = hr;
+      receiving = (subst (InReach (valuesOf (processAt c n .frames))) (facing (f .0)) (ho .0), ho .1);
+    })
   where
     facing : T (eqb a a′ && Bool·beq d (not d′)) → end a d ≡ end a′ (not d′)
     facing t =
@@ -367,9 +386,11 @@ meeting-joined p outcomes s n o e ho h = found (firstSome-found _ (length (s .co
         joins-within (s .config) n q o (w .0) e (λ i. ne (sym i)) ho
         (subst (ActWithin (valuesOf (processAt (s .config) q .frames)) (s .config .qubits) (s .config .channels)) (w .1) (act-within p outcomes s q))
         (w .2)
+
     tested : (q : ℕ) (b : Bool) → eqb q n ≡ b → cond b none (meetsWith n o q (offered (actOf p outcomes s q))) ≡ some e → Joined (s .config) e
     tested q true i m = absurd (Option·none-ne-some e m)
     tested q false i m = partner q (eqb-false q n i) m
+
     found : (q : ℕ) × (q < length (s .config .processes)) × (cond (eqb q n) none (meetsWith n o q (offered (actOf p outcomes s q))) ≡ some e) → Joined (s .config) e
     found w = tested (w .0) (eqb (w .0) n) refl (w .2)
 
@@ -381,23 +402,33 @@ SomeMoved s e = (q : ℕ) × (ts : List Thing) × Moved (s .config) (e .config) 
 
 quiet-stops : (ys : List Value) (f : ℕ) → Quiet ys (stops f)
 quiet-stops ys f = record {
-  notMade = (omega arith, omega arith); notGiven = omega arith; notMet = omega arith;
-  gate = λ e. absurd (omega arith); measurement = λ e. absurd (omega arith) }
+  notMade = (omega arith, omega arith);
+  notGiven = omega arith;
+  notMet = omega arith;
+  gate = λ e. absurd (omega arith);
+  measurement = λ e. absurd (omega arith);
+}
 
 quiet-finishes : (ys : List Value) → Quiet ys finishes
 quiet-finishes ys = record {
-  notMade = (omega arith, omega arith); notGiven = omega arith; notMet = omega arith;
-  gate = λ e. absurd (omega arith); measurement = λ e. absurd (omega arith) }
+  notMade = (omega arith, omega arith);
+  notGiven = omega arith;
+  notMet = omega arith;
+  gate = λ e. absurd (omega arith);
+  measurement = λ e. absurd (omega arith);
+}
 
 moved-met : (k : ℕ) (s : State) (o : Option Meeting) → Kept (s .config) (s .lines)
     → ((e : Meeting) → o ≡ some e → Joined (s .config) e) → SomeMoved s (meetingIf k s o)
 unfolding meetingIf meeting
 moved-met k s none h j = (0, [], moved-nothing (s .config) (s .lines))
 moved-met k s (some e) h j =
-    let w = j e refl in
-    (e .receiver, thingsOf (e .value ∷ []),
-    moved-meeting (s .config) (s .lines) h k (e .sender) (e .receiver) (e .channel) (e .side) (e .value) (e .senderFrames) (e .receiverFrames)
-    (w .two) (w .sending) (w .receiving))
+    let w = j e refl in (
+      e .receiver,
+      thingsOf (e .value ∷ []),
+      moved-meeting (s .config) (s .lines) h k (e .sender) (e .receiver) (e .channel) (e .side) (e .value) (e .senderFrames) (e .receiverFrames)
+          (w .two) (w .sending) (w .receiving),
+    )
 
 applied-moved : (p outcomes : List ℕ) (k : ℕ) (s : State) (n : ℕ) → Kept (s .config) (s .lines) → (act : Act)
     → ActWithin (valuesOf (processAt (s .config) n .frames)) (s .config .qubits) (s .config .channels) act
@@ -405,22 +436,28 @@ applied-moved : (p outcomes : List ℕ) (k : ℕ) (s : State) (n : ℕ) → Kept
 unfolding applied forking
 applied-moved p outcomes k s n h idle w = (0, [], moved-nothing (s .config) (s .lines))
 applied-moved p outcomes k s n h stuck w = (0, [], moved-nothing (s .config) (s .lines))
-applied-moved p outcomes k s n h (faults f) w =
-    (n, [],
-    moved-within (s .config) (s .lines) h k n (record { status = stopped f; frames = processAt (s .config) n .frames }) (stops f ∷ [])
-    (frames-own (processAt (s .config) n .frames) (valuesOf (processAt (s .config) n .frames)) (λ t u. u))
-    (quiet-stops (valuesOf (processAt (s .config) n .frames)) f, tt))
+applied-moved p outcomes k s n h (faults f) w = (
+  n,
+  [],
+  moved-within (s .config) (s .lines) h k n (record { status = stopped f; frames = processAt (s .config) n .frames }) (stops f ∷ [])
+      (frames-own (processAt (s .config) n .frames) (valuesOf (processAt (s .config) n .frames)) (λ t u. u))
+      (quiet-stops (valuesOf (processAt (s .config) n .frames)) f, tt),
+)
 applied-moved p outcomes k s n h (goes fs es u) w =
     (n, [], moved-within (s .config) (s .lines) h k n (runs fs) es (w .0) (w .1))
-applied-moved p outcomes k s n h ends w =
-    (n, [],
-    moved-within (s .config) (s .lines) h k n (record { status = finished; frames = [] }) (finishes ∷ []) tt
-    (quiet-finishes (valuesOf (processAt (s .config) n .frames)), tt))
+applied-moved p outcomes k s n h ends w = (
+  n,
+  [],
+  moved-within (s .config) (s .lines) h k n (record { status = finished; frames = [] }) (finishes ∷ []) tt
+      (quiet-finishes (valuesOf (processAt (s .config) n .frames)), tt),
+)
 applied-moved p outcomes k s n h (makes t fs) w =
     (n, t ∷ [], moved-making (s .config) (s .lines) h k n t fs (w .0) (w .1))
-applied-moved p outcomes k s n h (forks m args fs) w =
-    (length (s .config .processes), thingsOf args,
-    moved-forking (s .config) (s .lines) h k n p m args fs (length args) (w .0) (w .1))
+applied-moved p outcomes k s n h (forks m args fs) w = (
+  length (s .config .processes),
+  thingsOf args,
+  moved-forking (s .config) (s .lines) h k n p m args fs (length args) (w .0) (w .1),
+)
 applied-moved p outcomes k s n h (offers o) w =
     moved-met k s (meetingOf p outcomes s n o) h (λ e i. meeting-joined p outcomes s n o e w i)
 
@@ -438,7 +475,8 @@ unfolding startConfig processAt reaches
 start-kept p = record {
   named = λ x n r. absurd (nothing-reached x n r);
   made = λ x n r. absurd (nothing-reached x n r);
-  lawful = tt }
+  lawful = tt;
+}
   where
     nothing-reached : (x : Thing) (n : ℕ) → T (reaches (processAt (startConfig p) n) x) → ⊥
     nothing-reached x zero r = frames-reach [] (started p 0 [] ∷ []) (frame-started [] p 0 [] tt, tt) x r
@@ -466,7 +504,8 @@ kept-owned : (c : Config) (ls : List Line) → Kept c ls → Owned c ls
 kept-owned c ls h = record {
   alone = λ x m n r t. Option·some-injective m n (sym (h .named x m r) ∙ h .named x n t);
   named = h .named;
-  lawful = line-at [] ls (h .lawful) }
+  lawful = line-at [] ls (h .lawful);
+}
 
 -- Demand 3: for every table, outcome list, schedule, room and k, what stands after the run on the schedule's first k
 -- entries is owned.

@@ -105,7 +105,8 @@ within-more ys v w h t u = or-right (names t w) (any (names t) ys) (h t u)
 pub frame-more : (ys : List Value) (w : Value) (f : Frame) → FrameWithin ys f → FrameWithin (w ∷ ys) f
 frame-more ys w f h = record {
   slots = All-implies (Within ys) (Within (w ∷ ys)) (λ v. within-more ys v w) (f .slots) (h .slots);
-  pending = All-implies (Within ys) (Within (w ∷ ys)) (λ v. within-more ys v w) (f .pending) (h .pending) }
+  pending = All-implies (Within ys) (Within (w ∷ ys)) (λ v. within-more ys v w) (f .pending) (h .pending);
+}
 
 pub frames-more : (ys : List Value) (w : Value) (fs : List Frame) → FramesWithin ys fs → FramesWithin (w ∷ ys) fs
 frames-more ys w fs = All-implies (FrameWithin ys) (FrameWithin (w ∷ ys)) (frame-more ys w) fs
@@ -119,27 +120,40 @@ pub frame-started : (ys : List Value) (p : List ℕ) (m : ℕ) (args : List Valu
 unfolding started
 frame-started ys p m args h = record {
   slots =
-    All-take (Within ys) 16 (args ++ replicate 16 empty)
-    (All-append (Within ys) args (replicate 16 empty) h (All-replicate (Within ys) 16 empty (within-empty ys)));
-  pending = tt }
+      All-take (Within ys) 16 (args ++ replicate 16 empty)
+      (All-append (Within ys) args (replicate 16 empty) h (All-replicate (Within ys) 16 empty (within-empty ys)));
+  pending = tt;
+}
 
 -- events
 
 gate-one : (ys : List Value) (g q : ℕ) → g ≤ 5 → InReach ys (qubit q) → Quiet ys (gatedOne g q)
 gate-one ys g q small h = record {
-  notMade = (omega arith, omega arith); notGiven = omega arith; notMet = omega arith;
-  gate = λ e. (h, λ big. absurd (omega arith)); measurement = λ e. absurd (omega arith) }
+  notMade = (omega arith, omega arith);
+  notGiven = omega arith;
+  notMet = omega arith;
+  gate = λ e. (h, λ big. absurd (omega arith));
+  measurement = λ e. absurd (omega arith);
+}
 
 gate-two : (ys : List Value) (g deeper q : ℕ) → InReach ys (qubit deeper) → InReach ys (qubit q)
     → Quiet ys (gatedTwo g deeper q)
 gate-two ys g deeper q h k = record {
-  notMade = (omega arith, omega arith); notGiven = omega arith; notMet = omega arith;
-  gate = λ e. (h, λ big. k); measurement = λ e. absurd (omega arith) }
+  notMade = (omega arith, omega arith);
+  notGiven = omega arith;
+  notMet = omega arith;
+  gate = λ e. (h, λ big. k);
+  measurement = λ e. absurd (omega arith);
+}
 
 measure : (ys : List Value) (q o : ℕ) → InReach ys (qubit q) → Quiet ys (measured q o)
 measure ys q o h = record {
-  notMade = (omega arith, omega arith); notGiven = omega arith; notMet = omega arith;
-  gate = λ e. absurd (omega arith); measurement = λ e. h }
+  notMade = (omega arith, omega arith);
+  notGiven = omega arith;
+  notMet = omega arith;
+  gate = λ e. absurd (omega arith);
+  measurement = λ e. h;
+}
 
 -- ops
 
@@ -167,7 +181,8 @@ module _ (ys : List Value) (a : At) (h : SceneWithin ys a) where
   fine-slot : (v : Value) → Within ys v → FrameWithin ys (withSlot (a .argument) v (a .frame))
   fine-slot v w = record {
     slots = All-set (Within ys) (a .frame .slots) (a .argument) v (h .frame .slots) w;
-    pending = h .frame .pending }
+    pending = h .frame .pending;
+  }
 
   fine-jump : Fine (jump a)
   fine-jump = fine-onward (atPlace (offsetOf (a .program) (a .frame .method) + a .argument) (a .frame))
@@ -177,11 +192,14 @@ module _ (ys : List Value) (a : At) (h : SceneWithin ys a) where
   fine-event f e u w q = ((w, h .callers), (q, tt))
 
   fine-make : (t : Thing) → Next (a .qubits) (a .channels) t → Fine (makes t (push (ref t) (a .frame) ∷ a .callers))
-  fine-make t n =
-      (n,
-      (frame-push (ref t ∷ ys) (ref t) (a .frame) (λ x u. or-left (names x (ref t)) (any (names x) ys) u)
-      (frame-more ys (ref t) (a .frame) (h .frame)),
-      frames-more ys (ref t) (a .callers) (h .callers)))
+  fine-make t n = (
+    n,
+    (
+      frame-push (ref t ∷ ys) (ref t) (a .frame) (λ x u. or-left (names x (ref t)) (any (names x) ys) u)
+          (frame-more ys (ref t) (a .frame) (h .frame)),
+      frames-more ys (ref t) (a .callers) (h .callers),
+    ),
+  )
 
   fine-two-ints : (k : ℤ → ℤ → Act) → ((x y : ℤ) → Fine (k x y)) → Fine (twoInts a k)
   fine-two-ints k f = on-int Fine tt (operand a 1) (λ x. asInt (operand a 0) (λ y. k x y))
@@ -273,10 +291,13 @@ keeps-meas ys a h =
 keeps-call : Keeps doCall
 unfolding doCall
 keeps-call ys a h =
-    cond-both (Fine ys a h) (ltb (suc (length (a .callers))) 8)
-    ((frame-started ys (a .program) (a .argument) (reverse (a .operands)) (All-reverse (Within ys) (a .operands) (h .operands)),
-    (h .frame, h .callers)),
-    tt)
+    cond-both (Fine ys a h) (ltb (suc (length (a .callers))) 8) (
+      (
+        frame-started ys (a .program) (a .argument) (reverse (a .operands)) (All-reverse (Within ys) (a .operands) (h .operands)),
+        (h .frame, h .callers),
+      ),
+      tt,
+    )
     tt
 
 keeps-return : (ys : List Value) (qs cs : ℕ) (vs : List Value) (fs : List Frame) → All (Within ys) vs → FramesWithin ys fs
@@ -341,31 +362,85 @@ keeps-not ys a h =
 -- every op
 keeps : All Keeps doings
 unfolding doings
-keeps =
-    (keeps-nothing,
-    (keeps-int, (keeps-bool, (keeps-get, (keeps-put, (keeps-drop, (keeps-clear,
-    (keeps-newq, (keeps-newc, (keeps-end, (keeps-gate, (keeps-meas,
-    (keeps-call, (keeps-ret, (keeps-fork, (keeps-send, (keeps-recv,
-    (keeps-jump, (keeps-jfalse,
-    (keeps-add, (keeps-sub, (keeps-eq, (keeps-less, (keeps-not, tt))))))))))))))))))))))))
+keeps = (
+  keeps-nothing,
+  (
+    keeps-int,
+    (
+      keeps-bool,
+      (
+        keeps-get,
+        (
+          keeps-put,
+          (
+            keeps-drop,
+            (
+              keeps-clear,
+              (
+                keeps-newq,
+                (
+                  keeps-newc,
+                  (
+                    keeps-end,
+                    (
+                      keeps-gate,
+                      (
+                        keeps-meas,
+                        (
+                          keeps-call,
+                          (
+                            keeps-ret,
+                            (
+                              keeps-fork,
+                              (
+                                keeps-send,
+                                (
+                                  keeps-recv,
+                                  (
+                                    keeps-jump,
+                                    (
+                                      keeps-jfalse,
+                                      (keeps-add, (keeps-sub, (keeps-eq, (keeps-less, (keeps-not, tt))))),
+                                    ),
+                                  ),
+                                ),
+                              ),
+                            ),
+                          ),
+                        ),
+                      ),
+                    ),
+                  ),
+                ),
+              ),
+            ),
+          ),
+        ),
+      ),
+    ),
+  ),
+)
 
 -- processes
 
 -- values are within any values that reach as much
 pub all-own : (xs zs : List Value) → ((t : Thing) → InReach xs t → InReach zs t) → All (Within zs) xs
 all-own [] zs sub = tt
-all-own (x ∷ xs) zs sub =
-    (λ t u. sub t (or-left (names t x) (any (names t) xs) u),
-    all-own xs zs (λ t u. sub t (or-right (names t x) (any (names t) xs) u)))
+all-own (x ∷ xs) zs sub = (
+  λ t u. sub t (or-left (names t x) (any (names t) xs) u),
+  all-own xs zs (λ t u. sub t (or-right (names t x) (any (names t) xs) u)),
+)
 
 pub frames-own : (fs : List Frame) (zs : List Value) → ((t : Thing) → InReach (valuesOf fs) t → InReach zs t) → FramesWithin zs fs
 unfolding valuesOf
 frames-own [] zs sub = tt
-frames-own (f ∷ fs) zs sub =
-    (record {
-      slots = all-own (f .slots) zs (λ t u. sub t (own t (any-append-left (names t) (f .slots) (f .pending) u)));
-      pending = all-own (f .pending) zs (λ t u. sub t (own t (any-append-right (names t) (f .slots) (f .pending) u))) },
-    frames-own fs zs (λ t u. sub t (any-append-right (names t) (f .slots ++ f .pending) (valuesOf fs) u)))
+frames-own (f ∷ fs) zs sub = (
+  record {
+    slots = all-own (f .slots) zs (λ t u. sub t (own t (any-append-left (names t) (f .slots) (f .pending) u)));
+    pending = all-own (f .pending) zs (λ t u. sub t (own t (any-append-right (names t) (f .slots) (f .pending) u)));
+  },
+  frames-own fs zs (λ t u. sub t (any-append-right (names t) (f .slots ++ f .pending) (valuesOf fs) u)),
+)
   where
     own : (t : Thing) → InReach (f .slots ++ f .pending) t → InReach (f .slots ++ f .pending ++ valuesOf fs) t
     own t u = any-append-left (names t) (f .slots ++ f .pending) (valuesOf fs) u
@@ -378,8 +453,10 @@ scene-within p outcomes s f fs zs h = record {
   operands = All-take (Within zs) (takenAt p (f .place)) (f .pending) (h .0 .pending);
   frame = record {
     slots = h .0 .slots;
-    pending = All-drop (Within zs) (takenAt p (f .place)) (f .pending) (h .0 .pending) };
-  callers = h .1 }
+    pending = All-drop (Within zs) (takenAt p (f .place)) (f .pending) (h .0 .pending);
+  };
+  callers = h .1;
+}
 
 at-frames-within : (p outcomes : List ℕ) (s : State) (fs : List Frame)
     → ActWithin (valuesOf fs) (s .config .qubits) (s .config .channels) (atFrames p outcomes s fs)

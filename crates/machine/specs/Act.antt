@@ -271,7 +271,8 @@ sceneOf p outcomes s f fs = record {
   argument = argAt p (f .place);
   operands = take (takenAt p (f .place)) (f .pending);
   frame = passedBy (takenAt p (f .place)) f;
-  callers = fs }
+  callers = fs;
+}
 
 -- "20 the slot read, or a value taken, stored, dropped or returned, is empty (before all others, and before waiting)"
 unfoldable pub atFrame : List ℕ → List ℕ → State → Frame → List Frame → Act

@@ -59,10 +59,13 @@ unfoldable pub workedTable : List ℕ
 workedTable =
     tableOf
     (record {
-      returns = 0; params = 0; slots = 3 ∷ 19 ∷ 35 ∷ [];
+      returns = 0;
+      params = 0;
+      slots = 3 ∷ 19 ∷ 35 ∷ [];
       code =
-        7 ∷ 0 ∷ 4 ∷ 0 ∷ 5 ∷ 0 ∷ 8 ∷ 3 ∷ 4 ∷ 1 ∷ 9 ∷ 0 ∷ 4 ∷ 2 ∷ 5 ∷ 0 ∷ 3 ∷ 1 ∷ 9 ∷ 1 ∷ 14 ∷ 1
-        ∷ 3 ∷ 2 ∷ 3 ∷ 0 ∷ 15 ∷ 0 ∷ 3 ∷ 0 ∷ 11 ∷ 0 ∷ 5 ∷ 0 ∷ 13 ∷ 0 ∷ [] }
+          7 ∷ 0 ∷ 4 ∷ 0 ∷ 5 ∷ 0 ∷ 8 ∷ 3 ∷ 4 ∷ 1 ∷ 9 ∷ 0 ∷ 4 ∷ 2 ∷ 5 ∷ 0 ∷ 3 ∷ 1 ∷ 9 ∷ 1 ∷ 14 ∷ 1
+          ∷ 3 ∷ 2 ∷ 3 ∷ 0 ∷ 15 ∷ 0 ∷ 3 ∷ 0 ∷ 11 ∷ 0 ∷ 5 ∷ 0 ∷ 13 ∷ 0 ∷ [];
+    }
     ∷ record { returns = 0; params = 1; slots = 35 ∷ []; code = 3 ∷ 0 ∷ 16 ∷ 0 ∷ 10 ∷ 4 ∷ 13 ∷ 0 ∷ [] }
     ∷ [])
 
@@ -107,8 +110,11 @@ unfoldable pub givenDuringCall : List ℕ
 givenDuringCall =
     tableOf
     (record {
-      returns = 0; params = 0; slots = 3 ∷ [];
-      code = 7 ∷ 0 ∷ 4 ∷ 0 ∷ 5 ∷ 0 ∷ 3 ∷ 0 ∷ 3 ∷ 0 ∷ 12 ∷ 1 ∷ 10 ∷ 6 ∷ 13 ∷ 0 ∷ [] }
+      returns = 0;
+      params = 0;
+      slots = 3 ∷ [];
+      code = 7 ∷ 0 ∷ 4 ∷ 0 ∷ 5 ∷ 0 ∷ 3 ∷ 0 ∷ 3 ∷ 0 ∷ 12 ∷ 1 ∷ 10 ∷ 6 ∷ 13 ∷ 0 ∷ [];
+    }
     ∷ record { returns = 3; params = 1; slots = 3 ∷ []; code = 3 ∷ 0 ∷ 14 ∷ 2 ∷ 7 ∷ 0 ∷ 13 ∷ 0 ∷ [] }
     ∷ record { returns = 0; params = 1; slots = 3 ∷ []; code = 13 ∷ 0 ∷ [] }
     ∷ [])
@@ -118,8 +124,11 @@ unfoldable pub sendToGone : List ℕ
 sendToGone =
     tableOf
     (record {
-      returns = 0; params = 0; slots = 17 ∷ 33 ∷ [];
-      code = 8 ∷ 1 ∷ 4 ∷ 0 ∷ 9 ∷ 0 ∷ 4 ∷ 1 ∷ 5 ∷ 0 ∷ 3 ∷ 0 ∷ 9 ∷ 1 ∷ 14 ∷ 1 ∷ 3 ∷ 1 ∷ 1 ∷ 7 ∷ 15 ∷ 0 ∷ 13 ∷ 0 ∷ [] }
+      returns = 0;
+      params = 0;
+      slots = 17 ∷ 33 ∷ [];
+      code = 8 ∷ 1 ∷ 4 ∷ 0 ∷ 9 ∷ 0 ∷ 4 ∷ 1 ∷ 5 ∷ 0 ∷ 3 ∷ 0 ∷ 9 ∷ 1 ∷ 14 ∷ 1 ∷ 3 ∷ 1 ∷ 1 ∷ 7 ∷ 15 ∷ 0 ∷ 13 ∷ 0 ∷ [];
+    }
     ∷ record { returns = 0; params = 1; slots = 33 ∷ []; code = 13 ∷ 0 ∷ [] }
     ∷ [])
 

@@ -28,7 +28,8 @@ frameWithout ts f = record {
   method = f .method;
   place = f .place;
   slots = map (without ts) (f .slots);
-  pending = map (without ts) (f .pending) }
+  pending = map (without ts) (f .pending);
+}
 
 unfoldable pub framesWithout : List Thing → List Frame → List Frame
 framesWithout ts fs = map (frameWithout ts) fs
@@ -120,12 +121,13 @@ joined c pr = record { processes = c .processes ++ (pr ∷ []); qubits = c .qubi
 unfoldable pub forking : List ℕ → ℕ → State → ℕ → ℕ → List Value → List Frame → Effect
 forking p k s n m args fs = record {
   config =
-    joined (setProcess (s .config) n (runs (framesWithout (thingsOf args) fs))) (runs (started p m args ∷ []));
+      joined (setProcess (s .config) n (runs (framesWithout (thingsOf args) fs))) (runs (started p m args ∷ []));
   used = 0;
   lines =
-    map (lineOf k n)
-    (forked (length (s .config .processes)) m (length args)
-    ∷ map (gave (length (s .config .processes))) (thingsOf args)) }
+      map (lineOf k n)
+      (forked (length (s .config .processes)) m (length args)
+      ∷ map (gave (length (s .config .processes))) (thingsOf args));
+}
 
 -- the value on top of the frame at work
 unfoldable pub pushTop : Value → List Frame → List Frame
@@ -143,12 +145,13 @@ handing to (ref t) = gave to t ∷ []
 unfoldable pub meeting : ℕ → State → Meeting → Effect
 meeting k s e = record {
   config =
-    setProcess
-    (setProcess (s .config) (e .sender) (runs (framesWithout (thingsOf (e .value ∷ [])) (e .senderFrames))))
-    (e .receiver)
-    (runs (pushTop (e .value) (e .receiverFrames)));
+      setProcess
+      (setProcess (s .config) (e .sender) (runs (framesWithout (thingsOf (e .value ∷ [])) (e .senderFrames))))
+      (e .receiver)
+      (runs (pushTop (e .value) (e .receiverFrames)));
   used = 0;
-  lines = map (lineOf k (e .sender)) (met (e .receiver) (e .channel) (e .side) ∷ handing (e .receiver) (e .value)) }
+  lines = map (lineOf k (e .sender)) (met (e .receiver) (e .channel) (e .side) ∷ handing (e .receiver) (e .value));
+}
 
 unfoldable pub meetingIf : ℕ → State → Option Meeting → Effect
 meetingIf k s none = nothing s
@@ -166,7 +169,8 @@ applied p outcomes k s n ends = changes k s n (record { status = finished; frame
 applied p outcomes k s n (makes t fs) = record {
   config = counted t (setProcess (s .config) n (runs fs));
   used = 0;
-  lines = lineOf k n (making t) ∷ [] }
+  lines = lineOf k n (making t) ∷ [];
+}
 applied p outcomes k s n (forks m args fs) = forking p k s n m args fs
 applied p outcomes k s n (offers o) = meetingIf k s (meetingOf p outcomes s n o)
 

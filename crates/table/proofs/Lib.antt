@@ -1,1 +1,4 @@
 pub mod Opened
+pub mod Accepted
+pub mod Methods
+pub mod Before

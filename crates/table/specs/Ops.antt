@@ -76,102 +76,178 @@ plain ws ts = record {
   argument = zeroOnly;
   takes = λ p m a. length ws;
   gives = λ p m a. wanting ws ts;
-  bare = false; jumps = false; closes = false }
+  bare = false;
+  jumps = false;
+  closes = false;
+}
 
 unfoldable pub opInt : Op
 opInt = record {
-  argument = anyWord; takes = none-taken; gives = λ p m a xs. some (1 ∷ []);
-  bare = false; jumps = false; closes = false }
+  argument = anyWord;
+  takes = none-taken;
+  gives = λ p m a xs. some (1 ∷ []);
+  bare = false;
+  jumps = false;
+  closes = false;
+}
 
 unfoldable pub opBool : Op
 opBool = record {
-  argument = zeroOrOne; takes = none-taken; gives = λ p m a xs. some (2 ∷ []);
-  bare = false; jumps = false; closes = false }
+  argument = zeroOrOne;
+  takes = none-taken;
+  gives = λ p m a xs. some (2 ∷ []);
+  bare = false;
+  jumps = false;
+  closes = false;
+}
 
 unfoldable pub opGet : Op
 opGet = record {
-  argument = usedSlot; takes = none-taken; gives = λ p m a xs. some (slotType p m a ∷ []);
-  bare = false; jumps = false; closes = false }
+  argument = usedSlot;
+  takes = none-taken;
+  gives = λ p m a xs. some (slotType p m a ∷ []);
+  bare = false;
+  jumps = false;
+  closes = false;
+}
 
 unfoldable pub opPut : Op
 opPut = record {
-  argument = usedSlot; takes = one-taken; gives = λ p m a. wanting (slotType p m a ∷ []) (slotType p m a ∷ []);
-  bare = false; jumps = false; closes = false }
+  argument = usedSlot;
+  takes = one-taken;
+  gives = λ p m a. wanting (slotType p m a ∷ []) (slotType p m a ∷ []);
+  bare = false;
+  jumps = false;
+  closes = false;
+}
 
 -- DROP takes a value of any type.
 unfoldable pub opDrop : Op
 opDrop = record {
-  argument = zeroOnly; takes = one-taken; gives = λ p m a xs. some [];
-  bare = true; jumps = false; closes = false }
+  argument = zeroOnly;
+  takes = one-taken;
+  gives = λ p m a xs. some [];
+  bare = true;
+  jumps = false;
+  closes = false;
+}
 
 unfoldable pub opClear : Op
 opClear = record {
-  argument = usedSlot; takes = none-taken; gives = λ p m a xs. some [];
-  bare = true; jumps = false; closes = false }
+  argument = usedSlot;
+  takes = none-taken;
+  gives = λ p m a xs. some [];
+  bare = true;
+  jumps = false;
+  closes = false;
+}
 
 unfoldable pub opNewQ : Op
 opNewQ = plain [] (3 ∷ [])
 
 unfoldable pub opNewC : Op
 opNewC = record {
-  argument = carriedType; takes = none-taken; gives = λ p m a xs. some ((16 + a) ∷ []);
-  bare = false; jumps = false; closes = false }
+  argument = carriedType;
+  takes = none-taken;
+  gives = λ p m a xs. some ((16 + a) ∷ []);
+  bare = false;
+  jumps = false;
+  closes = false;
+}
 
 unfoldable pub opEnd : Op
 opEnd = record {
-  argument = zeroOrOne; takes = one-taken;
+  argument = zeroOrOne;
+  takes = one-taken;
   gives = λ p m a xs. cond (isChannel (getD xs 0 0)) (some (endOfChannel (getD xs 0 0) ∷ [])) none;
-  bare = false; jumps = false; closes = false }
+  bare = false;
+  jumps = false;
+  closes = false;
+}
 
 unfoldable pub opGate : Op
 opGate = record {
-  argument = gateNumber; takes = λ p m a. gateQubits a;
+  argument = gateNumber;
+  takes = λ p m a. gateQubits a;
   gives = λ p m a. cond (leb a 5) (wanting (3 ∷ []) []) (wanting (3 ∷ 3 ∷ []) []);
-  bare = false; jumps = false; closes = false }
+  bare = false;
+  jumps = false;
+  closes = false;
+}
 
 unfoldable pub opMeas : Op
 opMeas = plain (3 ∷ []) (1 ∷ [])
 
 unfoldable pub opCall : Op
 opCall = record {
-  argument = methodNumber; takes = λ p m a. paramsOf p a;
+  argument = methodNumber;
+  takes = λ p m a. paramsOf p a;
   gives = λ p m a. wanting (reverse (paramTypes p a)) (returned (returnOf p a));
-  bare = false; jumps = false; closes = false }
+  bare = false;
+  jumps = false;
+  closes = false;
+}
 
 unfoldable pub opRet : Op
 opRet = record {
-  argument = zeroOnly; takes = λ p m a. length (returned (returnOf p m));
+  argument = zeroOnly;
+  takes = λ p m a. length (returned (returnOf p m));
   gives = λ p m a. wanting (returned (returnOf p m)) [];
-  bare = true; jumps = false; closes = true }
+  bare = true;
+  jumps = false;
+  closes = true;
+}
 
 unfoldable pub opFork : Op
 opFork = record {
-  argument = methodNumber; takes = λ p m a. paramsOf p a;
+  argument = methodNumber;
+  takes = λ p m a. paramsOf p a;
   gives = λ p m a. wanting (reverse (paramTypes p a)) [];
-  bare = true; jumps = false; closes = false }
+  bare = true;
+  jumps = false;
+  closes = false;
+}
 
 -- SEND takes the value above its end.
 unfoldable pub opSend : Op
 opSend = record {
-  argument = zeroOnly; takes = two-taken;
+  argument = zeroOnly;
+  takes = two-taken;
   gives = λ p m a xs. cond (isEnd (getD xs 1 0) && eqb (getD xs 0 0) (carriedBy (getD xs 1 0))) (some []) none;
-  bare = true; jumps = false; closes = false }
+  bare = true;
+  jumps = false;
+  closes = false;
+}
 
 unfoldable pub opRecv : Op
 opRecv = record {
-  argument = zeroOnly; takes = one-taken;
+  argument = zeroOnly;
+  takes = one-taken;
   gives = λ p m a xs. cond (isEnd (getD xs 0 0)) (some (carriedBy (getD xs 0 0) ∷ [])) none;
-  bare = false; jumps = false; closes = false }
+  bare = false;
+  jumps = false;
+  closes = false;
+}
 
 unfoldable pub opJump : Op
 opJump = record {
-  argument = targetInside; takes = none-taken; gives = λ p m a xs. some [];
-  bare = true; jumps = true; closes = true }
+  argument = targetInside;
+  takes = none-taken;
+  gives = λ p m a xs. some [];
+  bare = true;
+  jumps = true;
+  closes = true;
+}
 
 unfoldable pub opJFalse : Op
 opJFalse = record {
-  argument = targetInside; takes = one-taken; gives = λ p m a. wanting (2 ∷ []) [];
-  bare = true; jumps = true; closes = false }
+  argument = targetInside;
+  takes = one-taken;
+  gives = λ p m a. wanting (2 ∷ []) [];
+  bare = true;
+  jumps = true;
+  closes = false;
+}
 
 unfoldable pub opArith : Op
 opArith = plain (1 ∷ 1 ∷ []) (1 ∷ [])
@@ -185,8 +261,13 @@ opNot = plain (2 ∷ []) (2 ∷ [])
 -- what stands for a number that is no op: no argument is in range
 unfoldable pub unlisted : Op
 unlisted = record {
-  argument = λ p m a. false; takes = none-taken; gives = λ p m a xs. none;
-  bare = false; jumps = false; closes = false }
+  argument = λ p m a. false;
+  takes = none-taken;
+  gives = λ p m a xs. none;
+  bare = false;
+  jumps = false;
+  closes = false;
+}
 
 -- 01's table, from op 0, which is no op, to op 23
 unfoldable pub ops : List Op

@@ -29,5 +29,13 @@ pub record Examples : Type 0 where
 pub examples : Examples
 unfolding machine-opened made-and-given linesOf lookUp sameLine sameAll sameLines
 examples = record {
-  nobody = refl; maker = refl; receiver = refl; all-lines = refl; other-qubit = refl;
-  same-shifted = refl; other-column = refl; one-longer = refl; no-whole-line = refl }
+  nobody = refl;
+  maker = refl;
+  receiver = refl;
+  all-lines = refl;
+  other-qubit = refl;
+  same-shifted = refl;
+  other-column = refl;
+  one-longer = refl;
+  no-whole-line = refl;
+}
