@@ -3,14 +3,13 @@
 use Prim.Native.Nat.{ℕ, zero, suc, _+_, _≤_, _<_}
 use mathlib.Core.Path.{_≡_, refl, sym, _∙_, ap, subst}
 use mathlib.Core.Logic.{_⊎_, inl, inr, ⊎-elim, _≢_}
-use mathlib.Core.Bool.{Bool, true, false, cond, not, _||_, Bool·beq}
+use mathlib.Core.Bool.{Bool, true, false, cond, not, _||_, Bool·beq, true≢false}
 use mathlib.Core.List.{List, [], _∷_, _++_, reverse}
 use native.Mathlib.Omega.{arith}
 use lib.ListN.{getD, take, drop, length, replicate}
 use lib.IntN.{ℤ, pos, _+ℤ_, _-ℤ_}
 use lib.Signed.{ltZ}
 use lib.Dec.{T, eqb, leb, ltb, eqb→eq, eqb-refl}
-use borrow.Author.Tests.{leb-true}
 use Rattle.lists.specs.Lists.{any, All}
 use Rattle.lists.proofs.Tests.{cond-both, cond-each, and-left, or-left, or-right}
 use Rattle.lists.proofs.Any.{any-append-left, any-append-right, All-append, All-take, All-drop, All-set, All-getD, All-replicate, All-reverse, All-implies}
@@ -21,6 +20,7 @@ use Rattle.machine.specs.Owner.{names, valuesOf}
 use Rattle.machine.proofs.Things.{covers-refl, covers-end}
 use Rattle.machine.proofs.Operands.{on-int, on-bool, on-qubit, on-channel, on-end, on-present, on-outcome}
 use Rattle.table.specs.Table.{offsetOf, opAt}
+use Rattle.table.specs.Ops.{oneQubit}
 use Rattle.table.specs.Reading.{takenAt}
 
 -- t is in reach through these values
@@ -43,7 +43,7 @@ pub record Quiet (ys : List Value) (e : Event) : Type 0 where
   pub notMade : (e .kind ≢ 1) × (e .kind ≢ 2)
   pub notGiven : e .kind ≢ 6
   pub notMet : e .kind ≢ 7
-  pub gate : e .kind ≡ 3 → InReach ys (qubit (e .b)) × (5 < e .a → InReach ys (qubit (e .c)))
+  pub gate : e .kind ≡ 3 → InReach ys (qubit (e .b)) × (oneQubit (e .a) ≡ false → InReach ys (qubit (e .c)))
   pub measurement : e .kind ≡ 4 → InReach ys (qubit (e .a))
 
 -- the next thing to be made, where so many qubits and channels were made
@@ -127,12 +127,12 @@ frame-started ys p m args h = record {
 
 -- events
 
-gate-one : (ys : List Value) (g q : ℕ) → g ≤ 5 → InReach ys (qubit q) → Quiet ys (gatedOne g q)
+gate-one : (ys : List Value) (g q : ℕ) → oneQubit g ≡ true → InReach ys (qubit q) → Quiet ys (gatedOne g q)
 gate-one ys g q small h = record {
   notMade = (omega arith, omega arith);
   notGiven = omega arith;
   notMet = omega arith;
-  gate = λ e. (h, λ big. absurd (omega arith));
+  gate = λ e. (h, λ big. absurd (true≢false (sym small ∙ big)));
   measurement = λ e. absurd (omega arith);
 }
 
@@ -208,7 +208,7 @@ module _ (ys : List Value) (a : At) (h : SceneWithin ys a) where
   fine-result : (z : ℤ) → Fine (result a z)
   fine-result z = cond-both Fine (inRange z) (fine-push (int z) (within-int ys z)) tt
 
-  fine-gate-one : a .argument ≤ 5 → Fine (doGateOne a)
+  fine-gate-one : oneQubit (a .argument) ≡ true → Fine (doGateOne a)
   unfolding doGateOne
   fine-gate-one small =
       on-qubit Fine tt (operand a 0) _
@@ -276,7 +276,7 @@ keeps-end ys a h =
 keeps-gate : Keeps doGate
 unfolding doGate
 keeps-gate ys a h =
-    cond-each (Fine ys a h) (leb (a .argument) 5) (λ e. fine-gate-one ys a h (leb-true (a .argument) 5 e))
+    cond-each (Fine ys a h) (oneQubit (a .argument)) (fine-gate-one ys a h)
     (λ e. fine-gate-two ys a h)
 
 keeps-meas : Keeps doMeas

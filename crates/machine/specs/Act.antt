@@ -12,6 +12,7 @@ use lib.ListN.{getD, take, drop, length}
 use lib.Dec.{eqb, leb, ltb}
 use Rattle.lists.specs.Lists.{any}
 use Rattle.table.specs.Table.{offsetOf, opAt, argAt, ownerOf}
+use Rattle.table.specs.Ops.{oneQubit}
 use Rattle.table.specs.Reading.{takenAt}
 use Rattle.machine.specs.Value.{Thing, qubit, channel, end, Value, empty, int, bool, ref, isEmpty, inRange, signed16, eqZ, sideOf}
 use Rattle.machine.specs.State.{Frame, Status, running, finished, stopped, Process, Config, State, Event, processAt, started, atPlace, withPending, withSlot, push, gatedOne, gatedTwo, measured}
@@ -166,7 +167,7 @@ doGateTwo a =
     cond (eqb deeper q) (faults 27) (goes (a .frame ∷ a .callers) (gatedTwo (a .argument) deeper q ∷ []) 0)))
 
 unfoldable pub doGate : At → Act
-doGate a = cond (leb (a .argument) 5) (doGateOne a) (doGateTwo a)
+doGate a = cond (oneQubit (a .argument)) (doGateOne a) (doGateTwo a)
 
 -- "qubit off, next outcome on as int"; "24 no outcome left"
 abbrev pub withOutcome : List ℕ → (ℕ → Act) → Act

@@ -19,11 +19,6 @@ pub record Method : Type 0 where
   pub slots : List ℕ
   pub code : List ℕ
 
-abbrev half : ℕ → ℕ
-half zero = zero
-half (suc zero) = zero
-half (suc (suc n)) = suc (half n)
-
 -- how many instructions a code has
 abbrev sizeOf : List ℕ → ℕ
 sizeOf [] = zero
@@ -166,7 +161,7 @@ pub record Cases : Type 0 where
   pub p3 : answer workedTable workedSchedule [] ≡ ran 1 18 9 0
   pub p3-lines : written workedTable workedSchedule [] ≡ workedTrace
   -- P4 table one word short, 1
-  pub p4 : answer (take 67 workedTable) workedSchedule [] ≡ refusal 1 0
+  pub p4 : answer (take 85 workedTable) workedSchedule [] ≡ refusal 1 0
   -- P5 32nd qubit made
   pub p5 : answer makingQubits (replicate 94 0) [] ≡ ran 0 94 32 0
   pub p5-line : lastLine makingQubits (replicate 94 0) [] 31 ≡ 93 ∷ 0 ∷ 1 ∷ 31 ∷ 65535 ∷ 65535 ∷ []

@@ -8,6 +8,7 @@ use mathlib.Core.Option.{Option, none, some}
 use lib.ListN.{getD, take, length}
 use lib.Dec.{T, eqb, leb, ltb}
 use Rattle.lists.specs.Lists.{any}
+use Rattle.table.specs.Ops.{oneQubit}
 use Rattle.machine.specs.Value.{Thing, qubit, channel, end, Value, empty, int, bool, ref, covers, sideOf}
 use Rattle.machine.specs.State.{Frame, Process, Config, Line, State, processAt}
 
@@ -52,7 +53,7 @@ Holds ls n t = holder ls t ≡ some n
 -- holds; a meeting joins two processes, the sender holding the side that the line names, the receiver the other end.
 pub record GateHeld (ls : List Line) (l : Line) : Type 0 where
   pub first : Holds ls (l .process) (qubit (l .b))
-  pub second : 5 < l .a → Holds ls (l .process) (qubit (l .c))
+  pub second : oneQubit (l .a) ≡ false → Holds ls (l .process) (qubit (l .c))
 
 pub record MeetingHeld (ls : List Line) (l : Line) : Type 0 where
   pub two : l .process ≢ l .a

@@ -1,5 +1,5 @@
 -- Document 01's table of ops, as the check reads it: what each op's argument may be, and its rule of types.
--- One record for each op, in the paper's order; a new op is one more record. What the ops do is in the crate machine.
+-- One record for each rule of types, in the paper's order; a new op is one more entry of `ops`. What the ops do is in the crate machine.
 --
 -- A rule of types says how many pending values an op takes, which types it gives for the types taken
 -- (listed from the top down), or that the types taken are none it wants.
@@ -57,9 +57,12 @@ wanting ws ts xs = cond (same xs ws) (some ts) none
 unfoldable pub returned : ℕ → List ℕ
 returned t = cond (eqb t 0) [] (t ∷ [])
 
--- "one qubit off for 1 to 5, else two"
+-- "1 X, 2 Y, 3 Z, 4 H, 5 S, 6 CX, 7 CZ, 8 SWAP": "one qubit off for 1 to 5, else two"
+abbrev pub oneQubit : ℕ → Bool
+oneQubit g = leb g 5
+
 unfoldable pub gateQubits : ℕ → ℕ
-gateQubits g = cond (leb g 5) 1 2
+gateQubits g = cond (oneQubit g) 1 2
 
 abbrev none-taken : List ℕ → ℕ → ℕ → ℕ
 none-taken p m a = 0
@@ -169,7 +172,7 @@ unfoldable pub opGate : Op
 opGate = record {
   argument = gateNumber;
   takes = λ p m a. gateQubits a;
-  gives = λ p m a. cond (leb a 5) (wanting (3 ∷ []) []) (wanting (3 ∷ 3 ∷ []) []);
+  gives = λ p m a. cond (oneQubit a) (wanting (3 ∷ []) []) (wanting (3 ∷ 3 ∷ []) []);
   bare = false;
   jumps = false;
   closes = false;

@@ -75,7 +75,7 @@ isEnd t = leb 33 t && leb t 35
 unfoldable pub isType : ℕ → Bool
 isType t = leb t 3 || (isChannel t || isEnd t)
 
--- what a channel or a channel end of this type carries, and the type of an end of such a channel
+-- what a channel end of this type carries, and the type of the ends of a channel of this type
 abbrev pub carriedBy : ℕ → ℕ
 carriedBy t = t - 32
 

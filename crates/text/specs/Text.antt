@@ -4,6 +4,7 @@ use mathlib.Core.Bool.{Bool, true, false, cond, _&&_}
 use mathlib.Core.List.{List, [], _∷_, _++_}
 use lib.ListN.{getD, take, drop, length}
 use lib.Dec.{eqb, leb, ltb}
+use Rattle.table.specs.Ops.{oneQubit}
 use Rattle.machine.specs.State.{Line}
 use Rattle.machine.specs.Run.{run}
 use Rattle.machine.specs.Answer.{Answer, refusal, ran, answerOf}
@@ -75,7 +76,7 @@ column used n = cond used (spaced n) (blank ∷ 45 ∷ [])
 -- qubit, 1 to 5, has no c
 unfoldable pub columnsUsed : Line → ℕ
 columnsUsed l =
-    getD (0 ∷ 1 ∷ 1 ∷ cond (leb (l .a) 5) 2 3 ∷ 2 ∷ 3 ∷ 3 ∷ 3 ∷ 2 ∷ 0 ∷ 1 ∷ []) (l .kind) 0
+    getD (0 ∷ 1 ∷ 1 ∷ cond (oneQubit (l .a)) 2 3 ∷ 2 ∷ 3 ∷ 3 ∷ 3 ∷ 2 ∷ 0 ∷ 1 ∷ []) (l .kind) 0
 
 unfoldable pub lineText : Line → List ℕ
 lineText l =

@@ -1,0 +1,98 @@
+//! Inputs for comparing machines with the model: deterministic, each named by
+//! a seed.
+//!
+//! - [`case`] gives a program, a schedule, outcomes and the lent lengths
+//! - [`file`] gives the bytes of a file for the printing program
+//! - [`Coverage`] counts what the cases have brought about
+
+#![forbid(unsafe_code)]
+
+mod coverage;
+mod damage;
+mod faults;
+mod files;
+mod helper;
+mod limits;
+mod mark;
+mod mistype;
+mod plan;
+mod random;
+mod schedule;
+mod typed;
+
+pub use coverage::{observe, Answer, Coverage};
+pub use files::file;
+pub use mark::Mark;
+pub use random::Random;
+
+use model::assemble::{table, Source};
+use model::check::{check, WORK_WORDS};
+use model::machine::run;
+use model::table::Program;
+
+/// The inputs of one comparison.
+#[derive(Clone, Debug, PartialEq, Eq)]
+pub struct Case {
+    pub program: Vec<u16>,
+    pub schedule: Vec<u8>,
+    pub outcomes: Vec<u8>,
+    /// Words of the lent trace.
+    pub trace_len: usize,
+    /// Words of the lent work store.
+    pub work_len: usize,
+}
+
+/// The case of a seed.
+pub fn case(seed: u64) -> Case {
+    let mut random = Random::new(seed);
+    let (methods, most) = methods(&mut random);
+    let mut case = run_case(&table(&methods), most, &mut random);
+    if random.chance(22) {
+        damage::damage(&mut case, methods, &mut random);
+    }
+    case
+}
+
+/// A program and the most entries that its schedule is to have.
+fn methods(random: &mut Random) -> (Vec<Source>, usize) {
+    let most = match random.below(15) {
+        0 => random.between(0, 5),
+        _ => random.between(20, 400),
+    };
+    match random.weighted(&[220, 100, 80, 3]) {
+        0 => (plan::plan(random), most),
+        1 => (typed::typed(random), most),
+        2 => (limits::limits(random), most),
+        _ => (limits::endless(random), random.between(8_500, 12_000)),
+    }
+}
+
+/// Finds a schedule and lengths for a table that passes the questions.
+fn run_case(words: &[u16], most: usize, random: &mut Random) -> Case {
+    let program = check(words, &[], &[], WORK_WORDS).expect("generated tables pass");
+    let count = random.pick(&[0, 1, 3, 8, 30, 30, 30]);
+    let outcomes: Vec<u8> = (0..count).map(|_| random.below(2) as u8).collect();
+    let schedule = schedule::schedule(&program, &outcomes, most, random);
+    let trace_len = trace_len(&program, &schedule, &outcomes, random);
+    Case {
+        program: words.to_vec(),
+        schedule,
+        outcomes,
+        trace_len,
+        work_len: random.pick(&[WORK_WORDS, WORK_WORDS, WORK_WORDS + 1, 10_000]),
+    }
+}
+
+/// Words for the trace: ample, just enough, just too few, or nearly none.
+fn trace_len(program: &Program, schedule: &[u8], outcomes: &[u8], random: &mut Random) -> usize {
+    let ample = schedule::AMPLE_TRACE;
+    let needed = 6 * run(program, schedule, outcomes, ample).lines.len();
+    match random.below(14) {
+        0 => random.below(13),
+        1 => needed,
+        2 => needed + random.below(6),
+        3 => needed.saturating_sub(random.between(1, 6)),
+        4 => random.below(needed + 1),
+        _ => 6 * 4_096 + random.below(6),
+    }
+}

@@ -1,0 +1,201 @@
+//! What a case can bring about.
+
+use model::machine::Standing;
+use model::typing::Why;
+
+/// Something that a case can bring about. Ops, kinds, faults, ends, types and
+/// gates are named by 01's numbers.
+#[derive(Clone, Copy, Debug, PartialEq, Eq, PartialOrd, Ord)]
+pub enum Mark {
+    /// A question's no.
+    Refusal(u64),
+    /// The same at a place other than 0.
+    RefusalFurtherOn(u64),
+    /// What question 5 found.
+    Question5(Why),
+    /// An op after which question 5 found something pending.
+    PendingAfter(u16),
+    /// An op that was executed.
+    Op(u16),
+    Gate(u16),
+    NewChannel(u16),
+    EndSide(u16),
+    /// JFALSE, by whether it jumped.
+    JumpOnFalse(bool),
+    /// RET, of the root frame or not, with a value or not.
+    Return {
+        root: bool,
+        value: bool,
+    },
+    /// A fault at an op.
+    Fault {
+        fault: u16,
+        op: u16,
+    },
+    Kind(u16),
+    /// A meeting, by carried type, the sender's side, and who was named.
+    Met {
+        carried: u16,
+        side: u16,
+        by_sender: bool,
+    },
+    /// A thing given by FORK, as a kind 6 line names it.
+    GivenByFork(u16),
+    /// One FORK with the same thing twice.
+    GivenTwice(u16),
+    /// One FORK with a channel and one of its ends.
+    ChannelWithEnd,
+    /// A giving that emptied a slot (or a pending value) of a frame, the top
+    /// frame or a deeper one.
+    Emptied {
+        pending: bool,
+        deeper: bool,
+        by_fork: bool,
+    },
+    /// An idle entry, by how the process stood.
+    Idle(Standing),
+    /// An idle entry of a byte above 7.
+    IdleBeyond,
+    /// An idle entry at SEND or RECV.
+    WaitsAt(u16),
+    /// An idle entry at SEND or RECV while another process stands at the
+    /// opposite op, which is named here, with an emptied operand: its end, or
+    /// only its value while its end is the right one.
+    NotReady {
+        op: u16,
+        end_emptied: bool,
+    },
+    /// A limit reached without a fault.
+    AllProcesses,
+    AllQubits,
+    AllChannels,
+    AllFrames,
+    AllPending,
+    /// An entry taken with a full trace.
+    FullTraceGoesOn,
+    End(u16),
+    /// An end that stands right after the schedule's last byte.
+    EndAfterLast(u16),
+    /// A trace without a word, with a part of a line, with whole lines only.
+    NoTrace,
+    PartOfALine,
+    WholeLines,
+}
+
+/// Every mark that can be seen.
+pub fn all_marks() -> Vec<Mark> {
+    let mut marks = refusal_marks();
+    marks.extend(op_marks());
+    marks.extend(fault_marks());
+    marks.extend(meeting_marks());
+    marks.extend(giving_marks());
+    marks.extend((1..=10).map(Mark::Kind));
+    marks.extend((0..=3).map(Mark::End));
+    marks.extend((0..=2).map(Mark::EndAfterLast));
+    marks.extend([
+        Mark::AllProcesses,
+        Mark::AllQubits,
+        Mark::AllChannels,
+        Mark::AllFrames,
+        Mark::AllPending,
+        Mark::FullTraceGoesOn,
+        Mark::NoTrace,
+        Mark::PartOfALine,
+        Mark::WholeLines,
+    ]);
+    marks
+}
+
+fn refusal_marks() -> Vec<Mark> {
+    let mut marks: Vec<Mark> = (1..=8).map(Mark::Refusal).collect();
+    marks.extend((2..=6).map(Mark::RefusalFurtherOn));
+    let whys = [
+        Why::PendingAtTarget,
+        Why::OperandMissing,
+        Why::OperandType,
+        Why::TooManyPending,
+        Why::PendingAfter,
+        Why::NotClosed,
+    ];
+    marks.extend(whys.map(Mark::Question5));
+    marks.extend([5, 6, 13, 14, 15, 17, 18].map(Mark::PendingAfter));
+    marks
+}
+
+fn op_marks() -> Vec<Mark> {
+    let mut marks: Vec<Mark> = (1..=23).map(Mark::Op).collect();
+    marks.extend((1..=8).map(Mark::Gate));
+    marks.extend((1..=3).map(Mark::NewChannel));
+    marks.extend((0..=1).map(Mark::EndSide));
+    for flag in [false, true] {
+        marks.push(Mark::JumpOnFalse(flag));
+        marks.extend([false, true].map(|value| Mark::Return { root: flag, value }));
+    }
+    marks
+}
+
+/// Every fault at every op that can have it. Ints and booleans are never
+/// emptied, so their ops do not have fault 20.
+fn fault_marks() -> Vec<Mark> {
+    let faults: [(u16, &[u16]); 8] = [
+        (20, &[3, 4, 5, 9, 10, 11, 12, 13, 14, 15, 16]),
+        (21, &[8]),
+        (22, &[7]),
+        (23, &[14]),
+        (24, &[11]),
+        (25, &[12]),
+        (26, &[19, 20]),
+        (27, &[10]),
+    ];
+    let marks = faults.into_iter().flat_map(|(fault, ops)| {
+        let ops = ops.iter();
+        ops.map(move |op| Mark::Fault { fault, op: *op })
+    });
+    marks.collect()
+}
+
+fn meeting_marks() -> Vec<Mark> {
+    let mut marks = vec![
+        Mark::Idle(Standing::NotStarted),
+        Mark::Idle(Standing::Finished),
+        Mark::Idle(Standing::Stopped),
+        Mark::Idle(Standing::Waits),
+        Mark::IdleBeyond,
+    ];
+    for op in [15, 16] {
+        let end_emptied = true;
+        marks.extend([Mark::WaitsAt(op), Mark::NotReady { op, end_emptied }]);
+    }
+    marks.push(Mark::NotReady {
+        op: 15,
+        end_emptied: false,
+    });
+    for carried in 1..=3 {
+        for side in 0..=1 {
+            marks.extend([false, true].map(|by_sender| Mark::Met {
+                carried,
+                side,
+                by_sender,
+            }));
+        }
+    }
+    marks
+}
+
+fn giving_marks() -> Vec<Mark> {
+    let mut marks = vec![Mark::ChannelWithEnd];
+    for thing in 3..=6 {
+        marks.extend([Mark::GivenByFork(thing), Mark::GivenTwice(thing)]);
+    }
+    // FORK and SEND leave nothing pending in their own frame.
+    for by_fork in [false, true] {
+        for (pending, deeper) in [(false, false), (false, true), (true, true)] {
+            marks.push(Mark::Emptied {
+                pending,
+                deeper,
+                by_fork,
+            });
+        }
+    }
+    marks
+}

@@ -1,0 +1,35 @@
+//! A model of the LanQ process machine, written from document 01 alone.
+//!
+//! It favours reading over speed: every part stands for a sentence of 01 and
+//! names it, in the order in which 01 brings them. "01" in a comment means
+//! that document; words in quotation marks are taken from it.
+//!
+//! - [`table`]: the program table, its types and ops
+//! - [`check`]: the eight questions put to a program and its inputs
+//! - [`typing`]: question 5, the reading "with types alone"
+//! - [`state`]: values, frames, processes and the configuration
+//! - [`line`]: trace lines
+//! - [`step`]: what one instruction does
+//! - [`machine`]: entries, waiting, ends and whole runs
+//! - [`owner`]: reach, holders and the ownership statement
+//! - [`lookup`]: holder look-up and same-lines answer on any words
+//! - [`print`]: the printing program
+//! - [`assemble`]: writes tables, for tests and generators
+
+#![forbid(unsafe_code)]
+
+pub mod assemble;
+pub mod check;
+pub mod line;
+pub mod lookup;
+pub mod machine;
+pub mod owner;
+pub mod print;
+pub mod state;
+pub mod step;
+pub mod table;
+pub mod typing;
+
+pub use check::{check, Refusal};
+pub use machine::{check_and_run, run, Machine, Run};
+pub use table::Program;

@@ -1,0 +1,32 @@
+//! "The look-up takes any words, k and a qubit number", and the same-lines
+//! answer.
+
+use crate::line::{whole_lines, Line, UNUSED};
+
+/// "among the first k lines (all, if fewer) the latest kind 1 line of that
+/// qubit answers its process, the latest kind 6 line with thing 3 and that
+/// number its a, whichever is later; 65535 if there is neither"
+pub fn qubit_holder(words: &[u16], k: usize, qubit: u16) -> u16 {
+    let mut answer = UNUSED;
+    for line in whole_lines(words).iter().take(k) {
+        if line.kind == 1 && line.a == qubit {
+            answer = line.process;
+        }
+        if line.kind == 6 && line.b == 3 && line.c == qubit {
+            answer = line.a;
+        }
+    }
+    answer
+}
+
+/// "whether two traces have the same lines with column 0 left out"; "no where
+/// the numbers of lines differ"
+pub fn same_lines(first: &[u16], second: &[u16]) -> bool {
+    without_entries(first) == without_entries(second)
+}
+
+/// The lines, each with the same number in column 0.
+fn without_entries(words: &[u16]) -> Vec<Line> {
+    let lines = whole_lines(words).into_iter();
+    lines.map(|line| Line { entry: 0, ..line }).collect()
+}

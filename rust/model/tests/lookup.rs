@@ -1,0 +1,89 @@
+//! The look-up of a qubit's holder and the same-lines answer, on any words.
+
+use model::lookup::{qubit_holder, same_lines};
+
+const U: u16 = 65_535;
+
+/// Made by 2, given to 4, made again by 6 (no run writes that), given to 1.
+const WORDS: [u16; 24] = [
+    0, 2, 1, 9, U, U, //
+    1, 2, 6, 4, 3, 9, //
+    2, 6, 1, 9, U, U, //
+    3, 6, 6, 1, 3, 9,
+];
+
+#[test]
+fn the_latest_line_answers() {
+    assert_eq!(qubit_holder(&WORDS, 0, 9), U);
+    assert_eq!(qubit_holder(&WORDS, 1, 9), 2);
+    assert_eq!(qubit_holder(&WORDS, 2, 9), 4);
+    assert_eq!(qubit_holder(&WORDS, 3, 9), 6);
+    assert_eq!(qubit_holder(&WORDS, 4, 9), 1);
+    // All, if there are fewer than k.
+    assert_eq!(qubit_holder(&WORDS, 5, 9), 1);
+    assert_eq!(qubit_holder(&WORDS, usize::MAX, 9), 1);
+    assert_eq!(qubit_holder(&WORDS, 4, 8), U);
+}
+
+#[test]
+fn only_whole_lines_count() {
+    assert_eq!(qubit_holder(&WORDS[..23], 4, 9), 6);
+    assert_eq!(qubit_holder(&WORDS[..5], 4, 9), U);
+    assert_eq!(qubit_holder(&[], 4, 9), U);
+}
+
+#[test]
+fn other_kinds_and_things_do_not_count() {
+    let lines = [
+        [0, 2, 1, 9, U, U],
+        [1, 3, 2, 9, U, U],
+        [2, 3, 6, 4, 4, 9],
+        [3, 3, 6, 4, 5, 9],
+        [4, 3, 6, 4, 3, 8],
+        [5, 3, 4, 9, 1, U],
+        [6, 3, 0, 9, 3, 9],
+        [7, 3, U, 9, 3, 9],
+    ];
+    assert_eq!(qubit_holder(&lines.concat(), 8, 9), 2);
+}
+
+#[test]
+fn unused_columns_may_hold_anything() {
+    // Kind 1 goes by columns 2 and 3, kind 6 by 2, 4 and 5.
+    assert_eq!(qubit_holder(&[U, 500, 1, 40_000, 1, 2], 1, 40_000), 500);
+    assert_eq!(qubit_holder(&[7, 7, 6, 600, 3, U], 1, U), 600);
+    // An answer may itself be 65535, and hides an earlier one.
+    let lines = [[0, 1, 1, 5, 0, 0], [0, 1, 6, U, 3, 5]];
+    assert_eq!(qubit_holder(&lines.concat(), 2, 5), U);
+    let lines = [[0, 1, 6, 3, 3, 5], [0, U, 1, 5, 0, 0]];
+    assert_eq!(qubit_holder(&lines.concat(), 2, 5), U);
+}
+
+#[test]
+fn same_but_for_column_0() {
+    let mut other = WORDS;
+    for line in 0..4 {
+        other[6 * line] = 100;
+    }
+    assert!(same_lines(&WORDS, &other));
+    assert!(same_lines(&WORDS, &WORDS));
+    for place in (0..24).filter(|place| place % 6 != 0) {
+        let mut other = WORDS;
+        other[place] ^= 1;
+        assert!(!same_lines(&WORDS, &other), "word {place}");
+        assert!(!same_lines(&other, &WORDS), "word {place}");
+    }
+}
+
+#[test]
+fn the_numbers_of_lines_must_agree() {
+    assert!(!same_lines(&WORDS, &WORDS[..18]));
+    assert!(!same_lines(&WORDS[..18], &WORDS));
+    // A part of a line is ignored.
+    assert!(same_lines(&WORDS[..18], &WORDS[..23]));
+    assert!(!same_lines(&WORDS[..23], &WORDS));
+    assert!(same_lines(&[], &[]));
+    assert!(same_lines(&[1, 2, 3], &[]));
+    assert!(same_lines(&[1, 2, 3, 4, 5], &[9]));
+    assert!(!same_lines(&WORDS[..6], &[]));
+}
