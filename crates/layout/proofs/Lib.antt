@@ -1,2 +1,5 @@
 pub mod Groups
+pub mod Padded
 pub mod RoundTrip
+pub mod Frames
+pub mod Process

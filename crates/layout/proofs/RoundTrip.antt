@@ -40,7 +40,7 @@ value-back c (ref (channel n)) h = refl
 value-back c (ref (end n true)) h = refl
 value-back c (ref (end n false)) h = refl
 
-value-length : (v : Value) → length (valueWords v) ≡ 2
+pub value-length : (v : Value) → length (valueWords v) ≡ 2
 unfolding valueWords
 value-length empty = refl
 value-length (int z) = refl
@@ -58,7 +58,7 @@ all P h (x ∷ xs) = (h x, all P h xs)
 value-lengths : (vs : List Value) → All (λ g. length g ≡ 2) (map valueWords vs)
 value-lengths vs = All-map (λ g. length g ≡ 2) valueWords vs (all (λ v. length (valueWords v) ≡ 2) value-length vs)
 
-values-size : (vs : List Value) → length (flatten (map valueWords vs)) ≡ length vs * 2
+pub values-size : (vs : List Value) → length (flatten (map valueWords vs)) ≡ length vs * 2
 values-size vs = flatten-length 2 (map valueWords vs) (value-lengths vs) ∙ ap (λ (k : ℕ). k * 2) (length-map vs valueWords)
 
 -- values written and padded, read back by their number
@@ -78,7 +78,7 @@ pending-size : (p : List ℕ) (c : Config) (f : Frame) → FrameSound p c f
     → length (flatten (map valueWords (reverse (f .pending)))) ≤ 16
 pending-size p c f h = omega (arith, values-size (reverse (f .pending)), length-reverse (f .pending), h .height)
 
-frame-length : (p : List ℕ) (c : Config) (f : Frame) → FrameSound p c f → length (frameValues f) ≡ 48
+pub frame-length : (p : List ℕ) (c : Config) (f : Frame) → FrameSound p c f → length (frameValues f) ≡ 48
 unfolding frameValues
 frame-length p c f h =
     length-append (padded 32 (flatten (map valueWords (f .slots)))) (padded 16 (flatten (map valueWords (reverse (f .pending)))))
@@ -129,7 +129,7 @@ status-size running n = omega arith
 status-size finished n = omega arith
 status-size (stopped f) n = omega arith
 
-head-lengths : (fs : List Frame) → All (λ g. length g ≡ 4) (map headWords fs)
+pub head-lengths : (fs : List Frame) → All (λ g. length g ≡ 4) (map headWords fs)
 unfolding headWords
 head-lengths fs = All-map (λ g. length g ≡ 4) headWords fs (all (λ f. length (headWords f) ≡ 4) (λ f. refl) fs)
 

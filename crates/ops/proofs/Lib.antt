@@ -1,0 +1,4 @@
+pub mod Returns
+pub mod Places
+pub mod Ints
+pub mod Meaning

@@ -1,0 +1,468 @@
+-- The ops' functions do what document 01's ops do: the words and the code that each leaves agree with what the process
+-- at that op would do.
+use Prim.Native.Nat.{ℕ, zero, suc, _+_, _*_, _-_, _%_, _≤_, _<_}
+use mathlib.Core.Path.{_≡_, refl, sym, _∙_, ap, ap₂, subst, subst₂}
+use mathlib.Core.Logic.{_≢_, _⊎_, inl, inr, ⊎-elim}
+use mathlib.Core.Bool.{Bool, true, false, cond, not, _&&_, _||_}
+use mathlib.Core.List.{List, [], _∷_, _++_, reverse}
+use native.Mathlib.Omega.{arith}
+use lib.IntN.{ℤ, pos, negsuc, _+ℤ_, _-ℤ_}
+use lib.Signed.{ltZ}
+use lib.ListN.{getD, set, take, drop, length}
+use lib.Dec.{T, eqb, leb, ltb, ltb→lt, leb→le, leb·zero}
+use borrow.Author.Tests.{eq-eqb, ne-eqb, lt-ltb, le-ltb, le-leb, lt-leb, leb-true, leb-false, ltb-true, ltb-false}
+use Rattle.lists.specs.Lists.{any, All}
+use Rattle.lists.proofs.Tests.{and-left, decide}
+use Rattle.table.specs.Table.{offsetOf, opAt, argAt, ownerOf, slotType}
+use Rattle.table.specs.Ops.{Op, opOf, ops, opInt, opBool, opGet, opPut, opDrop, opClear, opEnd, opJump, opJFalse, opArith, opCompare, opNot}
+use Rattle.table.specs.Reading.{takenAt, opThere}
+use Rattle.table.proofs.Accepted.{Kept}
+use Rattle.table.proofs.Methods.{Inside, inside-bound}
+use Rattle.machine.specs.Value.{Thing, qubit, channel, end, Value, empty, int, bool, ref, isEmpty, inRange, signed16, word32, eqZ, sideNo, sideOf}
+use Rattle.machine.specs.State.{Frame, Process, Config, State, Event, atPlace, withPending, withSlot, push}
+use Rattle.machine.specs.Act.{Act, idle, stuck, faults, goes, ends, makes, forks, offers, At, asInt, asBool, present, pushes, onward, twoInts, result, doInt, doBool, doGet, doPut, doDrop, doClear, doEnd, doJump, doJFalse, doAdd, doSub, doEq, doLess, doNot, doings, doingOf, passedBy, sceneOf, atFrame}
+use Rattle.machine.specs.Entry.{runs}
+use Rattle.machine.specs.Sound.{ValueSound, FrameSound}
+use Rattle.layout.specs.Layout.{valueWords, processWords}
+use Rattle.layout.proofs.Frames.{tagOf, numberOf}
+use Rattle.store.specs.declared.values.Val.{Val}
+use Rattle.store.specs.declared.head.Head.{Head}
+use Rattle.store.specs.Words.{valueAt, slotAt, topAt}
+use Rattle.ops.specs.Did.{Did, did, none, intVal, boolVal, unlessEmpty, pushOn, onTop, dropTop, dropTo, overTwo, inSlot, signExtended, getOp, putOp, dropOp, endOp, targetOf, jumpOp, jfalseOp, biased, resultOp, emptyTwo, twoOp, addOp, subOp, bit, eqOp, lessOp, notOp}
+use Rattle.ops.proofs.Ints.{Shifted, sum-shifted, difference-shifted, less-same, words-same}
+use Rattle.ops.proofs.Places.{valOf, head, words, slot-read, top-read, push-words, slot-words, drop-words, drop-to-words, move-words, top-words, two-words}
+
+-- what an act within one process leaves, as code and words; of other acts nothing is said here
+abbrev pub Agrees : Act → List ℕ → Did → Type 0
+Agrees idle w d = Unit {0}
+Agrees stuck w d = Unit {0}
+Agrees (faults n) w d = d ≡ did n w
+Agrees (goes fs es u) w d = d ≡ did 0 (processWords (runs fs))
+Agrees ends w d = Unit {0}
+Agrees (makes t fs) w d = Unit {0}
+Agrees (forks m args fs) w d = Unit {0}
+Agrees (offers o) w d = Unit {0}
+
+-- the frame at work after the act has at most 8 pending values
+abbrev pub Height : Act → Type 0
+Height idle = Unit {0}
+Height stuck = Unit {0}
+Height (faults n) = Unit {0}
+Height (goes [] es u) = Unit {0}
+Height (goes (f ∷ fs) es u) = length (f .pending) ≤ 8
+Height ends = Unit {0}
+Height (makes t fs) = Unit {0}
+Height (forks m args fs) = Unit {0}
+Height (offers o) = Unit {0}
+
+-- values
+
+tag-test : (v : Value) → eqb (valOf v .tag) 0 ≡ isEmpty v
+unfolding valOf tagOf valueWords
+tag-test empty = refl
+tag-test (int z) = refl
+tag-test (bool b) = refl
+tag-test (ref (qubit n)) = refl
+tag-test (ref (channel n)) = refl
+tag-test (ref (end n true)) = refl
+tag-test (ref (end n false)) = refl
+
+unless-read : (u : Val) (v : Value) (w : List ℕ) (d : Did) → u ≡ valOf v → unlessEmpty u w d ≡ cond (isEmpty v) (did 20 w) d
+unfolding unlessEmpty
+unless-read u v w d e = ap (λ (b : Bool). cond b (did 20 w) d) (ap (λ (x : Val). eqb (x .tag) 0) e ∙ tag-test v)
+
+-- the value that INT pushes, and the one that BOOL pushes
+int-value : (a : ℕ) → a < 65536 → intVal (signExtended a) ≡ valOf (int (signed16 a))
+unfolding valOf tagOf numberOf valueWords signExtended signed16 word32
+int-value a h = ap intVal (number (ltb a 32768))
+  where
+    number : (b : Bool) → cond b a (a + 4294901760) ≡ word32 (cond b (pos a) (negsuc (65535 - a)))
+    number true = refl
+    number false = omega arith
+
+bool-value : (a : ℕ) → a ≤ 1 → boolVal a ≡ valOf (bool (eqb a 1))
+unfolding valOf tagOf numberOf valueWords
+bool-value zero h = refl
+bool-value (suc zero) h = refl
+bool-value (suc (suc a)) h = absurd (omega arith)
+
+-- the value that END pushes
+end-value : (a n : ℕ) → a ≤ 1 → _≡_ {A = Val} (record { tag = 5 + a; number = n }) (valOf (ref (end n (sideOf a))))
+unfolding valOf tagOf numberOf valueWords
+end-value zero n h = refl
+end-value (suc zero) n h = refl
+end-value (suc (suc a)) n h = absurd (omega arith)
+
+module _ (p : List ℕ) (kept : Kept p) (outcomes : List ℕ) (s : State) (f : Frame) (fs : List Frame)
+    (sound : All (FrameSound p (s .config)) (f ∷ fs)) (deep : length fs < 8) (small : argAt p (f .place) < 65536) where
+  abbrev w : List ℕ
+  w = processWords (runs (f ∷ fs))
+
+  abbrev hd : Head
+  hd = head p kept (s .config) f fs sound deep
+
+  abbrev a : ℕ
+  a = argAt p (f .place)
+
+  -- the scene with n operands off the pending values vs
+  abbrev scene : ℕ → List Value → At
+  scene n vs = record {
+    program = p;
+    outcomes = drop (s .used) outcomes;
+    qubits = s .config .qubits;
+    channels = s .config .channels;
+    processes = length (s .config .processes);
+    argument = argAt p (f .place);
+    operands = take n vs;
+    frame = atPlace (suc (f .place)) (withPending (drop n vs) f);
+    callers = fs;
+  }
+
+  abbrev act : Act
+  act = atFrame p outcomes s f fs
+
+  -- what a process would do at op k, which takes n values, with vs pending
+  act-is : (k n : ℕ) (vs : List Value) → opAt p (f .place) ≡ k → takenAt p (f .place) ≡ n → f .pending ≡ vs
+      → act ≡ cond (leb n (length vs)) (cond (any isEmpty (take n vs)) (faults 20) (doingOf k (scene n vs))) stuck
+  unfolding atFrame sceneOf passedBy
+  act-is k n vs e t q = λ i.
+      cond (leb (t i) (length (q i)))
+      (cond (any isEmpty (take (t i) (q i))) (faults 20)
+      (doingOf (e i) (record {
+        program = p;
+        outcomes = drop (s .used) outcomes;
+        qubits = s .config .qubits;
+        channels = s .config .channels;
+        processes = length (s .config .processes);
+        argument = argAt p (f .place);
+        operands = take (t i) (q i);
+        frame = atPlace (suc (f .place)) (withPending (drop (t i) (q i)) f);
+        callers = fs;
+      })))
+      stuck
+
+  -- the same for no operand, one and two
+  act-zero : (k : ℕ) → opAt p (f .place) ≡ k → takenAt p (f .place) ≡ 0 → act ≡ doingOf k (scene 0 (f .pending))
+  act-zero k e t =
+      act-is k 0 (f .pending) e t refl
+      ∙ ap (λ (b : Bool). cond b (doingOf k (scene 0 (f .pending))) stuck) (leb·zero (length (f .pending)))
+
+  act-one : (k : ℕ) (u : Value) (us : List Value) → opAt p (f .place) ≡ k → takenAt p (f .place) ≡ 1 → f .pending ≡ u ∷ us
+      → act ≡ cond (isEmpty u || false) (faults 20) (doingOf k (scene 1 (u ∷ us)))
+  act-one k u us e t q =
+      act-is k 1 (u ∷ us) e t q
+      ∙ ap (λ (b : Bool). cond b (cond (isEmpty u || false) (faults 20) (doingOf k (scene 1 (u ∷ us)))) stuck) (le-leb 1 (suc (length us)) (omega arith))
+
+  act-two : (k : ℕ) (y x : Value) (us : List Value) → opAt p (f .place) ≡ k → takenAt p (f .place) ≡ 2 → f .pending ≡ y ∷ x ∷ us
+      → act ≡ cond (isEmpty y || (isEmpty x || false)) (faults 20) (doingOf k (scene 2 (y ∷ x ∷ us)))
+  act-two k y x us e t q =
+      act-is k 2 (y ∷ x ∷ us) e t q
+      ∙ ap (λ (b : Bool). cond b (cond (isEmpty y || (isEmpty x || false)) (faults 20) (doingOf k (scene 2 (y ∷ x ∷ us)))) stuck) (le-leb 2 (suc (suc (length us))) (omega arith))
+
+  -- too few pending values
+  act-short : (k n : ℕ) → opAt p (f .place) ≡ k → takenAt p (f .place) ≡ n → length (f .pending) < n → act ≡ stuck
+  act-short k n e t h =
+      act-is k n (f .pending) e t refl
+      ∙ ap (λ (b : Bool). cond b (cond (any isEmpty (take n (f .pending))) (faults 20) (doingOf k (scene n (f .pending)))) stuck) (lt-leb n (length (f .pending)) h)
+
+  -- how many values the op at the place takes
+  pub taken-by : (k : ℕ) → opAt p (f .place) ≡ k → takenAt p (f .place) ≡ opOf k .takes p (ownerOf p (f .place)) a
+  unfolding takenAt
+  taken-by k e = ap (λ (o : ℕ). opOf o .takes p (ownerOf p (f .place)) a) e
+
+  -- its argument passed question 4
+  pub argument-kept : (k : ℕ) → opAt p (f .place) ≡ k → T (opOf k .argument p (ownerOf p (f .place)) a)
+  argument-kept k e =
+      subst (λ (o : ℕ). T (opOf o .argument p (ownerOf p (f .place)) a)) e
+      (kept .argument (f .place) (inside-bound p kept (record { method = sound .0 .method; behind = sound .0 .behind; ahead = sound .0 .inside })))
+
+  -- agreement, carried along what the act and the function's answer are
+  abbrev Good : Act → Did → Type 0
+  Good x d = Height x → Agrees x w d
+
+  by : {x y : Act} {d e : Did} → x ≡ y → d ≡ e → Good y e → Good x d
+  by p q g = subst₂ Good (sym p) (sym q) g
+
+  as-did : (x : Act) {d e : Did} → d ≡ e → Good x e → Good x d
+  as-did x q g = subst (Good x) (sym q) g
+
+  -- an op of one operand, and of two
+  one-op : (k : ℕ) (d : Did) → opAt p (f .place) ≡ k → takenAt p (f .place) ≡ 1
+      → ((u : Value) (us : List Value) → f .pending ≡ u ∷ us → Good (cond (isEmpty u || false) (faults 20) (doingOf k (scene 1 (u ∷ us)))) d)
+      → Good act d
+  one-op k d e t g = go (f .pending) refl
+    where
+      go : (vs : List Value) → f .pending ≡ vs → Good act d
+      go [] q = by (act-short k 1 e t (subst (λ (l : List Value). length l < 1) (sym q) (omega arith))) refl (λ h. tt)
+      go (u ∷ us) q = by (act-one k u us e t q) refl (g u us q)
+
+  two-op : (k : ℕ) (d : Did) → opAt p (f .place) ≡ k → takenAt p (f .place) ≡ 2
+      → ((y x : Value) (us : List Value) → f .pending ≡ y ∷ x ∷ us → Good (cond (isEmpty y || (isEmpty x || false)) (faults 20) (doingOf k (scene 2 (y ∷ x ∷ us)))) d)
+      → Good act d
+  two-op k d e t g = go (f .pending) refl
+    where
+      short : (vs : List Value) → f .pending ≡ vs → length vs < 2 → Good act d
+      short vs q h = by (act-short k 2 e t (subst (λ (l : List Value). length l < 2) (sym q) h)) refl (λ h. tt)
+
+      go : (vs : List Value) → f .pending ≡ vs → Good act d
+      go [] q = short [] q (omega arith)
+      go (u ∷ []) q = short (u ∷ []) q (omega arith)
+      go (y ∷ x ∷ us) q = by (act-two k y x us e t q) refl (g y x us q)
+
+  -- the top value, and the one below it
+  read-top : (u : Value) (us : List Value) → f .pending ≡ u ∷ us → valueAt w (topAt hd 1) ≡ valOf u
+  read-top u us q =
+      top-read p kept (s .config) f fs sound deep 0 (subst (λ (l : List Value). 0 < length l) (sym q) (omega arith))
+      ∙ ap (λ (l : List Value). valOf (getD l 0 empty)) q
+
+  read-second : (y x : Value) (us : List Value) → f .pending ≡ y ∷ x ∷ us → valueAt w (topAt hd 2) ≡ valOf x
+  read-second y x us q =
+      top-read p kept (s .config) f fs sound deep 1 (subst (λ (l : List Value). 1 < length l) (sym q) (omega arith))
+      ∙ ap (λ (l : List Value). valOf (getD l 1 empty)) q
+
+  -- one operand: fault 20, or what the op does with a value that is not empty
+  unless-good : (u : Value) (x : Act) (d : Did) → (isEmpty u ≡ false → Good x d)
+      → Good (cond (isEmpty u || false) (faults 20) x) (cond (isEmpty u) (did 20 w) d)
+  unless-good empty x d g = λ h. refl
+  unless-good (int z) x d g = g refl
+  unless-good (bool b) x d g = g refl
+  unless-good (ref t) x d g = g refl
+
+  -- the functions that read the top value first
+  top-op : (k : ℕ) (d : Val → Did) → opAt p (f .place) ≡ k → takenAt p (f .place) ≡ 1
+      → ((u : Value) (us : List Value) → f .pending ≡ u ∷ us → isEmpty u ≡ false → Good (doingOf k (scene 1 (u ∷ us))) (d (valOf u)))
+      → Good act (unlessEmpty (valueAt w (topAt hd 1)) w (d (valueAt w (topAt hd 1))))
+  top-op k d e t g =
+      one-op k (unlessEmpty (valueAt w (topAt hd 1)) w (d (valueAt w (topAt hd 1)))) e t
+      (λ u us q. as-did (cond (isEmpty u || false) (faults 20) (doingOf k (scene 1 (u ∷ us))))
+      (unless-read (valueAt w (topAt hd 1)) u w (d (valueAt w (topAt hd 1))) (read-top u us q)
+      ∙ ap (λ (v : Val). cond (isEmpty u) (did 20 w) (d v)) (read-top u us q))
+      (unless-good u (doingOf k (scene 1 (u ∷ us))) (d (valOf u)) (g u us q)))
+
+  -- INT and BOOL
+
+  pub int-agrees : opAt p (f .place) ≡ 1 → Good act (did 0 (pushOn w hd (intVal (signExtended a))))
+  unfolding doingOf doings doInt opOf ops opInt passedBy
+  int-agrees e =
+      by (act-zero 1 e (taken-by 1 e)) (ap (λ (v : Val). did 0 (pushOn w hd v)) (int-value a small))
+      (λ h. ap (did 0) (push-words p kept (s .config) f fs sound deep (int (signed16 a)) h))
+
+  pub bool-agrees : opAt p (f .place) ≡ 2 → Good act (did 0 (pushOn w hd (boolVal a)))
+  unfolding doingOf doings doBool opOf ops opBool passedBy
+  bool-agrees e =
+      by (act-zero 2 e (taken-by 2 e)) (ap (λ (v : Val). did 0 (pushOn w hd v)) (bool-value a (leb→le a 1 (argument-kept 2 e))))
+      (λ h. ap (did 0) (push-words p kept (s .config) f fs sound deep (bool (eqb a 1)) h))
+
+  -- GET
+
+  get-slot : opAt p (f .place) ≡ 3 → a < 16
+  unfolding opOf ops opGet
+  get-slot e = ltb→lt a 16 (and-left (ltb a 16) (not (eqb (slotType p (ownerOf p (f .place)) a) 0)) (argument-kept 3 e))
+
+  get-value : (v : Value) → Good (present v (pushes (scene 0 (f .pending)))) (cond (isEmpty v) (did 20 w) (did 0 (pushOn w hd (valOf v))))
+  unfolding passedBy
+  get-value empty h = refl
+  get-value (int z) h = ap (did 0) (push-words p kept (s .config) f fs sound deep (int z) h)
+  get-value (bool b) h = ap (did 0) (push-words p kept (s .config) f fs sound deep (bool b) h)
+  get-value (ref t) h = ap (did 0) (push-words p kept (s .config) f fs sound deep (ref t) h)
+
+  pub get-agrees : opAt p (f .place) ≡ 3 → Good act (getOp w hd a)
+  unfolding getOp doingOf doings doGet opOf ops opGet
+  get-agrees e =
+      by (act-zero 3 e (taken-by 3 e))
+      (unless-read (valueAt w (slotAt hd a)) (getD (f .slots) a empty) w (did 0 (pushOn w hd (valueAt w (slotAt hd a)))) read
+      ∙ ap (λ (v : Val). cond (isEmpty (getD (f .slots) a empty)) (did 20 w) (did 0 (pushOn w hd v))) read)
+      (get-value (getD (f .slots) a empty))
+    where
+      read : valueAt w (slotAt hd a) ≡ valOf (getD (f .slots) a empty)
+      read = slot-read p kept (s .config) f fs sound deep a (get-slot e)
+
+  -- PUT, DROP, CLEAR
+
+  put-slot : opAt p (f .place) ≡ 4 → a < 16
+  unfolding opOf ops opPut
+  put-slot e = ltb→lt a 16 (and-left (ltb a 16) (not (eqb (slotType p (ownerOf p (f .place)) a) 0)) (argument-kept 4 e))
+
+  pub put-agrees : opAt p (f .place) ≡ 4 → Good act (putOp w hd a)
+  unfolding putOp doingOf doings doPut opOf ops opPut passedBy
+  put-agrees e =
+      top-op 4 (λ v. did 0 (inSlot w hd a v)) e (taken-by 4 e)
+      (λ u us q n h. ap (did 0)
+      (slot-words p kept (s .config) f fs sound deep a u (put-slot e)
+      ∙ ap (λ (vs : List Value). processWords (runs (withSlot a u (atPlace (suc (f .place)) (withPending vs f)) ∷ fs))) q))
+
+  pub drop-agrees : opAt p (f .place) ≡ 5 → Good act (dropOp w hd)
+  unfolding dropOp doingOf doings doDrop opOf ops opDrop
+  drop-agrees e =
+      top-op 5 (λ v. did 0 (dropTop w hd)) e (taken-by 5 e) (λ u us q n h. ap (did 0) (drop-words p kept (s .config) f fs sound deep u us q))
+
+  clear-slot : opAt p (f .place) ≡ 6 → a < 16
+  unfolding opOf ops opClear
+  clear-slot e = ltb→lt a 16 (and-left (ltb a 16) (not (eqb (slotType p (ownerOf p (f .place)) a) 0)) (argument-kept 6 e))
+
+  pub clear-agrees : opAt p (f .place) ≡ 6 → Good act (did 0 (inSlot w hd a none))
+  unfolding doingOf doings doClear opOf ops opClear passedBy valOf tagOf numberOf valueWords
+  clear-agrees e =
+      by (act-zero 6 e (taken-by 6 e)) refl (λ h. ap (did 0) (slot-words p kept (s .config) f fs sound deep a empty (clear-slot e)))
+
+  -- END
+
+  pub end-agrees : opAt p (f .place) ≡ 9 → Good act (endOp w hd a)
+  unfolding endOp doingOf doings doEnd opOf ops opEnd valOf numberOf valueWords
+  end-agrees e = top-op 9 (λ v. did 0 (onTop w hd (record { tag = 5 + a; number = v .number }))) e (taken-by 9 e) found
+    where
+      side : a ≤ 1
+      side = leb→le a 1 (argument-kept 9 e)
+
+      found : (u : Value) (us : List Value) → f .pending ≡ u ∷ us → isEmpty u ≡ false
+          → Good (doEnd (scene 1 (u ∷ us))) (did 0 (onTop w hd (record { tag = 5 + a; number = valOf u .number })))
+      found empty us q n h = tt
+      found (int z) us q n h = tt
+      found (bool b) us q n h = tt
+      found (ref (qubit k)) us q n h = tt
+      found (ref (channel k)) us q n h =
+          ap (did 0)
+          (ap (onTop w hd) (end-value a k side)
+          ∙ top-words p kept (s .config) f fs sound deep (ref (channel k)) (ref (end k (sideOf a))) us q)
+      found (ref (end k r)) us q n h = tt
+
+  -- JUMP and JFALSE
+
+  pub jump-agrees : opAt p (f .place) ≡ 17 → Good act (jumpOp p w hd a)
+  unfolding jumpOp targetOf doingOf doings doJump opOf ops opJump
+  jump-agrees e =
+      by (act-zero 17 e (taken-by 17 e)) refl
+      (λ h. ap (did 0) (move-words p kept (s .config) f fs sound deep (offsetOf p (f .method) + a)))
+
+  pub jfalse-agrees : opAt p (f .place) ≡ 18 → Good act (jfalseOp p w hd a)
+  unfolding jfalseOp targetOf doingOf doings doJFalse opOf ops opJFalse valOf numberOf valueWords
+  jfalse-agrees e =
+      top-op 18 (λ v. cond (eqb (v .number) 0) (did 0 (dropTo w hd (offsetOf p (f .method) + a))) (did 0 (dropTop w hd))) e (taken-by 18 e) found
+    where
+      found : (u : Value) (us : List Value) → f .pending ≡ u ∷ us → isEmpty u ≡ false
+          → Good (doJFalse (scene 1 (u ∷ us)))
+          (cond (eqb (valOf u .number) 0) (did 0 (dropTo w hd (offsetOf p (f .method) + a))) (did 0 (dropTop w hd)))
+      found empty us q n h = tt
+      found (int z) us q n h = tt
+      found (bool true) us q n h = ap (did 0) (drop-words p kept (s .config) f fs sound deep (bool true) us q)
+      found (bool false) us q n h =
+          ap (did 0) (drop-to-words p kept (s .config) f fs sound deep (bool false) us (offsetOf p (f .method) + a) q)
+      found (ref t) us q n h = tt
+
+  -- NOT
+
+  pub not-agrees : opAt p (f .place) ≡ 23 → Good act (notOp w hd)
+  unfolding notOp doingOf doings doNot opOf ops opNot valOf tagOf numberOf valueWords
+  not-agrees e = top-op 23 (λ v. did 0 (onTop w hd (boolVal (bit (eqb (v .number) 0))))) e (taken-by 23 e) found
+    where
+      found : (u : Value) (us : List Value) → f .pending ≡ u ∷ us → isEmpty u ≡ false
+          → Good (doNot (scene 1 (u ∷ us))) (did 0 (onTop w hd (boolVal (bit (eqb (valOf u .number) 0)))))
+      found empty us q n h = tt
+      found (int z) us q n h = tt
+      found (bool true) us q n h = ap (did 0) (top-words p kept (s .config) f fs sound deep (bool true) (bool false) us q)
+      found (bool false) us q n h = ap (did 0) (top-words p kept (s .config) f fs sound deep (bool false) (bool true) us q)
+      found (ref t) us q n h = tt
+
+  -- two ints
+
+  -- the functions that read two operands first
+  read-two : (y x : Value) (us : List Value) (k : ℕ → ℕ → Did) → f .pending ≡ y ∷ x ∷ us
+      → twoOp w hd k ≡ cond (isEmpty x || isEmpty y) (did 20 w) (k (valOf x .number) (valOf y .number))
+  unfolding twoOp emptyTwo
+  read-two y x us k q =
+      ap₂ (λ (u v : Val). cond (eqb (u .tag) 0 || eqb (v .tag) 0) (did 20 w) (k (u .number) (v .number)))
+      (read-second y x us q) (read-top y (x ∷ us) q)
+      ∙ ap₂ (λ (b c : Bool). cond (b || c) (did 20 w) (k (valOf x .number) (valOf y .number))) (tag-test x) (tag-test y)
+
+  -- the op on values of every kind: fault 20, or both are ints, or the process is stuck
+  ints-op : (k : ℕ) (act-of : At → ℤ → ℤ → Act) (g : ℕ → ℕ → Did) → opAt p (f .place) ≡ k → takenAt p (f .place) ≡ 2
+      → ((b : At) → doingOf k b ≡ twoInts b (act-of b))
+      → ((x y : ℤ) (us : List Value) → f .pending ≡ int y ∷ int x ∷ us → T (inRange x) → T (inRange y)
+      → Good (act-of (scene 2 (int y ∷ int x ∷ us)) x y) (g (word32 x) (word32 y)))
+      → Good act (twoOp w hd g)
+  unfolding valOf numberOf valueWords
+  ints-op k act-of g e t is both =
+      two-op k (twoOp w hd g) e t
+      (λ y x us q. as-did (cond (isEmpty y || (isEmpty x || false)) (faults 20) (doingOf k (scene 2 (y ∷ x ∷ us)))) (read-two y x us g q)
+      (by (ap (λ (z : Act). cond (isEmpty y || (isEmpty x || false)) (faults 20) z) (is (scene 2 (y ∷ x ∷ us)))) refl (values y x us q)))
+    where
+      values : (y x : Value) (us : List Value) → f .pending ≡ y ∷ x ∷ us
+          → Good (cond (isEmpty y || (isEmpty x || false)) (faults 20) (twoInts (scene 2 (y ∷ x ∷ us)) (act-of (scene 2 (y ∷ x ∷ us)))))
+          (cond (isEmpty x || isEmpty y) (did 20 w) (g (valOf x .number) (valOf y .number)))
+      values empty empty us q h = refl
+      values empty (int x) us q h = refl
+      values empty (bool b) us q h = refl
+      values empty (ref r) us q h = refl
+      values (int y) empty us q h = refl
+      values (int y) (int x) us q h =
+          let fine : All (ValueSound (s .config)) (int y ∷ int x ∷ us) = subst (All (ValueSound (s .config))) q (sound .0 .pending) in
+          both x y us q (fine .1 .0) (fine .0) h
+      values (int y) (bool b) us q h = tt
+      values (int y) (ref r) us q h = tt
+      values (bool c) empty us q h = refl
+      values (bool c) (int x) us q h = tt
+      values (bool c) (bool b) us q h = tt
+      values (bool c) (ref r) us q h = tt
+      values (ref o) empty us q h = refl
+      values (ref o) (int x) us q h = tt
+      values (ref o) (bool b) us q h = tt
+      values (ref o) (ref r) us q h = tt
+
+  -- a result in range, or fault 26
+  result-good : (z : ℤ) (n : ℕ) (y x : Value) (us : List Value) → f .pending ≡ y ∷ x ∷ us → Shifted z n
+      → Good (result (scene 2 (y ∷ x ∷ us)) z) (resultOp w hd n)
+  unfolding resultOp valOf tagOf numberOf valueWords
+  result-good z n y x us q sh h =
+      ⊎-elim
+      (λ t. subst (λ (b : Bool). Agrees (result (scene 2 (y ∷ x ∷ us)) z) w (cond b (did 26 w) (cond (leb 6442450944 n) (did 26 w) (did 0 (overTwo w hd (intVal (n % 4294967296))))))) (sym t)
+      (out (sh .low (ltb-true n 2147483648 t))))
+      (λ t. subst (λ (b : Bool). Agrees (result (scene 2 (y ∷ x ∷ us)) z) w (cond b (did 26 w) (cond (leb 6442450944 n) (did 26 w) (did 0 (overTwo w hd (intVal (n % 4294967296))))))) (sym t)
+      (⊎-elim
+      (λ u. subst (λ (b : Bool). Agrees (result (scene 2 (y ∷ x ∷ us)) z) w (cond b (did 26 w) (did 0 (overTwo w hd (intVal (n % 4294967296)))))) (sym u)
+      (out (sh .high (leb-true 6442450944 n u))))
+      (λ u. subst (λ (b : Bool). Agrees (result (scene 2 (y ∷ x ∷ us)) z) w (cond b (did 26 w) (did 0 (overTwo w hd (intVal (n % 4294967296)))))) (sym u)
+      (within (sh .inside (ltb-false n 2147483648 t) (leb-false 6442450944 n u))))
+      (decide (leb 6442450944 n))))
+      (decide (ltb n 2147483648))
+    where
+      out : inRange z ≡ false → Agrees (result (scene 2 (y ∷ x ∷ us)) z) w (did 26 w)
+      out e =
+          subst (λ (b : Bool). Agrees (cond b (pushes (scene 2 (y ∷ x ∷ us)) (int z)) (faults 26)) w (did 26 w)) (sym e) refl
+
+      within : (inRange z ≡ true) × (word32 z ≡ n % 4294967296) → Agrees (result (scene 2 (y ∷ x ∷ us)) z) w (did 0 (overTwo w hd (intVal (n % 4294967296))))
+      within e =
+          subst (λ (b : Bool). Agrees (cond b (pushes (scene 2 (y ∷ x ∷ us)) (int z)) (faults 26)) w (did 0 (overTwo w hd (intVal (n % 4294967296))))) (sym (e .0))
+          (ap (did 0) (ap (λ (m : ℕ). overTwo w hd (intVal m)) (sym (e .1)) ∙ two-words p kept (s .config) f fs sound deep y x (int z) us q))
+
+  pub add-agrees : opAt p (f .place) ≡ 19 → Good act (addOp w hd)
+  unfolding addOp doingOf doings doAdd opOf ops opArith
+  add-agrees e =
+      ints-op 19 (λ b x y. result b (x +ℤ y)) (λ x y. resultOp w hd (biased x + biased y)) e (taken-by 19 e) (λ b. refl)
+      (λ x y us q hx hy. result-good (x +ℤ y) (biased (word32 x) + biased (word32 y)) (int y) (int x) us q (sum-shifted x y hx hy))
+
+  pub sub-agrees : opAt p (f .place) ≡ 20 → Good act (subOp w hd)
+  unfolding subOp doingOf doings doSub opOf ops opArith
+  sub-agrees e =
+      ints-op 20 (λ b x y. result b (x -ℤ y)) (λ x y. resultOp w hd (biased x + 4294967296 - biased y)) e (taken-by 20 e) (λ b. refl)
+      (λ x y us q hx hy. result-good (x -ℤ y) (biased (word32 x) + 4294967296 - biased (word32 y)) (int y) (int x) us q (difference-shifted x y hx hy))
+
+  -- a boolean in place of two ints
+  test-good : (b c : Bool) (y x : Value) (us : List Value) → b ≡ c → f .pending ≡ y ∷ x ∷ us
+      → Good (pushes (scene 2 (y ∷ x ∷ us)) (bool c)) (did 0 (overTwo w hd (boolVal (bit b))))
+  unfolding valOf tagOf numberOf valueWords
+  test-good b true y x us e q h =
+      ap (did 0) (ap (λ (t : Bool). overTwo w hd (boolVal (bit t))) e ∙ two-words p kept (s .config) f fs sound deep y x (bool true) us q)
+  test-good b false y x us e q h =
+      ap (did 0) (ap (λ (t : Bool). overTwo w hd (boolVal (bit t))) e ∙ two-words p kept (s .config) f fs sound deep y x (bool false) us q)
+
+  pub eq-agrees : opAt p (f .place) ≡ 21 → Good act (eqOp w hd)
+  unfolding eqOp doingOf doings doEq opOf ops opCompare
+  eq-agrees e =
+      ints-op 21 (λ b x y. pushes b (bool (eqZ x y))) (λ x y. did 0 (overTwo w hd (boolVal (bit (eqb x y))))) e (taken-by 21 e) (λ b. refl)
+      (λ x y us q hx hy. test-good (eqb (word32 x) (word32 y)) (eqZ x y) (int y) (int x) us (words-same x y hx hy) q)
+
+  pub less-agrees : opAt p (f .place) ≡ 22 → Good act (lessOp w hd)
+  unfolding lessOp doingOf doings doLess opOf ops opCompare
+  less-agrees e =
+      ints-op 22 (λ b x y. pushes b (bool (ltZ x y))) (λ x y. did 0 (overTwo w hd (boolVal (bit (ltb (biased x) (biased y)))))) e (taken-by 22 e) (λ b. refl)
+      (λ x y us q hx hy. test-good (ltb (biased (word32 x)) (biased (word32 y))) (ltZ x y) (int y) (int x) us (less-same x y hx hy) q)

@@ -1,0 +1,83 @@
+-- What the functions over lent words do, as functions on lists of words. These definitions follow the code; what they
+-- mean for a process is proved in proofs/.
+use Prim.Native.Nat.{ℕ, zero, suc, _+_, _*_, _-_, _%_}
+use mathlib.Core.List.{List}
+use lib.ListN.{getD, set}
+use Rattle.store.specs.declared.values.Val.{Val}
+use Rattle.store.specs.declared.head.Head.{Head}
+
+-- the two words of a value
+unfoldable pub valueAt : List ℕ → ℕ → Val
+valueAt w i = record { tag = getD w i 0; number = getD w (i + 1) 0 }
+
+unfoldable pub putValue : List ℕ → ℕ → Val → List ℕ
+putValue w i v = set (set w i (v .tag)) (i + 1) (v .number)
+
+-- the head of a process whose part is w
+unfoldable pub headAt : ℕ → ℕ
+headAt frames = 4 + 4 * frames
+
+unfoldable pub headOf : List ℕ → Head
+headOf w = record {
+  status = getD w 0 0;
+  fault = getD w 1 0;
+  frames = getD w 2 0;
+  method = getD w (headAt (getD w 2 0)) 0;
+  place = getD w (headAt (getD w 2 0) + 1) 0;
+  pending = getD w (headAt (getD w 2 0) + 2) 0;
+}
+
+-- the place and the number of pending values of the frame at work, put back
+unfoldable pub putTop : List ℕ → Head → List ℕ
+putTop w h = set (set w (headAt (h .frames) + 1) (h .place)) (headAt (h .frames) + 2) (h .pending)
+
+-- where slot s stands, and the value n below the next free one
+unfoldable pub slotAt : Head → ℕ → ℕ
+slotAt h s = 16 + 48 * h .frames + 2 * s
+
+unfoldable pub topAt : Head → ℕ → ℕ
+topAt h n = 48 + 48 * h .frames + 2 * h .pending - 2 * n
+
+-- words are numbers below 2 ^ 32
+abbrev pub word : ℕ → ℕ
+word x = x % 4294967296
+
+unfoldable pub movedTo : Head → ℕ → Head
+movedTo h i = record {
+  status = h .status;
+  fault = h .fault;
+  frames = h .frames;
+  method = h .method;
+  place = i;
+  pending = h .pending;
+}
+
+unfoldable pub stepped : Head → Head
+stepped h = record {
+  status = h .status;
+  fault = h .fault;
+  frames = h .frames;
+  method = h .method;
+  place = word (h .place + 1);
+  pending = h .pending;
+}
+
+unfoldable pub pushed : Head → Head
+pushed h = record {
+  status = h .status;
+  fault = h .fault;
+  frames = h .frames;
+  method = h .method;
+  place = h .place;
+  pending = word (h .pending + 1);
+}
+
+unfoldable pub popped : Head → Head
+popped h = record {
+  status = h .status;
+  fault = h .fault;
+  frames = h .frames;
+  method = h .method;
+  place = h .place;
+  pending = word (h .pending + 4294967295);
+}

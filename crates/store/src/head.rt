@@ -1,0 +1,91 @@
+// The head of a process: its state, taken out of its part of the store by value, changed, and put back.
+ghost use mathlib.Core.Path.{_≡_};
+ghost use Rattle.store.specs.Words.{headOf, putTop, slotAt, topAt, stepped, movedTo, pushed, popped};
+use super::values::get;
+use super::values::low;
+use super::values::put;
+
+pub struct Head {
+    pub status: u32,
+    pub fault: u32,
+    pub frames: u32,
+    pub method: u32,
+    pub place: u32,
+    pub pending: u32,
+}
+
+pub fn read_head(w: &[u32]) -> Head
+    ensures { λ r. ⌜ r ≡ headOf (now (w .entry)) ⌝ }
+{
+    let frames = get(w, 2);
+    let at = 4 + 4 * (frames as usize);
+    Head {
+        status: get(w, 0),
+        fault: get(w, 1),
+        frames: frames,
+        method: get(w, at),
+        place: get(w, at + 1),
+        pending: get(w, at + 2),
+    }
+}
+
+// The place and the number of pending values of the frame at work, put back.
+pub fn put_top(w: &mut [u32], h: Head)
+    ensures { λ r. ⌜ now (w .exit) ≡ putTop (now (w .entry)) h ⌝ }
+{
+    let at = 4 + 4 * (h.frames as usize);
+    put(w, at + 1, h.place);
+    put(w, at + 2, h.pending);
+}
+
+impl Head {
+    // Where slot s of the frame at work stands.
+    pub fn slot(self, s: u16) -> usize
+        ensures { λ r. ⌜ r ≡ slotAt self s ⌝ }
+    {
+        16 + 48 * (self.frames as usize) + 2 * (s as usize)
+    }
+
+    // Where the value stands that is n below the next free one.
+    pub fn top(self, n: u16) -> usize
+        ensures { λ r. ⌜ r ≡ topAt self n ⌝ }
+    {
+        let free = 48 + 48 * (self.frames as usize) + 2 * (self.pending as usize);
+        let down = 2 * (n as usize);
+        if down <= free {
+            return free - down;
+        }
+        0
+    }
+
+    // The frame at work stands behind its instruction.
+    pub fn step(mut self) -> Head
+        ensures { λ r. ⌜ r ≡ stepped self ⌝ }
+    {
+        self.place = low(self.place as usize + 1);
+        self
+    }
+
+    // The frame at work stands at this instruction.
+    pub fn to(mut self, place: u32) -> Head
+        ensures { λ r. ⌜ r ≡ movedTo self place ⌝ }
+    {
+        self.place = place;
+        self
+    }
+
+    // One more pending value, and one fewer.
+    pub fn push(mut self) -> Head
+        ensures { λ r. ⌜ r ≡ pushed self ⌝ }
+    {
+        self.pending = low(self.pending as usize + 1);
+        self
+    }
+
+    pub fn pop(mut self) -> Head
+        ensures { λ r. ⌜ r ≡ popped self ⌝ }
+    {
+        self.pending = low(self.pending as usize + 4294967295);
+        self
+    }
+}

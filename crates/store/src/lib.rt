@@ -1,0 +1,3 @@
+// The work store by words: values, and the head of a process.
+pub mod head;
+pub mod values;
