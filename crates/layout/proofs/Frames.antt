@@ -292,3 +292,10 @@ module _ (f : Frame) (wide : length (f .slots) ≡ 16) where
   frame-pop i v vs p h e =
       frame-pending i (2 * length vs) empty vs e
       (ap (λ (l : List Value). write (padded 16 (pending-run l)) (2 * length vs) empty) p ∙ pending-pop v vs (2 * length vs) h refl)
+
+-- the words of a frame are 48
+pub frame-size : (f : Frame) → length (f .slots) ≡ 16 → length (f .pending) ≤ 8 → length (frameValues f) ≡ 48
+frame-size f wide high =
+    ap length (frame-parts f)
+    ∙ length-append (padded 32 (run-of (f .slots))) (padded 16 (pending-run (f .pending)))
+    ∙ ap₂ _+_ (slots-padded f wide) (padded-length 16 (pending-run (f .pending)) (omega (arith, pending-length (f .pending), high)))

@@ -3,3 +3,4 @@ pub mod Padded
 pub mod RoundTrip
 pub mod Frames
 pub mod Process
+pub mod Whole

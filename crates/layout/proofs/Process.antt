@@ -17,7 +17,7 @@ use Rattle.layout.proofs.Padded.{set-behind, get-behind, padded-get, pa
 use Rattle.layout.proofs.RoundTrip.{frame-length, head-lengths}
 
 -- a part of the store: so many callers, their heads and values, and the head and the values of the frame at work
-pub part : ℕ → List ℕ → List ℕ → List ℕ → List ℕ → List ℕ
+unfoldable pub part : ℕ → List ℕ → List ℕ → List ℕ → List ℕ → List ℕ
 part k heads head values vs =
     padded 8 (1 ∷ 0 ∷ suc k ∷ []) ++ padded 56 (heads ++ head) ++ padded 448 (values ++ vs)
 
@@ -147,3 +147,12 @@ process-fitting p c f fs h d = record {
       ∙ omega (arith, length-map (reverse fs) frameValues, length-reverse fs);
   frameLong = frame-length p c f (h .0);
 }
+
+-- the callers' groups with one more caller
+pub below-heads : (f : Frame) (fs : List Frame) → headsBelow (f ∷ fs) ≡ headsBelow fs ++ headWords f
+unfolding headsBelow
+below-heads f fs = last-group headWords f fs
+
+pub below-values : (f : Frame) (fs : List Frame) → valuesBelow (f ∷ fs) ≡ valuesBelow fs ++ frameValues f
+unfolding valuesBelow
+below-values f fs = last-group frameValues f fs

@@ -3,45 +3,50 @@
 use Prim.Native.Nat.{ℕ, zero, suc, _+_, _*_, _-_, _%_, _≤_, _<_}
 use mathlib.Core.Path.{_≡_, refl, sym, _∙_, ap, ap₂, subst, subst₂}
 use mathlib.Core.Logic.{_≢_, _⊎_, inl, inr, ⊎-elim}
-use mathlib.Core.Bool.{Bool, true, false, cond, not, _&&_, _||_}
+use mathlib.Core.Bool.{Bool, true, false, cond, not, _&&_, _||_, true≢false}
 use mathlib.Core.List.{List, [], _∷_, _++_, reverse}
 use native.Mathlib.Omega.{arith}
 use lib.IntN.{ℤ, pos, negsuc, _+ℤ_, _-ℤ_}
 use lib.Signed.{ltZ}
 use lib.ListN.{getD, set, take, drop, length}
 use lib.Dec.{T, eqb, leb, ltb, ltb→lt, leb→le, leb·zero}
-use borrow.Author.Tests.{eq-eqb, ne-eqb, lt-ltb, le-ltb, le-leb, lt-leb, leb-true, leb-false, ltb-true, ltb-false}
+use borrow.Author.Tests.{eq-eqb, ne-eqb, lt-ltb, le-ltb, le-leb, lt-leb, leb-true, leb-false, ltb-true, ltb-false, eqb-true}
 use Rattle.lists.specs.Lists.{any, All}
 use Rattle.lists.proofs.Tests.{and-left, decide}
-use Rattle.table.specs.Table.{offsetOf, opAt, argAt, ownerOf, slotType}
-use Rattle.table.specs.Ops.{Op, opOf, ops, opInt, opBool, opGet, opPut, opDrop, opClear, opEnd, opJump, opJFalse, opArith, opCompare, opNot}
+use Rattle.table.specs.Table.{methods, offsetOf, returnOf, paramsOf, opAt, argAt, ownerOf, slotType}
+use Rattle.table.specs.Ops.{Op, opOf, ops, opInt, opBool, opGet, opPut, opDrop, opClear, opEnd, opJump, opJFalse, opArith, opCompare, opNot, opCall, opRet, returned, unlisted}
 use Rattle.table.specs.Reading.{takenAt, opThere}
 use Rattle.table.proofs.Accepted.{Kept}
-use Rattle.table.proofs.Methods.{Inside, inside-bound}
+use Rattle.table.proofs.Methods.{Inside, inside-bound, inside-owner}
+use native.Mathlib.Nat.{le-of-suc-le, le-of-suc-le-suc, not-suc-le-zero}
 use Rattle.machine.specs.Value.{Thing, qubit, channel, end, Value, empty, int, bool, ref, isEmpty, inRange, signed16, word32, eqZ, sideNo, sideOf}
-use Rattle.machine.specs.State.{Frame, Process, Config, State, Event, atPlace, withPending, withSlot, push}
-use Rattle.machine.specs.Act.{Act, idle, stuck, faults, goes, ends, makes, forks, offers, At, asInt, asBool, present, pushes, onward, twoInts, result, doInt, doBool, doGet, doPut, doDrop, doClear, doEnd, doJump, doJFalse, doAdd, doSub, doEq, doLess, doNot, doings, doingOf, passedBy, sceneOf, atFrame}
+use Rattle.machine.specs.State.{Frame, Process, Config, State, Event, atPlace, withPending, withSlot, push, started}
+use Rattle.machine.specs.Act.{Act, idle, stuck, faults, goes, ends, makes, forks, offers, At, asInt, asBool, present, pushes, onward, twoInts, result, doInt, doBool, doGet, doPut, doDrop, doClear, doEnd, doJump, doJFalse, doAdd, doSub, doEq, doLess, doNot, doCall, doRet, returnTo, doings, doingOf, passedBy, sceneOf, atFrame}
 use Rattle.machine.specs.Entry.{runs}
 use Rattle.machine.specs.Sound.{ValueSound, FrameSound}
 use Rattle.layout.specs.Layout.{valueWords, processWords}
 use Rattle.layout.proofs.Frames.{tagOf, numberOf}
 use Rattle.store.specs.declared.values.Val.{Val}
 use Rattle.store.specs.declared.head.Head.{Head}
-use Rattle.store.specs.Words.{valueAt, slotAt, topAt}
-use Rattle.ops.specs.Did.{Did, did, none, intVal, boolVal, unlessEmpty, pushOn, onTop, dropTop, dropTo, overTwo, inSlot, signExtended, getOp, putOp, dropOp, endOp, targetOf, jumpOp, jfalseOp, biased, resultOp, emptyTwo, twoOp, addOp, subOp, bit, eqOp, lessOp, notOp}
+use Rattle.store.specs.Words.{valueAt, slotAt, topAt, emptyDown}
+use Rattle.ops.specs.Did.{Did, did, none, intVal, boolVal, unlessEmpty, pushOn, onTop, dropTop, dropTo, overTwo, inSlot, signExtended, getOp, putOp, dropOp, endOp, targetOf, jumpOp, jfalseOp, biased, resultOp, emptyTwo, twoOp, addOp, subOp, bit, eqOp, lessOp, notOp, opened, callOp, closed, handed, retOp, intOp, boolOp, clearOp, noOp, opFunctions, actOp, stepOp}
 use Rattle.ops.proofs.Ints.{Shifted, sum-shifted, difference-shifted, less-same, words-same}
-use Rattle.ops.proofs.Places.{valOf, head, words, slot-read, top-read, push-words, slot-words, drop-words, drop-to-words, move-words, top-words, two-words}
+use Rattle.ops.proofs.FramesOpened.{opened-words, closed-words, handed-words}
+use Rattle.ops.proofs.Places.{valOf, head, head-is, words, slot-read, top-read, push-words, slot-words, drop-words, drop-to-words, move-words, top-words, two-words}
 
--- what an act within one process leaves, as code and words; of other acts nothing is said here
+-- What an act within one process that writes no line leaves, as code and words; the root frame's return is left to the
+-- caller, as 113. No other act agrees with anything.
 abbrev pub Agrees : Act → List ℕ → Did → Type 0
-Agrees idle w d = Unit {0}
+Agrees idle w d = ⊥
 Agrees stuck w d = Unit {0}
 Agrees (faults n) w d = d ≡ did n w
-Agrees (goes fs es u) w d = d ≡ did 0 (processWords (runs fs))
-Agrees ends w d = Unit {0}
-Agrees (makes t fs) w d = Unit {0}
-Agrees (forks m args fs) w d = Unit {0}
-Agrees (offers o) w d = Unit {0}
+Agrees (goes fs [] zero) w d = d ≡ did 0 (processWords (runs fs))
+Agrees (goes fs [] (suc u)) w d = ⊥
+Agrees (goes fs (e ∷ es) u) w d = ⊥
+Agrees ends w d = d ≡ did 113 w
+Agrees (makes t fs) w d = ⊥
+Agrees (forks m args fs) w d = ⊥
+Agrees (offers o) w d = ⊥
 
 -- the frame at work after the act has at most 8 pending values
 abbrev pub Height : Act → Type 0
@@ -95,17 +100,17 @@ end-value (suc (suc a)) n h = absurd (omega arith)
 
 module _ (p : List ℕ) (kept : Kept p) (outcomes : List ℕ) (s : State) (f : Frame) (fs : List Frame)
     (sound : All (FrameSound p (s .config)) (f ∷ fs)) (deep : length fs < 8) (small : argAt p (f .place) < 65536) where
-  abbrev w : List ℕ
+  abbrev pub w : List ℕ
   w = processWords (runs (f ∷ fs))
 
-  abbrev hd : Head
+  abbrev pub hd : Head
   hd = head p kept (s .config) f fs sound deep
 
-  abbrev a : ℕ
+  abbrev pub a : ℕ
   a = argAt p (f .place)
 
   -- the scene with n operands off the pending values vs
-  abbrev scene : ℕ → List Value → At
+  abbrev pub scene : ℕ → List Value → At
   scene n vs = record {
     program = p;
     outcomes = drop (s .used) outcomes;
@@ -118,11 +123,11 @@ module _ (p : List ℕ) (kept : Kept p) (outcomes : List ℕ) (s : State) (f : F
     callers = fs;
   }
 
-  abbrev act : Act
+  abbrev pub act : Act
   act = atFrame p outcomes s f fs
 
   -- what a process would do at op k, which takes n values, with vs pending
-  act-is : (k n : ℕ) (vs : List Value) → opAt p (f .place) ≡ k → takenAt p (f .place) ≡ n → f .pending ≡ vs
+  pub act-is : (k n : ℕ) (vs : List Value) → opAt p (f .place) ≡ k → takenAt p (f .place) ≡ n → f .pending ≡ vs
       → act ≡ cond (leb n (length vs)) (cond (any isEmpty (take n vs)) (faults 20) (doingOf k (scene n vs))) stuck
   unfolding atFrame sceneOf passedBy
   act-is k n vs e t q = λ i.
@@ -142,12 +147,12 @@ module _ (p : List ℕ) (kept : Kept p) (outcomes : List ℕ) (s : State) (f : F
       stuck
 
   -- the same for no operand, one and two
-  act-zero : (k : ℕ) → opAt p (f .place) ≡ k → takenAt p (f .place) ≡ 0 → act ≡ doingOf k (scene 0 (f .pending))
+  pub act-zero : (k : ℕ) → opAt p (f .place) ≡ k → takenAt p (f .place) ≡ 0 → act ≡ doingOf k (scene 0 (f .pending))
   act-zero k e t =
       act-is k 0 (f .pending) e t refl
       ∙ ap (λ (b : Bool). cond b (doingOf k (scene 0 (f .pending))) stuck) (leb·zero (length (f .pending)))
 
-  act-one : (k : ℕ) (u : Value) (us : List Value) → opAt p (f .place) ≡ k → takenAt p (f .place) ≡ 1 → f .pending ≡ u ∷ us
+  pub act-one : (k : ℕ) (u : Value) (us : List Value) → opAt p (f .place) ≡ k → takenAt p (f .place) ≡ 1 → f .pending ≡ u ∷ us
       → act ≡ cond (isEmpty u || false) (faults 20) (doingOf k (scene 1 (u ∷ us)))
   act-one k u us e t q =
       act-is k 1 (u ∷ us) e t q
@@ -160,7 +165,7 @@ module _ (p : List ℕ) (kept : Kept p) (outcomes : List ℕ) (s : State) (f : F
       ∙ ap (λ (b : Bool). cond b (cond (isEmpty y || (isEmpty x || false)) (faults 20) (doingOf k (scene 2 (y ∷ x ∷ us)))) stuck) (le-leb 2 (suc (suc (length us))) (omega arith))
 
   -- too few pending values
-  act-short : (k n : ℕ) → opAt p (f .place) ≡ k → takenAt p (f .place) ≡ n → length (f .pending) < n → act ≡ stuck
+  pub act-short : (k n : ℕ) → opAt p (f .place) ≡ k → takenAt p (f .place) ≡ n → length (f .pending) < n → act ≡ stuck
   act-short k n e t h =
       act-is k n (f .pending) e t refl
       ∙ ap (λ (b : Bool). cond b (cond (any isEmpty (take n (f .pending))) (faults 20) (doingOf k (scene n (f .pending)))) stuck) (lt-leb n (length (f .pending)) h)
@@ -177,17 +182,17 @@ module _ (p : List ℕ) (kept : Kept p) (outcomes : List ℕ) (s : State) (f : F
       (kept .argument (f .place) (inside-bound p kept (record { method = sound .0 .method; behind = sound .0 .behind; ahead = sound .0 .inside })))
 
   -- agreement, carried along what the act and the function's answer are
-  abbrev Good : Act → Did → Type 0
+  abbrev pub Good : Act → Did → Type 0
   Good x d = Height x → Agrees x w d
 
-  by : {x y : Act} {d e : Did} → x ≡ y → d ≡ e → Good y e → Good x d
+  pub by : {x y : Act} {d e : Did} → x ≡ y → d ≡ e → Good y e → Good x d
   by p q g = subst₂ Good (sym p) (sym q) g
 
-  as-did : (x : Act) {d e : Did} → d ≡ e → Good x e → Good x d
+  pub as-did : (x : Act) {d e : Did} → d ≡ e → Good x e → Good x d
   as-did x q g = subst (Good x) (sym q) g
 
   -- an op of one operand, and of two
-  one-op : (k : ℕ) (d : Did) → opAt p (f .place) ≡ k → takenAt p (f .place) ≡ 1
+  pub one-op : (k : ℕ) (d : Did) → opAt p (f .place) ≡ k → takenAt p (f .place) ≡ 1
       → ((u : Value) (us : List Value) → f .pending ≡ u ∷ us → Good (cond (isEmpty u || false) (faults 20) (doingOf k (scene 1 (u ∷ us)))) d)
       → Good act d
   one-op k d e t g = go (f .pending) refl
@@ -229,7 +234,7 @@ module _ (p : List ℕ) (kept : Kept p) (outcomes : List ℕ) (s : State) (f : F
   unless-good (ref t) x d g = g refl
 
   -- the functions that read the top value first
-  top-op : (k : ℕ) (d : Val → Did) → opAt p (f .place) ≡ k → takenAt p (f .place) ≡ 1
+  pub top-op : (k : ℕ) (d : Val → Did) → opAt p (f .place) ≡ k → takenAt p (f .place) ≡ 1
       → ((u : Value) (us : List Value) → f .pending ≡ u ∷ us → isEmpty u ≡ false → Good (doingOf k (scene 1 (u ∷ us))) (d (valOf u)))
       → Good act (unlessEmpty (valueAt w (topAt hd 1)) w (d (valueAt w (topAt hd 1))))
   top-op k d e t g =
@@ -466,3 +471,223 @@ module _ (p : List ℕ) (kept : Kept p) (outcomes : List ℕ) (s : State) (f : F
   less-agrees e =
       ints-op 22 (λ b x y. pushes b (bool (ltZ x y))) (λ x y. did 0 (overTwo w hd (boolVal (bit (ltb (biased x) (biased y)))))) e (taken-by 22 e) (λ b. refl)
       (λ x y us q hx hy. test-good (ltb (biased (word32 x)) (biased (word32 y))) (ltZ x y) (int y) (int x) us (less-same x y hx hy) q)
+
+  -- CALL
+
+  -- the method that instruction place belongs to is the frame's
+  pub owner-is : ownerOf p (f .place) ≡ f .method
+  owner-is = inside-owner p kept (record { method = sound .0 .method; behind = sound .0 .behind; ahead = sound .0 .inside })
+
+  any-taken : (vs : List Value) (j : ℕ) → j < length vs → any isEmpty (take (suc j) vs) ≡ (any isEmpty (take j vs) || isEmpty (getD vs j empty))
+  any-taken [] j h = absurd (not-suc-le-zero h)
+  any-taken (v ∷ vs) zero h = or-false (isEmpty v)
+    where
+      or-false : (b : Bool) → (b || false) ≡ b
+      or-false true = refl
+      or-false false = refl
+  any-taken (v ∷ vs) (suc j) h = ap (λ (b : Bool). isEmpty v || b) (any-taken vs j (le-of-suc-le-suc h)) ∙ or-assoc (isEmpty v) (any isEmpty (take j vs)) (isEmpty (getD vs j empty))
+    where
+      or-assoc : (x y z : Bool) → (x || (y || z)) ≡ ((x || y) || z)
+      or-assoc true y z = refl
+      or-assoc false y z = refl
+
+  -- looking through the arguments
+  empty-args : (n : ℕ) → n ≤ length (f .pending) → emptyDown w (topAt hd 1) n ≡ any isEmpty (take n (f .pending))
+  unfolding emptyDown topAt valueAt
+  empty-args zero h = refl
+  empty-args (suc j) h =
+      ap₂ _||_ (empty-args j (le-of-suc-le h))
+      (ap (λ (i : ℕ). eqb (getD w i 0) 0) {x = topAt hd 1 - 2 * j} {y = topAt hd (suc j)} (omega arith)
+      ∙ ap (λ (v : Val). eqb (v .tag) 0) (top-read p kept (s .config) f fs sound deep j h)
+      ∙ tag-test (getD (f .pending) j empty))
+      ∙ sym (any-taken (f .pending) j h)
+
+  call-method : opAt p (f .place) ≡ 12 → paramsOf p a ≤ 8
+  unfolding opOf ops opCall
+  call-method e = kept .rows a (ltb→lt a (methods p) (argument-kept 12 e)) .params
+
+  pub call-agrees : opAt p (f .place) ≡ 12 → Good act (callOp p w hd a)
+  unfolding callOp doingOf doings doCall opOf ops opCall
+  call-agrees e =
+      ⊎-elim (λ t. enough (leb-true n (length (f .pending)) t))
+      (λ t. by (act-short 12 n e (taken-by 12 e) (leb-false n (length (f .pending)) t)) refl (λ h. tt))
+      (decide (leb n (length (f .pending))))
+    where
+      n : ℕ
+      n = paramsOf p a
+
+      starts : Act
+      starts = goes (started p a (reverse (take n (f .pending))) ∷ atPlace (suc (f .place)) (withPending (drop n (f .pending)) f) ∷ fs) [] 0
+
+      room-test : (b : Bool) → ltb (suc (length fs)) 8 ≡ b → n ≤ length (f .pending)
+          → Good (cond b starts (faults 25)) (cond (leb 8 (suc (length fs))) (did 25 w) (did 0 (opened p w hd a n)))
+      room-test true t l h =
+          ap (λ (b : Bool). cond b (did 25 w) (did 0 (opened p w hd a n))) (lt-leb 8 (suc (length fs)) (ltb-true (suc (length fs)) 8 t))
+          ∙ ap (did 0) (opened-words p kept (s .config) f fs sound deep (ltb-true (suc (length fs)) 8 t) a n (call-method e) l)
+      room-test false t l h =
+          ap (λ (b : Bool). cond b (did 25 w) (did 0 (opened p w hd a n))) (le-leb 8 (suc (length fs)) (ltb-false (suc (length fs)) 8 t))
+
+      full-test : (b : Bool) → any isEmpty (take n (f .pending)) ≡ b → n ≤ length (f .pending)
+          → Good (cond b (faults 20) (cond (ltb (suc (length fs)) 8) starts (faults 25)))
+          (cond b (did 20 w) (cond (leb 8 (suc (length fs))) (did 25 w) (did 0 (opened p w hd a n))))
+      full-test true t l h = refl
+      full-test false t l h = room-test (ltb (suc (length fs)) 8) refl l h
+
+      enough : n ≤ length (f .pending) → Good act (callOp p w hd a)
+      enough l =
+          by
+          (act-is 12 n (f .pending) e (taken-by 12 e) refl
+          ∙ ap (λ (b : Bool). cond b (cond (any isEmpty (take n (f .pending))) (faults 20) (cond (ltb (suc (length fs)) 8) starts (faults 25))) stuck) (le-leb n (length (f .pending)) l))
+          (ap (λ (b : Bool). cond b (did 20 w) (cond (leb 8 (suc (length fs))) (did 25 w) (did 0 (opened p w hd a n)))) (empty-args n l))
+          (full-test (any isEmpty (take n (f .pending))) refl l)
+
+-- RET, by whether the frame has a caller
+
+returned-none : length (returned 0) ≡ 0
+unfolding returned
+returned-none = refl
+
+returned-one : (t : ℕ) → eqb t 0 ≡ false → length (returned t) ≡ 1
+unfolding returned
+returned-one t e = ap (λ (b : Bool). length (cond b [] (t ∷ []))) e
+
+module _ (p : List ℕ) (kept : Kept p) (outcomes : List ℕ) (s : State) (f : Frame) where
+  -- a return of vs into the frames fs
+  abbrev Returns : List Value → (fs : List Frame) → All (FrameSound p (s .config)) (f ∷ fs) → length fs < 8 → Did → Type 0
+  Returns vs fs sound deep d = Height (returnTo vs fs) → Agrees (returnTo vs fs) (processWords (runs (f ∷ fs))) d
+
+  void-return : (fs : List Frame) (sound : All (FrameSound p (s .config)) (f ∷ fs)) (deep : length fs < 8)
+      → Returns [] fs sound deep
+      (cond (eqb (suc (length fs)) 1) (did 113 (processWords (runs (f ∷ fs)))) (did 0 (closed (processWords (runs (f ∷ fs))) (head p kept (s .config) f fs sound deep))))
+  void-return [] sound deep h = refl
+  void-return (g ∷ gs) sound deep h =
+      ap (λ (b : Bool). cond b (did 113 (processWords (runs (f ∷ g ∷ gs)))) (did 0 (closed (processWords (runs (f ∷ g ∷ gs))) (head p kept (s .config) f (g ∷ gs) sound deep))))
+      (ne-eqb (suc (suc (length gs))) 1 (λ e. omega arith))
+      ∙ ap (did 0) (closed-words p kept (s .config) f g gs sound deep)
+
+  value-return : (u : Value) (fs : List Frame) (sound : All (FrameSound p (s .config)) (f ∷ fs)) (deep : length fs < 8)
+      → Returns (u ∷ []) fs sound deep
+      (cond (eqb (suc (length fs)) 1) (did 113 (processWords (runs (f ∷ fs)))) (did 0 (handed (closed (processWords (runs (f ∷ fs))) (head p kept (s .config) f fs sound deep)) (valOf u))))
+  value-return u [] sound deep h = refl
+  value-return u (g ∷ gs) sound deep h =
+      ap (λ (b : Bool). cond b (did 113 (processWords (runs (f ∷ g ∷ gs)))) (did 0 (handed (closed (processWords (runs (f ∷ g ∷ gs))) (head p kept (s .config) f (g ∷ gs) sound deep)) (valOf u))))
+      (ne-eqb (suc (suc (length gs))) 1 (λ e. omega arith))
+      ∙ ap (did 0)
+      (ap (λ (l : List ℕ). handed l (valOf u)) (closed-words p kept (s .config) f g gs sound deep)
+      ∙ handed-words p kept (s .config) f g gs sound deep u h)
+
+  pub ret-agrees : (fs : List Frame) (sound : All (FrameSound p (s .config)) (f ∷ fs)) (deep : length fs < 8) (small : argAt p (f .place) < 65536)
+      → opAt p (f .place) ≡ 13
+      → Good p kept outcomes s f fs sound deep small (atFrame p outcomes s f fs) (retOp p (processWords (runs (f ∷ fs))) (head p kept (s .config) f fs sound deep))
+  unfolding retOp doingOf doings doRet opOf ops opRet
+  ret-agrees fs sound deep small e =
+      ⊎-elim (λ t. void (eqb-true (returnOf p (f .method)) 0 t) t) (λ t. valued t) (decide (eqb (returnOf p (f .method)) 0))
+    where
+      w : List ℕ
+      w = processWords (runs (f ∷ fs))
+
+      hd : Head
+      hd = head p kept (s .config) f fs sound deep
+
+      taken : takenAt p (f .place) ≡ length (returned (returnOf p (f .method)))
+      taken = taken-by p kept outcomes s f fs sound deep small 13 e ∙ ap (λ (m : ℕ). length (returned (returnOf p m))) (owner-is p kept outcomes s f fs sound deep small)
+
+      none-taken : returnOf p (f .method) ≡ 0 → takenAt p (f .place) ≡ 0
+      none-taken z = taken ∙ ap (λ (t : ℕ). length (returned t)) z ∙ returned-none
+
+      one-taken : eqb (returnOf p (f .method)) 0 ≡ false → takenAt p (f .place) ≡ 1
+      one-taken t = taken ∙ returned-one (returnOf p (f .method)) t
+
+      void : returnOf p (f .method) ≡ 0 → eqb (returnOf p (f .method)) 0 ≡ true → Good p kept outcomes s f fs sound deep small (atFrame p outcomes s f fs) (retOp p w hd)
+      void z t =
+          by p kept outcomes s f fs sound deep small
+          (act-zero p kept outcomes s f fs sound deep small 13 e (none-taken z))
+          (ap (λ (b : Bool). cond b (cond (eqb (suc (length fs)) 1) (did 113 w) (did 0 (closed w hd))) (unlessEmpty (valueAt w (topAt hd 1)) w (cond (eqb (suc (length fs)) 1) (did 113 w) (did 0 (handed (closed w hd) (valueAt w (topAt hd 1))))))) t)
+          (void-return fs sound deep)
+
+      valued : eqb (returnOf p (f .method)) 0 ≡ false → Good p kept outcomes s f fs sound deep small (atFrame p outcomes s f fs) (retOp p w hd)
+      valued t =
+          as-did p kept outcomes s f fs sound deep small (atFrame p outcomes s f fs)
+          (ap (λ (b : Bool). cond b (cond (eqb (suc (length fs)) 1) (did 113 w) (did 0 (closed w hd))) (unlessEmpty (valueAt w (topAt hd 1)) w (cond (eqb (suc (length fs)) 1) (did 113 w) (did 0 (handed (closed w hd) (valueAt w (topAt hd 1))))))) t)
+          (top-op p kept outcomes s f fs sound deep small 13 (λ v. cond (eqb (suc (length fs)) 1) (did 113 w) (did 0 (handed (closed w hd) v))) e (one-taken t)
+          (λ u us q n. value-return u fs sound deep))
+
+-- one step
+
+-- the ops that reach beyond the process or write a line, and so are left to the caller
+abbrev pub isLeft : ℕ → Bool
+isLeft op =
+    getD
+    (false ∷ false ∷ false ∷ false ∷ false ∷ false ∷ false ∷ true ∷ true ∷ false ∷ true ∷ true ∷ false ∷ false ∷ true ∷ true ∷ true ∷ [])
+    op
+    false
+
+left-answers : (p w : List ℕ) (h : Head) (op a : ℕ) → isLeft op ≡ true → actOp p w h op a ≡ did (100 + op) w
+unfolding actOp opFunctions
+left-answers p w h zero a t = absurd (true≢false (sym t))
+left-answers p w h (suc zero) a t = absurd (true≢false (sym t))
+left-answers p w h (suc (suc zero)) a t = absurd (true≢false (sym t))
+left-answers p w h (suc (suc (suc zero))) a t = absurd (true≢false (sym t))
+left-answers p w h (suc (suc (suc (suc zero)))) a t = absurd (true≢false (sym t))
+left-answers p w h (suc (suc (suc (suc (suc zero))))) a t = absurd (true≢false (sym t))
+left-answers p w h (suc (suc (suc (suc (suc (suc zero)))))) a t = absurd (true≢false (sym t))
+left-answers p w h (suc (suc (suc (suc (suc (suc (suc zero))))))) a t = refl
+left-answers p w h (suc (suc (suc (suc (suc (suc (suc (suc zero)))))))) a t = refl
+left-answers p w h (suc (suc (suc (suc (suc (suc (suc (suc (suc zero))))))))) a t = absurd (true≢false (sym t))
+left-answers p w h (suc (suc (suc (suc (suc (suc (suc (suc (suc (suc zero)))))))))) a t = refl
+left-answers p w h (suc (suc (suc (suc (suc (suc (suc (suc (suc (suc (suc zero))))))))))) a t = refl
+left-answers p w h (suc (suc (suc (suc (suc (suc (suc (suc (suc (suc (suc (suc zero)))))))))))) a t = absurd (true≢false (sym t))
+left-answers p w h (suc (suc (suc (suc (suc (suc (suc (suc (suc (suc (suc (suc (suc zero))))))))))))) a t = absurd (true≢false (sym t))
+left-answers p w h (suc (suc (suc (suc (suc (suc (suc (suc (suc (suc (suc (suc (suc (suc zero)))))))))))))) a t = refl
+left-answers p w h (suc (suc (suc (suc (suc (suc (suc (suc (suc (suc (suc (suc (suc (suc (suc zero))))))))))))))) a t = refl
+left-answers p w h (suc (suc (suc (suc (suc (suc (suc (suc (suc (suc (suc (suc (suc (suc (suc (suc zero)))))))))))))))) a t = refl
+left-answers p w h (suc (suc (suc (suc (suc (suc (suc (suc (suc (suc (suc (suc (suc (suc (suc (suc (suc k))))))))))))))))) a t = absurd (true≢false (sym t))
+
+module _ (p : List ℕ) (kept : Kept p) (outcomes : List ℕ) (s : State) (f : Frame) (fs : List Frame)
+    (sound : All (FrameSound p (s .config)) (f ∷ fs)) (deep : length fs < 8) (small : argAt p (f .place) < 65536) where
+  -- a running process's step is its op's function
+  step-is : stepOp p (processWords (runs (f ∷ fs)))
+      ≡ actOp p (processWords (runs (f ∷ fs))) (head p kept (s .config) f fs sound deep) (opAt p (f .place)) (argAt p (f .place))
+  unfolding stepOp
+  step-is =
+      ap (λ (h : Head). cond (eqb (h .status) 1) (actOp p (processWords (runs (f ∷ fs))) h (opAt p (h .place)) (argAt p (h .place))) (did 1 (processWords (runs (f ∷ fs)))))
+      (head-is p kept (s .config) f fs sound deep)
+
+  -- an op that is left answers 100 and its number
+  pub step-left : isLeft (opAt p (f .place)) ≡ true → stepOp p (processWords (runs (f ∷ fs))) ≡ did (100 + opAt p (f .place)) (processWords (runs (f ∷ fs)))
+  step-left t = step-is ∙ left-answers p (processWords (runs (f ∷ fs))) (head p kept (s .config) f fs sound deep) (opAt p (f .place)) (argAt p (f .place)) t
+
+  op-agrees : (op : ℕ) → opAt p (f .place) ≡ op → isLeft op ≡ false
+      → Good p kept outcomes s f fs sound deep small (atFrame p outcomes s f fs) (actOp p (processWords (runs (f ∷ fs))) (head p kept (s .config) f fs sound deep) op (argAt p (f .place)))
+  unfolding actOp opFunctions intOp boolOp clearOp opOf ops unlisted
+  op-agrees zero e t = absurd (argument-kept p kept outcomes s f fs sound deep small 0 e)
+  op-agrees (suc zero) e t = int-agrees p kept outcomes s f fs sound deep small e
+  op-agrees (suc (suc zero)) e t = bool-agrees p kept outcomes s f fs sound deep small e
+  op-agrees (suc (suc (suc zero))) e t = get-agrees p kept outcomes s f fs sound deep small e
+  op-agrees (suc (suc (suc (suc zero)))) e t = put-agrees p kept outcomes s f fs sound deep small e
+  op-agrees (suc (suc (suc (suc (suc zero))))) e t = drop-agrees p kept outcomes s f fs sound deep small e
+  op-agrees (suc (suc (suc (suc (suc (suc zero)))))) e t = clear-agrees p kept outcomes s f fs sound deep small e
+  op-agrees (suc (suc (suc (suc (suc (suc (suc zero))))))) e t = absurd (true≢false t)
+  op-agrees (suc (suc (suc (suc (suc (suc (suc (suc zero)))))))) e t = absurd (true≢false t)
+  op-agrees (suc (suc (suc (suc (suc (suc (suc (suc (suc zero))))))))) e t = end-agrees p kept outcomes s f fs sound deep small e
+  op-agrees (suc (suc (suc (suc (suc (suc (suc (suc (suc (suc zero)))))))))) e t = absurd (true≢false t)
+  op-agrees (suc (suc (suc (suc (suc (suc (suc (suc (suc (suc (suc zero))))))))))) e t = absurd (true≢false t)
+  op-agrees (suc (suc (suc (suc (suc (suc (suc (suc (suc (suc (suc (suc zero)))))))))))) e t = call-agrees p kept outcomes s f fs sound deep small e
+  op-agrees (suc (suc (suc (suc (suc (suc (suc (suc (suc (suc (suc (suc (suc zero))))))))))))) e t = ret-agrees p kept outcomes s f fs sound deep small e
+  op-agrees (suc (suc (suc (suc (suc (suc (suc (suc (suc (suc (suc (suc (suc (suc zero)))))))))))))) e t = absurd (true≢false t)
+  op-agrees (suc (suc (suc (suc (suc (suc (suc (suc (suc (suc (suc (suc (suc (suc (suc zero))))))))))))))) e t = absurd (true≢false t)
+  op-agrees (suc (suc (suc (suc (suc (suc (suc (suc (suc (suc (suc (suc (suc (suc (suc (suc zero)))))))))))))))) e t = absurd (true≢false t)
+  op-agrees (suc (suc (suc (suc (suc (suc (suc (suc (suc (suc (suc (suc (suc (suc (suc (suc (suc zero))))))))))))))))) e t = jump-agrees p kept outcomes s f fs sound deep small e
+  op-agrees (suc (suc (suc (suc (suc (suc (suc (suc (suc (suc (suc (suc (suc (suc (suc (suc (suc (suc zero)))))))))))))))))) e t = jfalse-agrees p kept outcomes s f fs sound deep small e
+  op-agrees (suc (suc (suc (suc (suc (suc (suc (suc (suc (suc (suc (suc (suc (suc (suc (suc (suc (suc (suc zero))))))))))))))))))) e t = add-agrees p kept outcomes s f fs sound deep small e
+  op-agrees (suc (suc (suc (suc (suc (suc (suc (suc (suc (suc (suc (suc (suc (suc (suc (suc (suc (suc (suc (suc zero)))))))))))))))))))) e t = sub-agrees p kept outcomes s f fs sound deep small e
+  op-agrees (suc (suc (suc (suc (suc (suc (suc (suc (suc (suc (suc (suc (suc (suc (suc (suc (suc (suc (suc (suc (suc zero))))))))))))))))))))) e t = eq-agrees p kept outcomes s f fs sound deep small e
+  op-agrees (suc (suc (suc (suc (suc (suc (suc (suc (suc (suc (suc (suc (suc (suc (suc (suc (suc (suc (suc (suc (suc (suc zero)))))))))))))))))))))) e t = less-agrees p kept outcomes s f fs sound deep small e
+  op-agrees (suc (suc (suc (suc (suc (suc (suc (suc (suc (suc (suc (suc (suc (suc (suc (suc (suc (suc (suc (suc (suc (suc (suc zero))))))))))))))))))))))) e t = not-agrees p kept outcomes s f fs sound deep small e
+  op-agrees (suc (suc (suc (suc (suc (suc (suc (suc (suc (suc (suc (suc (suc (suc (suc (suc (suc (suc (suc (suc (suc (suc (suc (suc k)))))))))))))))))))))))) e t = absurd (argument-kept p kept outcomes s f fs sound deep small (suc (suc (suc (suc (suc (suc (suc (suc (suc (suc (suc (suc (suc (suc (suc (suc (suc (suc (suc (suc (suc (suc (suc (suc k)))))))))))))))))))))))) e)
+
+  -- any other op does what the definitions say
+  pub step-agrees : isLeft (opAt p (f .place)) ≡ false → Height (atFrame p outcomes s f fs)
+      → Agrees (atFrame p outcomes s f fs) (processWords (runs (f ∷ fs))) (stepOp p (processWords (runs (f ∷ fs))))
+  step-agrees t h =
+      subst (Agrees (atFrame p outcomes s f fs) (processWords (runs (f ∷ fs)))) (sym step-is) (op-agrees (opAt p (f .place)) refl t h)

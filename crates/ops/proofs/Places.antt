@@ -60,7 +60,7 @@ module _ (p : List ℕ) (kept : Kept p) (c : Config) (f : Frame) (fs : List Fram
   words-part : words ≡ stretches (headWords f) (frameValues f)
   words-part = process-part f fs
 
-  place-small : f .place < 4096
+  pub place-small : f .place < 4096
   place-small = omega (arith, sound .0 .inside, end-within p kept (f .method) (sound .0 .method), kept .sizes .instructions-most)
 
   pub head-is : headOf words ≡ head
@@ -248,3 +248,12 @@ module _ (p : List ℕ) (kept : Kept p) (c : Config) (f : Frame) (fs : List Fram
   pub move-words : (i : ℕ) → putTop words (movedTo head i) ≡ processWords (runs (atPlace i f ∷ fs))
   unfolding movedTo frameValues
   move-words i = frame-put (atPlace i f) words (movedTo head i) long words-part refl refl refl refl
+
+  -- a value pushed, the frame staying where it stands
+  pub push-back : (v : Value) → length (f .pending) < 8
+      → putTop (putValue words (topAt head 0) (valOf v)) (pushed head) ≡ processWords (runs (push v f ∷ fs))
+  unfolding topAt pushed
+  push-back v h =
+      one-write (push v f) (topAt head 0) (32 + 2 * length (f .pending)) v (pushed head) (omega arith) (omega arith)
+      (frame-push f (sound .0 .width) (32 + 2 * length (f .pending)) v h refl)
+      refl refl refl (mod-eq-of-lt (omega arith) ∙ omega arith)

@@ -1,5 +1,5 @@
 -- What an op's function has done at its returns, from what its callees did and how its tests came out.
-use Prim.Native.Nat.{ℕ, _%_, _≤_, _<_}
+use Prim.Native.Nat.{ℕ, _+_, _*_, _%_, _≤_, _<_}
 use mathlib.Core.Path.{_≡_, refl, sym, _∙_, ap, ap₂}
 use mathlib.Core.Bool.{Bool, true, false, cond}
 use mathlib.Core.List.{List}
@@ -7,8 +7,10 @@ use lib.Dec.{eqb}
 use borrow.Author.Tests.{eq-eqb, ne-eqb, lt-ltb, le-ltb, le-leb, lt-leb}
 use Rattle.store.specs.declared.values.Val.{Val}
 use Rattle.store.specs.declared.head.Head.{Head}
-use Rattle.store.specs.Words.{valueAt, topAt}
-use Rattle.ops.specs.Did.{Did, did, intVal, unlessEmpty, overTwo, emptyTwo, twoOp, resultOp}
+use native.Mathlib.Omega.{arith}
+use Rattle.table.specs.Table.{word, methods, opAt, argAt}
+use Rattle.store.specs.Words.{valueAt, topAt, headOf}
+use Rattle.ops.specs.Did.{Did, did, intVal, unlessEmpty, overTwo, emptyTwo, twoOp, resultOp, actOp, stepOp}
 
 -- a value that was read was empty
 pub empty-stops : {u : Val} (v : Val) (w : List ℕ) (d : Did) → u ≡ v → u .tag ≡ 0 → did 20 w ≡ unlessEmpty v w d
@@ -50,3 +52,23 @@ jfalse-jumps v x y e t p = rw (eq-eqb (v .number) 0 (ap (λ (z : Val). z .number
 
 pub jfalse-goes : {u : Val} {d : Did} (v : Val) (x y : Did) → u ≡ v → (u .number ≡ 0 → ⊥) → d ≡ y → d ≡ cond (eqb (v .number) 0) x y
 jfalse-goes v x y e t p = rw (ne-eqb (v .number) 0 (λ z. t (ap (λ (o : Val). o .number) e ∙ z))) p
+
+-- a test that passed, and one that failed, in front of an answer
+pub took : {A : Type 0} {b : Bool} (t : Bool) (x y : A) {z : A} → b ≡ t → b ≡ true → z ≡ x → z ≡ cond t x y
+took t x y e p q = rw (sym e ∙ p) q
+
+pub passed-by : {A : Type 0} {b : Bool} (t : Bool) (x y : A) {z : A} → b ≡ t → b ≡ false → z ≡ y → z ≡ cond t x y
+passed-by t x y e p q = rw (sym e ∙ p) q
+
+-- a running process acts by the instruction at its place
+pub step-acts : (p w : List ℕ) (start : ℕ) {h : Head} {op a : ℕ} {d : Did} → h ≡ headOf w → h .status ≡ 1 → start ≡ 2 + 20 * methods p
+    → op ≡ word p (start + 2 * h .place) → a ≡ word p (start + 2 * h .place + 1) → d ≡ actOp p w h op a → d ≡ stepOp p w
+unfolding stepOp opAt argAt
+step-acts p w start {h} {op} {a} e r s o i q =
+    took _ _ _ refl (eq-eqb (headOf w .status) 1 (ap (λ (g : Head). g .status) (sym e) ∙ r))
+    (q
+    ∙ ap₂ (λ (x y : ℕ). actOp p w h x y) (o ∙ ap (λ (n : ℕ). word p (n + 2 * h .place)) s) (i ∙ ap (word p) next)
+    ∙ ap (λ (g : Head). actOp p w g (word p (2 + 20 * methods p + 2 * g .place)) (word p (3 + 20 * methods p + 2 * g .place))) e)
+  where
+    next : start + 2 * h .place + 1 ≡ 3 + 20 * methods p + 2 * h .place
+    next = omega (arith, s)

@@ -2,13 +2,13 @@
 -- document 01's ops is proved in proofs/.
 use Prim.Native.Nat.{ℕ, zero, suc, _+_, _*_, _-_, _%_}
 use mathlib.Core.Bool.{Bool, true, false, cond, _||_}
-use mathlib.Core.List.{List}
+use mathlib.Core.List.{List, [], _∷_}
 use lib.ListN.{getD, set}
 use lib.Dec.{eqb, leb, ltb}
-use Rattle.table.specs.Table.{offsetOf}
+use Rattle.table.specs.Table.{offsetOf, returnOf, paramsOf, opAt, argAt}
 use Rattle.store.specs.declared.values.Val.{Val}
 use Rattle.store.specs.declared.head.Head.{Head}
-use Rattle.store.specs.Words.{valueAt, putValue, putTop, slotAt, topAt, movedTo, stepped, pushed, popped}
+use Rattle.store.specs.Words.{valueAt, putValue, headAt, headOf, putTop, slotAt, topAt, movedTo, stepped, pushed, popped, lessBy, emptyDown, movedDown, clearedFrom}
 
 -- the code that a function answers, 0 where the process went on and else a fault, and the words that it leaves
 pub record Did : Type 0 where
@@ -125,3 +125,85 @@ unfoldable pub notOp : List ℕ → Head → Did
 notOp w h =
     unlessEmpty (valueAt w (topAt h 1)) w
     (did 0 (onTop w h (boolVal (bit (eqb (valueAt w (topAt h 1) .number) 0)))))
+
+-- calls
+
+-- where the values of frame number n, counted from 1, stand
+unfoldable pub frameAt : ℕ → ℕ
+frameAt n = 16 + 48 * n
+
+-- frame number n begins in method m; the count of frames says so last
+unfoldable pub begun : List ℕ → List ℕ → ℕ → ℕ → List ℕ
+begun p w n m = set (set (set w (headAt n) m) (headAt n + 1) (offsetOf p m)) 2 n
+
+-- a frame opened for method m, with the n arguments moved into its slots
+unfoldable pub opened : List ℕ → List ℕ → Head → ℕ → ℕ → List ℕ
+opened p w h m n =
+    begun p
+    (putTop (movedDown w (topAt h 1) (frameAt (h .frames + 1)) n n) (stepped (lessBy h n)))
+    (h .frames + 1)
+    m
+
+unfoldable pub callOp : List ℕ → List ℕ → Head → ℕ → Did
+callOp p w h a =
+    cond (emptyDown w (topAt h 1) (paramsOf p a)) (did 20 w)
+    (cond (leb 8 (h .frames)) (did 25 w) (did 0 (opened p w h a (paramsOf p a))))
+
+-- the frame at work closed
+unfoldable pub closed : List ℕ → Head → List ℕ
+closed w h =
+    set (clearedFrom (clearedFrom w (frameAt (h .frames)) 48) (headAt (h .frames)) 3) 2 ((h .frames + 4294967295) % 4294967296)
+
+-- a value handed to the frame that then is at work
+unfoldable pub handed : List ℕ → Val → List ℕ
+handed w v = putTop (putValue w (topAt (headOf w) 0) v) (pushed (headOf w))
+
+-- 113 where the root frame returns
+unfoldable pub retOp : List ℕ → List ℕ → Head → Did
+retOp p w h =
+    cond (eqb (returnOf p (h .method)) 0)
+    (cond (eqb (h .frames) 1) (did 113 w) (did 0 (closed w h)))
+    (unlessEmpty (valueAt w (topAt h 1)) w
+    (cond (eqb (h .frames) 1) (did 113 w) (did 0 (handed (closed w h) (valueAt w (topAt h 1))))))
+
+-- all ops
+
+-- a function of each op by its number: what it does, with the table, the words, the head and the argument. An op that
+-- does more than change its own process, or that writes a line, is left to its caller: it answers 100 and its number.
+-- A number that is no op answers 1, as an idle process does.
+abbrev OpFunction : Type 0
+OpFunction = List ℕ → List ℕ → Head → ℕ → Did
+
+abbrev left : ℕ → OpFunction
+left n p w h a = did (100 + n) w
+
+unfoldable pub noOp : OpFunction
+noOp p w h a = did 1 w
+
+unfoldable pub intOp : OpFunction
+intOp p w h a = did 0 (pushOn w h (intVal (signExtended a)))
+
+unfoldable pub boolOp : OpFunction
+boolOp p w h a = did 0 (pushOn w h (boolVal a))
+
+unfoldable pub clearOp : OpFunction
+clearOp p w h a = did 0 (inSlot w h a none)
+
+unfoldable pub opFunctions : List OpFunction
+opFunctions =
+    noOp
+    ∷ intOp ∷ boolOp
+    ∷ (λ p w h a. getOp w h a) ∷ (λ p w h a. putOp w h a) ∷ (λ p w h a. dropOp w h) ∷ clearOp
+    ∷ left 7 ∷ left 8 ∷ (λ p w h a. endOp w h a) ∷ left 10 ∷ left 11
+    ∷ callOp ∷ (λ p w h a. retOp p w h) ∷ left 14 ∷ left 15 ∷ left 16
+    ∷ jumpOp ∷ jfalseOp
+    ∷ (λ p w h a. addOp w h) ∷ (λ p w h a. subOp w h) ∷ (λ p w h a. eqOp w h) ∷ (λ p w h a. lessOp w h) ∷ (λ p w h a. notOp w h)
+    ∷ []
+
+unfoldable pub actOp : List ℕ → List ℕ → Head → ℕ → ℕ → Did
+actOp p w h op a = getD opFunctions op noOp p w h a
+
+-- one step of a process whose part is w: 1 where it does not run
+unfoldable pub stepOp : List ℕ → List ℕ → Did
+stepOp p w =
+    cond (eqb (headOf w .status) 1) (actOp p w (headOf w) (opAt p (headOf w .place)) (argAt p (headOf w .place))) (did 1 w)

@@ -1,6 +1,6 @@
 // Values pushed, taken and stored. Each function that can fault answers 20 and changes nothing, or 0.
 ghost use mathlib.Core.Path.{_≡_};
-ghost use Rattle.ops.specs.Did.{did, none, pushOn, onTop, dropTop, overTwo, inSlot, getOp, putOp, dropOp, endOp};
+ghost use Rattle.ops.specs.Did.{did, none, pushOn, onTop, dropTop, overTwo, inSlot, signExtended, intOp, boolOp, clearOp, getOp, putOp, dropOp, endOp};
 use store::head::Head;
 use store::head::put_top;
 use store::values::Val;
@@ -47,6 +47,53 @@ pub fn store_slot(w: &mut [u32], h: Head, a: u16, v: Val)
 {
     put_value(w, h.slot(a), v);
     put_top(w, h.step());
+}
+
+// The word of a 16-bit int: "two's complement, -32768 to 32767".
+pub fn extend(a: u16) -> u32
+    ensures { λ r. ⌜ r ≡ signExtended a ⌝ }
+{
+    if a < 32768 {
+        return a as u32;
+    }
+    a as u32 + 4294901760
+}
+
+// INT and BOOL: "push it".
+pub fn op_int(p: &[u16], w: &mut [u32], h: Head, a: u16) -> u32
+    ensures { λ r. ⌜ did r (now (w .exit)) ≡ intOp (now (p .entry)) (now (w .entry)) h a ⌝ }
+{
+    push(
+        w,
+        h,
+        Val {
+            tag: 1,
+            number: extend(a),
+        },
+    );
+    0
+}
+
+pub fn op_bool(p: &[u16], w: &mut [u32], h: Head, a: u16) -> u32
+    ensures { λ r. ⌜ did r (now (w .exit)) ≡ boolOp (now (p .entry)) (now (w .entry)) h a ⌝ }
+{
+    push(
+        w,
+        h,
+        Val {
+            tag: 2,
+            number: a as u32,
+        },
+    );
+    0
+}
+
+// CLEAR: "empty it".
+pub fn op_clear(p: &[u16], w: &mut [u32], h: Head, a: u16) -> u32
+    ensures { λ r. ⌜ did r (now (w .exit)) ≡ clearOp (now (p .entry)) (now (w .entry)) h a ⌝ }
+{
+    store_slot(w, h, a, empty());
+    0
 }
 
 // GET: "push its value".

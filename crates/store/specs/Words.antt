@@ -1,7 +1,9 @@
 -- What the functions over lent words do, as functions on lists of words. These definitions follow the code; what they
 -- mean for a process is proved in proofs/.
 use Prim.Native.Nat.{ℕ, zero, suc, _+_, _*_, _-_, _%_}
+use mathlib.Core.Bool.{Bool, true, false, _||_}
 use mathlib.Core.List.{List}
+use lib.Dec.{eqb}
 use lib.ListN.{getD, set}
 use Rattle.store.specs.declared.values.Val.{Val}
 use Rattle.store.specs.declared.head.Head.{Head}
@@ -80,4 +82,35 @@ popped h = record {
   method = h .method;
   place = h .place;
   pending = word (h .pending + 4294967295);
+}
+
+-- Values one after the other, from the one at `top` down; words cleared.
+
+-- one of the first j is emptied
+unfoldable pub emptyDown : List ℕ → ℕ → ℕ → Bool
+emptyDown w top zero = false
+emptyDown w top (suc j) = emptyDown w top j || eqb (getD w (top - 2 * j) 0) 0
+
+-- a value moved to another place, its old one emptied
+unfoldable pub moveOne : List ℕ → ℕ → ℕ → List ℕ
+moveOne w from to = putValue (putValue w to (valueAt w from)) from (record { tag = 0; number = 0 })
+
+-- the first j of n values moved to places from `to` up, the top one last
+unfoldable pub movedDown : List ℕ → ℕ → ℕ → ℕ → ℕ → List ℕ
+movedDown w top to n zero = w
+movedDown w top to n (suc j) = moveOne (movedDown w top to n j) (top - 2 * j) (to + 2 * (n - suc j))
+
+unfoldable pub clearedFrom : List ℕ → ℕ → ℕ → List ℕ
+clearedFrom w from zero = w
+clearedFrom w from (suc n) = set (clearedFrom w from n) (from + n) 0
+
+-- n pending values fewer
+unfoldable pub lessBy : Head → ℕ → Head
+lessBy h n = record {
+  status = h .status;
+  fault = h .fault;
+  frames = h .frames;
+  method = h .method;
+  place = h .place;
+  pending = word (h .pending + 4294967296 - n);
 }

@@ -1,6 +1,6 @@
 // The head of a process: its state, taken out of its part of the store by value, changed, and put back.
 ghost use mathlib.Core.Path.{_≡_};
-ghost use Rattle.store.specs.Words.{headOf, putTop, slotAt, topAt, stepped, movedTo, pushed, popped};
+ghost use Rattle.store.specs.Words.{headOf, putTop, slotAt, topAt, stepped, movedTo, pushed, popped, lessBy};
 use super::values::get;
 use super::values::low;
 use super::values::put;
@@ -79,6 +79,14 @@ impl Head {
         ensures { λ r. ⌜ r ≡ pushed self ⌝ }
     {
         self.pending = low(self.pending as usize + 1);
+        self
+    }
+
+    // n pending values fewer.
+    pub fn less(mut self, n: u16) -> Head
+        ensures { λ r. ⌜ r ≡ lessBy self n ⌝ }
+    {
+        self.pending = low(self.pending as usize + 4294967296 - n as usize);
         self
     }
 

@@ -1,3 +1,4 @@
 // The work store by words: values, and the head of a process.
+pub mod blocks;
 pub mod head;
 pub mod values;

@@ -1,0 +1,18 @@
+use Rattle.ops.specs.Did.{boolOp, did}
+use mathlib.Core.Path.{ap}
+use borrow.Author.Needs.{needs}
+use Rattle.ops.proofs.moves.op_bool.Statement.{statement}
+use Rattle.ops.proofs.moves.op_bool.Tie as tie
+
+push-requires : tie.Need-push-requires
+push-requires c κs = search needs
+
+same-length : tie.Need-same-length
+same-length c = search needs
+
+returns : tie.Need-returns
+unfolding boolOp
+returns c = ap (did 0) (c .before .before .push .ensures)
+
+pub op-bool-spec : {M : Type 1} → statement M
+op-bool-spec = tie.close (tie.spec push-requires same-length returns)

@@ -1,0 +1,21 @@
+use Rattle.ops.specs.Did.{clearOp, did, inSlot}
+use mathlib.Core.Path.{_∙_, ap}
+use borrow.Author.Needs.{needs}
+use Rattle.ops.proofs.moves.op_clear.Statement.{statement}
+use Rattle.ops.proofs.moves.op_clear.Tie as tie
+
+empty-requires : tie.Need-empty-requires
+empty-requires c κs = search needs
+
+store-slot-requires : tie.Need-store-slot-requires
+store-slot-requires c κs = search needs
+
+same-length : tie.Need-same-length
+same-length c = search needs
+
+returns : tie.Need-returns
+unfolding clearOp
+returns c = ap (did 0) (c .before .before .store-slot .ensures ∙ ap (inSlot (c .before .before .before .before .before .before .before .args .w .now) (c .before .before .before .before .before .before .before .args .h) (c .before .before .before .before .before .before .before .args .a)) (c .before .before .before .empty .ensures))
+
+pub op-clear-spec : {M : Type 1} → statement M
+op-clear-spec = tie.close (tie.spec empty-requires store-slot-requires same-length returns)
