@@ -162,7 +162,7 @@ module _ (p : List ℕ) (c : Config) (pr : Process) (h : ProcessSound p c pr) wh
         h .depth,
       )
 
-  process-length : length (processWords pr) ≡ 512
+  pub process-length : length (processWords pr) ≡ 512
   unfolding processWords
   process-length =
       length-append (stateOf pr ++ headsOf pr) (framesOf pr)

@@ -1,0 +1,20 @@
+-- One law lifts whatever is done to a lent part to the store.
+use Prim.Native.Nat.{ℕ, _+_, _*_, _-_}
+use mathlib.Core.Path.{_≡_, refl, sym, _∙_, ap, ap₂}
+use mathlib.Core.List.{List, _++_}
+use native.Mathlib.Omega.{arith}
+use lib.ListN.{take, drop}
+use borrow.Rule.Slice.PartMut.{midOf, putMid}
+use Rattle.ops.specs.Did.{Did, did}
+use Rattle.parts.specs.Parts.{partAt, partOf, withPart, onPart}
+
+size : (a : ℕ) → a + 512 - a ≡ 512
+size a = omega arith
+
+pub lifted : (work : List ℕ) (n r : ℕ) (ys : List ℕ) (g : List ℕ → Did)
+    → did r ys ≡ g (midOf (512 + 512 * n) (512 + 512 * n + 512 - (512 + 512 * n)) work)
+    → did r (putMid (512 + 512 * n) (512 + 512 * n + 512 - (512 + 512 * n)) work ys) ≡ onPart work n (g (partOf work n))
+unfolding partOf withPart onPart
+lifted work n r ys g e =
+    ap (λ (k : ℕ). did r (putMid (512 + 512 * n) k work ys)) (size (512 + 512 * n))
+    ∙ ap (λ (d : Did). did (d .code) (putMid (512 + 512 * n) 512 work (d .words))) (e ∙ ap (λ (k : ℕ). g (midOf (512 + 512 * n) k work)) (size (512 + 512 * n)))

@@ -1,0 +1,2 @@
+// The processes' parts of the work store.
+pub mod part;

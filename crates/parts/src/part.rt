@@ -1,0 +1,18 @@
+// A process's part, lent on from the middle of the lent words.
+ghost use mathlib.Core.Path.{_≡_};
+ghost use Prim.Native.Nat.{_+_, _*_, _<_, _≤_};
+ghost use lib.ListN.{length};
+ghost use Rattle.table.specs.Table.{methods};
+ghost use Rattle.ops.specs.Did.{did, stepOp};
+ghost use Rattle.parts.specs.Parts.{partOf, onPart};
+use ops::step::step;
+
+// One step of process n; `start` is where the table's instructions begin.
+pub fn step_process(p: &[u16], start: usize, work: &mut [u32], n: u8) -> u32
+    requires { ⌜ (start ≡ 2 + 20 * methods (now p)) × (8192 ≤ length (now work)) × (n < 8) ⌝ }
+    ensures { λ r. ⌜ did r (now (work .exit)) ≡ onPart (now (work .entry)) n (stepOp (now (p .entry)) (partOf (now (work .entry)) n)) ⌝ }
+{
+    let from = 512 + 512 * (n as usize);
+    let to = from + 512;
+    step(p, start, &mut work[from..to])
+}
