@@ -1,2 +1,3 @@
-// Traces read by themselves: the look-up of a qubit's holder, and whether two traces have the same lines. Only the
-// definitions are here so far.
+// Traces: lines written into lent words. The look-up of a qubit's holder and the same-lines answer have their
+// definitions here, and their code is to come.
+pub mod lines;
