@@ -40,7 +40,7 @@ write ws i v = set (set ws i (tagOf v)) (i + 1) (numberOf v)
 -- lists of values
 
 -- the words of values, one after the other
-pub run-of : List Value → List ℕ
+unfoldable pub run-of : List Value → List ℕ
 run-of vs = flatten (map valueWords vs)
 
 pub run-length : (vs : List Value) → length (run-of vs) ≡ 2 * length vs
@@ -144,7 +144,7 @@ set-reverse (u ∷ vs) (suc d) v h =
 -- pending values
 
 -- the words of the pending values of a frame, the lowest first
-pub pending-run : List Value → List ℕ
+unfoldable pub pending-run : List Value → List ℕ
 pending-run vs = run-of (reverse vs)
 
 pub pending-length : (vs : List Value) → length (pending-run vs) ≡ 2 * length vs
@@ -233,7 +233,7 @@ write-left xs ys i v h =
     ∙ set-append-left (set xs i (tagOf v)) ys (i + 1) (numberOf v) (subst (λ (k : ℕ). i + 1 < k) (sym (length-set xs i (tagOf v))) h)
 
 -- the two stretches of a frame's words
-frame-parts : (f : Frame) → frameValues f ≡ padded 32 (run-of (f .slots)) ++ padded 16 (pending-run (f .pending))
+pub frame-parts : (f : Frame) → frameValues f ≡ padded 32 (run-of (f .slots)) ++ padded 16 (pending-run (f .pending))
 unfolding frameValues run-of pending-run
 frame-parts f = refl
 

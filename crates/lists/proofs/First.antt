@@ -1,15 +1,16 @@
 -- Tests at the indices below a number: the laws of `firstFalse`, `allBelow`, `firstSome` and `below`.
 -- `firstFalse f n` is the one number up to n below which every test passes and at which, if it is below n, the test fails.
-use Prim.Native.Nat.{ℕ, zero, suc, _≤_, _<_}
+use Prim.Native.Nat.{ℕ, zero, suc, _+_, _≤_, _<_}
 use native.Mathlib.Omega.{arith}
 use native.Mathlib.Nat.{eq-or-lt-of-le, le-of-suc-le-suc}
+use native.Mathlib.Numerals.{add-one}
 use mathlib.Core.Logic.{_⊎_, inl, inr}
-use mathlib.Core.Bool.{Bool, true, false}
+use mathlib.Core.Bool.{Bool, true, false, _&&_}
 use mathlib.Core.Path.{_≡_, refl, sym, subst}
 use mathlib.Core.List.{[], _∷_}
 use mathlib.Core.Option.{Option, none, some}
 use lib.Dec.{T, ltb}
-use borrow.Author.Tests.{ltb-true, ltb-false}
+use borrow.Author.Tests.{ltb-true, ltb-false, le-ltb}
 use Rattle.lists.specs.Lists.{any, firstFalse, allBelow, firstSome, below}
 use Rattle.lists.proofs.Tests.{cond-each, passes, clash, and-left, and-right, or-left}
 use Rattle.lists.proofs.Any.{any-append-left, any-append-right, firstSome-found}
@@ -59,16 +60,31 @@ firstFalse-first f (suc n) =
     (λ t. let past = ltb-false i n t in
     cond-each (IsFirst f (suc n)) (f n) (first-passes f n i h past) (first-fails f n i h past))
 
--- every test passes where none is found to fail
-pub firstFalse-all : (f : ℕ → Bool) (n : ℕ) → n ≤ firstFalse f n → (i : ℕ) → i < n → f i ≡ true
-firstFalse-all f n h i k = firstFalse-first f n .passes i (omega arith)
-
 -- there is only one first
 first-not-below : (f : ℕ → Bool) (n i j : ℕ) → IsFirst f n i → IsFirst f n j → ¬ (i < j)
 first-not-below f n i j h k l = clash (h .fails (omega arith)) (passes (k .passes i l))
 
 pub first-unique : {f : ℕ → Bool} {n i j : ℕ} → IsFirst f n i → IsFirst f n j → i ≡ j
 first-unique {f} {n} {i} {j} h k = omega (arith, first-not-below f n i j h k, first-not-below f n j i k h)
+
+-- a search that looks at one index after the other: `firstFalse f i ≡ i` says that every test below i passes
+pub first-begins : (f : ℕ → Bool) → firstFalse f 0 ≡ 0
+unfolding firstFalse
+first-begins f = refl
+
+pub first-goes-on : (f : ℕ → Bool) (i : ℕ) → firstFalse f i ≡ i → f i ≡ true → firstFalse f (i + 1) ≡ i + 1
+unfolding firstFalse
+first-goes-on f i e t = rw add-one (rw (e, le-ltb i i (omega arith), t))
+
+-- every test below i passes, and the one at i fails or i is the end
+pub first-halts : (f : ℕ → Bool) (n i : ℕ) → firstFalse f i ≡ i → i ≤ n → (i < n → f i ≡ false) → firstFalse f n ≡ i
+first-halts f n i e h t =
+    first-unique (firstFalse-first f n)
+    (record { within = h; passes = λ j l. firstFalse-first f i .passes j (omega arith); fails = t })
+
+-- every test passes where none is found to fail
+pub firstFalse-all : (f : ℕ → Bool) (n : ℕ) → n ≤ firstFalse f n → (i : ℕ) → i < n → f i ≡ true
+firstFalse-all f n h i k = firstFalse-first f n .passes i (omega arith)
 
 -- allBelow
 
@@ -77,6 +93,10 @@ unfolding allBelow
 allBelow-all f zero t i h = absurd (omega arith)
 allBelow-all f (suc n) t i h =
     below-cases (λ j. T (f j)) (allBelow-all f n (and-left (allBelow f n) (f n) t)) (and-right (allBelow f n) (f n) t) h
+
+pub allBelow-next : (f : ℕ → Bool) (n : ℕ) → allBelow f (n + 1) ≡ (allBelow f n && f n)
+unfolding allBelow
+allBelow-next f n = rw add-one refl
 
 -- below
 

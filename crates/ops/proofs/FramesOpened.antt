@@ -24,7 +24,8 @@ use Rattle.store.specs.declared.head.Head.{Head}
 use Rattle.store.specs.Words.{valueAt, putValue, headAt, headOf, putTop, topAt, stepped, pushed, lessBy, emptyDown, moveOne, movedDown, clearedFrom}
 use Rattle.store.proofs.Cleared.{blank, blank-all, values-cleared, heads-cleared}
 use Rattle.ops.specs.Did.{none, frameAt, begun, opened, closed, handed}
-use Rattle.ops.proofs.Places.{valOf, head, head-is, place-small, push-back}
+use Rattle.store.proofs.Vals.{valOf}
+use Rattle.ops.proofs.Places.{head, head-is, place-small, push-back}
 
 -- RET
 

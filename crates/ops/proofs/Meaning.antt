@@ -32,7 +32,8 @@ use Rattle.store.specs.Words.{valueAt, slotAt, topAt, emptyDown}
 use Rattle.ops.specs.Did.{Did, did, none, intVal, boolVal, unlessEmpty, pushOn, onTop, dropTop, dropTo, overTwo, inSlot, signExtended, getOp, putOp, dropOp, endOp, targetOf, jumpOp, jfalseOp, biased, resultOp, emptyTwo, twoOp, addOp, subOp, bit, eqOp, lessOp, notOp, opened, callOp, closed, handed, retOp, intOp, boolOp, clearOp, noOp, opFunctions, actOp, stepOp}
 use Rattle.ops.proofs.Ints.{Shifted, sum-shifted, difference-shifted, less-same, words-same}
 use Rattle.ops.proofs.FramesOpened.{opened-words, closed-words, handed-words}
-use Rattle.ops.proofs.Places.{valOf, head, head-is, words, slot-read, top-read, push-words, slot-words, drop-words, drop-to-words, move-words, top-words, two-words}
+use Rattle.store.proofs.Vals.{valOf}
+use Rattle.ops.proofs.Places.{head, head-is, words, slot-read, top-read, push-words, slot-words, drop-words, drop-to-words, move-words, top-words, two-words}
 
 -- What an act within one process that writes no line leaves, as code and words; the root frame's return is left to the
 -- caller, as 113. No other act agrees with anything.

@@ -20,11 +20,8 @@ use Rattle.layout.proofs.Process.{part, Fitting, headsBelow, valuesBelow, proce
 use Rattle.store.specs.declared.values.Val.{Val}
 use Rattle.store.specs.declared.head.Head.{Head}
 use Rattle.store.specs.Words.{valueAt, putValue, headAt, headOf, putTop, slotAt, topAt, movedTo, stepped, pushed, popped}
+use Rattle.store.proofs.Vals.{valOf}
 use Rattle.ops.specs.Did.{none, pushOn, onTop, dropTop, dropTo, overTwo, inSlot}
-
--- a value as the store has it
-unfoldable pub valOf : Value → Val
-valOf v = record { tag = tagOf v; number = numberOf v }
 
 module _ (p : List ℕ) (kept : Kept p) (c : Config) (f : Frame) (fs : List Frame) (sound : All (FrameSound p c) (f ∷ fs)) (deep : length fs < 8) where
   -- the words of the process, its head, and how its stretches fit

@@ -2,7 +2,7 @@
 use Prim.Native.Nat.{ℕ, zero, suc, _+_, _*_, _-_, _≤_, _<_}
 use mathlib.Core.Path.{_≡_, refl, sym, _∙_, ap, ap₂}
 use mathlib.Core.Logic.{_⊎_, inl, inr, ⊎-elim}
-use mathlib.Core.Bool.{Bool, true, false, _||_}
+use mathlib.Core.Bool.{Bool, true, false, cond, _||_}
 use mathlib.Core.List.{List}
 use native.Mathlib.Nat.{le-of-suc-le-suc, not-suc-le-zero, eq-or-lt-of-le}
 use native.Mathlib.Numerals.{add-one}
@@ -12,7 +12,7 @@ use native.Mathlib.Omega.{arith}
 use lib.ListN.{getD, set, length, List·getD-eq-default}
 use lib.Seq.{set-out}
 use Rattle.store.specs.declared.values.Val.{Val}
-use Rattle.store.specs.Words.{valueAt, putValue, emptyDown, moveOne, movedDown, clearedFrom}
+use Rattle.store.specs.Words.{valueAt, putValue, emptyDown, moveOne, movedDown, clearedFrom, lostVal, emptiedOne, emptiedBy}
 
 pub value-beyond : (w : List ℕ) (i : ℕ) → length w ≤ i → record { tag = 0; number = 0 } ≡ valueAt w i
 unfolding valueAt
@@ -67,3 +67,18 @@ moved-more w top to n j h e p q =
 pub cleared-more : (w : List ℕ) (from i : ℕ) {u u′ : List ℕ} → u ≡ clearedFrom w from i → u′ ≡ set u (from + i) 0 → u′ ≡ clearedFrom w from (i + 1)
 unfolding clearedFrom
 cleared-more w from i e q = q ∙ ap (λ (l : List ℕ). set l (from + i) 0) e ∙ sym (ap (clearedFrom w from) (add-one i))
+
+-- values emptied
+
+pub one-emptied : (w : List ℕ) (t : Val) (i : ℕ) {v u : Val} {b : Bool} {w′ : List ℕ} → v ≡ valueAt w i → b ≡ lostVal t v → b ≡ true
+    → u ≡ record { tag = 0; number = 0 } → w′ ≡ putValue w i u → w′ ≡ emptiedOne w t i
+unfolding emptiedOne
+one-emptied w t i e l p q r = r ∙ ap (putValue w i) q ∙ sym (ap (λ (b : Bool). cond b (putValue w i (record { tag = 0; number = 0 })) w) (ap (lostVal t) (sym e) ∙ sym l ∙ p))
+
+pub one-kept : (w : List ℕ) (t : Val) (i : ℕ) {v : Val} {b : Bool} → v ≡ valueAt w i → b ≡ lostVal t v → b ≡ false → w ≡ emptiedOne w t i
+unfolding emptiedOne
+one-kept w t i e l p = sym (ap (λ (b : Bool). cond b (putValue w i (record { tag = 0; number = 0 })) w) (ap (lostVal t) (sym e) ∙ sym l ∙ p))
+
+pub emptied-more : (w : List ℕ) (t : Val) (j : ℕ) {u u′ : List ℕ} → u ≡ emptiedBy w t j → u′ ≡ emptiedOne u t (64 + 2 * j) → u′ ≡ emptiedBy w t (j + 1)
+unfolding emptiedBy
+emptied-more w t j e q = q ∙ ap (λ (l : List ℕ). emptiedOne l t (64 + 2 * j)) e ∙ sym (ap (emptiedBy w t) (add-one j))

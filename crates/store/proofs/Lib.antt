@@ -1,2 +1,4 @@
 pub mod Laws
 pub mod Cleared
+pub mod Vals
+pub mod Given

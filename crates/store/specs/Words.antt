@@ -1,9 +1,9 @@
 -- What the functions over lent words do, as functions on lists of words. These definitions follow the code; what they
 -- mean for a process is proved in proofs/.
 use Prim.Native.Nat.{ℕ, zero, suc, _+_, _*_, _-_, _%_}
-use mathlib.Core.Bool.{Bool, true, false, _||_}
+use mathlib.Core.Bool.{Bool, true, false, cond, _&&_, _||_}
 use mathlib.Core.List.{List}
-use lib.Dec.{eqb}
+use lib.Dec.{eqb, leb}
 use lib.ListN.{getD, set}
 use Rattle.store.specs.declared.values.Val.{Val}
 use Rattle.store.specs.declared.head.Head.{Head}
@@ -114,3 +114,18 @@ lessBy h n = record {
   place = h .place;
   pending = word (h .pending + 4294967296 - n);
 }
+
+-- Giving away: a value is lost with the thing t, both by tag and number. Tags 3 qubit, 4 channel, 5 and 6 ends.
+unfoldable pub tagsMeet : ℕ → ℕ → Bool
+tagsMeet a b = eqb a b || (eqb a 4 && (leb 5 b && leb b 6) || eqb b 4 && (leb 5 a && leb a 6))
+
+unfoldable pub lostVal : Val → Val → Bool
+lostVal t v = eqb (v .number) (t .number) && tagsMeet (t .tag) (v .tag)
+
+-- the first j values of a part, those lost with t emptied
+unfoldable pub emptiedOne : List ℕ → Val → ℕ → List ℕ
+emptiedOne w t i = cond (lostVal t (valueAt w i)) (putValue w i (record { tag = 0; number = 0 })) w
+
+unfoldable pub emptiedBy : List ℕ → Val → ℕ → List ℕ
+emptiedBy w t zero = w
+emptiedBy w t (suc j) = emptiedOne (emptiedBy w t j) t (64 + 2 * j)

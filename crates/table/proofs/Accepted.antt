@@ -82,6 +82,13 @@ pub record Sizes (p : List ℕ) : Type 0 where
   pub instructions-most : instructions p ≤ 4096
   pub words : length p ≡ 2 + 20 * methods p + 2 * instructions p
 
+-- Methods lie one behind the other, from the first instruction to the last.
+pub record Pairs (p : List ℕ) : Type 0 where
+  pub first : offsetOf p 0 ≡ 0
+  pub next : (m : ℕ) → suc m < methods p → offsetOf p (suc m) ≡ endOf p m
+  pub filled : (m : ℕ) → m < methods p → 1 ≤ lengthOf p m
+  pub last : (m : ℕ) → suc m ≡ methods p → endOf p m ≡ instructions p
+
 -- Method m's row.
 pub record Row (p : List ℕ) (m : ℕ) : Type 0 where
   pub returns : T (isType (returnOf p m))
@@ -100,11 +107,7 @@ pub record ReadAt (p : List ℕ) (i : ℕ) : Type 0 where
 
 pub record Kept (p : List ℕ) : Type 0 where
   pub sizes : Sizes p
-  -- methods lie one behind the other, from the first instruction to the last
-  pub first : offsetOf p 0 ≡ 0
-  pub next : (m : ℕ) → suc m < methods p → offsetOf p (suc m) ≡ endOf p m
-  pub filled : (m : ℕ) → m < methods p → 1 ≤ lengthOf p m
-  pub last : (m : ℕ) → suc m ≡ methods p → endOf p m ≡ instructions p
+  pub pairs : Pairs p
   pub rows : (m : ℕ) → m < methods p → Row p m
   pub main-params : paramsOf p 0 ≡ 0
   pub main-returns : returnOf p 0 ≡ 0
@@ -113,7 +116,7 @@ pub record Kept (p : List ℕ) : Type 0 where
 
 -- From the tests to the facts
 
-sizes-kept : (p : List ℕ) → T (sizesKept p) → Sizes p
+pub sizes-kept : (p : List ℕ) → T (sizesKept p) → Sizes p
 unfolding sizesKept
 sizes-kept p t =
     let m = and-yes (leb 1 (methods p) && leb (methods p) 32) _ t in
@@ -132,6 +135,16 @@ pair-kept : (p : List ℕ) (m : ℕ) → T (pairKept p m) → (offsetOf p m ≡ 
 unfolding pairKept
 pair-kept p m t = let h = and-yes (eqb (offsetOf p m) (startOf p m)) _ t in (eqb-yes (h .0), leb-yes (h .1))
 
+pub pairs-kept : (p : List ℕ) → Sizes p → ((m : ℕ) → m < methods p → T (pairKept p m))
+    → T (eqb (startOf p (methods p)) (instructions p)) → Pairs p
+unfolding startOf
+pairs-kept p sizes pairs sum = record {
+  first = pair-kept p 0 (pairs 0 (sizes .methods-some)) .0;
+  next = λ m h. pair-kept p (suc m) (pairs (suc m) h) .0;
+  filled = λ m h. pair-kept p m (pairs m h) .1;
+  last = λ m e. eqb-yes (subst (λ n. T (eqb (startOf p n) (instructions p))) (sym e) sum);
+}
+
 -- of two tests, the second fails where both do not pass and the first does
 other-fails : (a b : Bool) → T (not (a && b)) → T a → T (not b)
 other-fails true b t s = t
@@ -144,7 +157,7 @@ slot-kept p m t s l =
     let h = and-yes (isType (slotType p m s)) _ (allBelow-all (slotKept p m) 16 t s l) in
     (h .0, λ k. eqb-no (other-fails (ltb s (paramsOf p m)) _ (h .1) (yes-ltb k)))
 
-row-kept : (p : List ℕ) (m : ℕ) → T (rowKept p m) → Row p m
+pub row-kept : (p : List ℕ) (m : ℕ) → T (rowKept p m) → Row p m
 unfolding rowKept
 row-kept p m t =
     let returns = and-yes (isType (returnOf p m)) _ t in
@@ -180,7 +193,7 @@ implied : (a b : Bool) → T (not a || b) → T a → T b
 implied true b t s = t
 implied false b t s = absurd s
 
-read-kept : (p : List ℕ) (i : ℕ) → T (reads p i) → ReadAt p i
+pub read-kept : (p : List ℕ) (i : ℕ) → T (reads p i) → ReadAt p i
 unfolding reads
 read-kept p i t =
     let finds = and-yes (not (isNone (givenAt p i (before p i)))) _ t in
@@ -198,16 +211,13 @@ read-kept p i t =
     }
 
 tests-kept : (p : List ℕ) → Passed p → Kept p
-unfolding startOf instructionKept
+unfolding instructionKept
 tests-kept p t =
     let sizes = sizes-kept p (t .sizes) in
     let main = main-kept p (t .rows 0 (sizes .methods-some)) in
     record {
       sizes = sizes;
-      first = pair-kept p 0 (t .pairs 0 (sizes .methods-some)) .0;
-      next = λ m h. pair-kept p (suc m) (t .pairs (suc m) h) .0;
-      filled = λ m h. pair-kept p m (t .pairs m h) .1;
-      last = λ m e. eqb-yes (subst (λ n. T (eqb (startOf p n) (instructions p))) (sym e) (t .sum));
+      pairs = pairs-kept p sizes (t .pairs) (t .sum);
       rows = λ m h. row-kept p m (t .rows m h);
       main-params = main .0;
       main-returns = main .1;

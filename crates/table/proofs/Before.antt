@@ -15,7 +15,8 @@ use Rattle.lists.proofs.Tests.{passed, clash, and-both, cond-each}
 use Rattle.lists.proofs.First.{any-below}
 use Rattle.table.specs.Table.{methods, instructions, offsetOf, lengthOf, endOf, argAt, ownerOf}
 use Rattle.table.specs.Reading.{opThere, takenAt, givenAt, after, opens, isLast, before, jumpsTo, isTarget}
-use Rattle.table.proofs.Accepted.{Kept}
+use Rattle.table.proofs.Accepted.{Sizes, Pairs, Kept}
+use Rattle.table.proofs.Owners
 use Rattle.table.proofs.Methods.{Inside, inside-bound, inside-offset, inside-owner}
 
 -- The rule of types at an instruction that finds its operands.
@@ -37,6 +38,14 @@ module _ (p : List ℕ) (i : ℕ) (ts gs : List ℕ) (e : givenAt p i ts ≡ som
   pub given-after : after p i ts ≡ gs ++ drop (takenAt p i) ts
   unfolding after
   given-after = ap (λ o. Option·getD o [] ++ drop (takenAt p i) ts) e
+
+-- from one instruction of a method to the next, once questions 1 and 2 are passed
+pub before-within : (p : List ℕ) → Sizes p → Pairs p → {m i : ℕ} → Inside p m i → Inside p m (suc i)
+    → before p (suc i) ≡ after p i (before p i)
+unfolding before opens
+before-within p s k {m} {i} h n =
+    let shut : suc i ≢ offsetOf p (ownerOf p (suc i)) = λ q. omega (arith, ap (offsetOf p) (Owners.inside-owner p s k n)) in
+    ap (λ b. cond b [] (after p i (before p i))) (ne-eqb (suc i) (offsetOf p (ownerOf p (suc i))) shut)
 
 module _ (p : List ℕ) (k : Kept p) where
   -- where a method starts
@@ -66,10 +75,7 @@ module _ (p : List ℕ) (k : Kept p) where
       record { method = h .method; behind = omega arith; ahead = omega arith }
 
   pub before-next : {m i : ℕ} → Inside p m i → Inside p m (suc i) → before p (suc i) ≡ after p i (before p i)
-  unfolding before opens
-  before-next {m} {i} h n =
-      let shut : suc i ≢ offsetOf p (ownerOf p (suc i)) = λ q. omega (arith, ap (offsetOf p) (inside-owner p k n)) in
-      ap (λ b. cond b [] (after p i (before p i))) (ne-eqb (suc i) (offsetOf p (ownerOf p (suc i))) shut)
+  before-next = before-within p (k .sizes) (k .pairs)
 
   -- where a jump lands
 

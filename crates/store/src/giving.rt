@@ -1,0 +1,42 @@
+// Giving away: "Every slot and every pending value of the giver, in all frames, that holds the thing is emptied."
+ghost use mathlib.Core.Path.{_≡_};
+ghost use Prim.Native.Nat.{_*_};
+ghost use Rattle.store.specs.Words.{tagsMeet, lostVal, emptiedOne, emptiedBy};
+use super::values::Val;
+use super::values::empty;
+use super::values::put_value;
+use super::values::value;
+
+// "Giving an end also empties the channel, not the opposite end. Giving a channel empties channel and both ends."
+pub fn tags_meet(a: u32, b: u32) -> bool
+    ensures { λ r. ⌜ r ≡ tagsMeet a b ⌝ }
+{
+    (a == b) | (((a == 4) & ((5 <= b) & (b <= 6))) | ((b == 4) & ((5 <= a) & (a <= 6))))
+}
+
+pub fn is_lost(t: Val, v: Val) -> bool
+    ensures { λ r. ⌜ r ≡ lostVal t v ⌝ }
+{
+    (v.number == t.number) & tags_meet(t.tag, v.tag)
+}
+
+// The value at i emptied where it is lost with t.
+pub fn empty_one(w: &mut [u32], t: Val, i: usize)
+    ensures { λ r. ⌜ now (w .exit) ≡ emptiedOne (now (w .entry)) t i ⌝ }
+{
+    let v = value(w, i);
+    if is_lost(t, v) {
+        put_value(w, i, empty());
+    }
+}
+
+// The first n values of a process's part, those lost with t emptied.
+pub fn give_away(w: &mut [u32], t: Val, n: u16)
+    ensures { λ r. ⌜ now (w .exit) ≡ emptiedBy (now (w .entry)) t n ⌝ }
+{
+    let mut j: u16 = 0;
+    while j < n {
+        empty_one(w, t, 64 + 2 * (j as usize));
+        j += 1;
+    }
+}
