@@ -1,0 +1,51 @@
+// The C interface, include/lanq.h. Each exported function has the contract of the function that it hands on to, its
+// answer as a struct of numbers. So far it has the check; the run, the look-up and the same-lines answer are to come.
+ghost use mathlib.Core.Path.{_≡_};
+ghost use Rattle.table.specs.Questions.{questions};
+ghost use Rattle.lanq.specs.Answers.{answerOf};
+
+use questions::ask;
+use questions::Check;
+
+// `refused` is 0 where the input is accepted, and else the question's number with its place. Unused fields are 0.
+#[repr(C)]
+pub struct LanqAnswer {
+    pub refused: u64,
+    pub place: u64,
+    pub end: u64,
+    pub entries: u64,
+    pub lines: u64,
+    pub outcomes: u64,
+}
+
+fn refusal(number: u64, place: u64) -> LanqAnswer
+    ensures { λ r. ⌜ r ≡ record { refused = number; place = place; end = 0; entries = 0; lines = 0; outcomes = 0 } ⌝ }
+{
+    LanqAnswer {
+        refused: number,
+        place: place,
+        end: 0,
+        entries: 0,
+        lines: 0,
+        outcomes: 0,
+    }
+}
+
+// The eight questions, for a work store of so many words.
+#[no_mangle]
+pub extern "C" fn lanq_check(program: &[u16], schedule: &[u8], outcomes: &[u8], work: usize) -> LanqAnswer
+    ensures { λ r. ⌜ r ≡ answerOf (questions (now (program .entry)) (now (schedule .entry)) (now (outcomes .entry)) work) ⌝ }
+{
+    let answer = ask(program, schedule, outcomes, work);
+    match answer {
+        Check::Accepted => refusal(0, 0),
+        Check::Sizes => refusal(1, 0),
+        Check::Pairs(m) => refusal(2, m as u64),
+        Check::Rows(m) => refusal(3, m as u64),
+        Check::Instruction(i) => refusal(4, i as u64),
+        Check::Reading(i) => refusal(5, i as u64),
+        Check::Outcome(i) => refusal(6, i as u64),
+        Check::Schedule => refusal(7, 0),
+        Check::Work => refusal(8, 0),
+    }
+}
