@@ -1,2 +1,5 @@
 pub mod Examples
 pub mod LineWritten
+pub mod LinesOf
+pub mod Held
+pub mod SameAll
