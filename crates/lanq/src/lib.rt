@@ -1,11 +1,14 @@
-// The C interface, include/lanq.h. Each exported function has the contract of the function that it hands on to, its
-// answer as a struct of numbers. So far it has the check; the run, the look-up and the same-lines answer are to come.
+// The C interface, include/lanq.h. Each exported function has the contract of the function that it hands on to, the
+// check's answer as a struct of numbers. The run is to come.
 ghost use mathlib.Core.Path.{_≡_};
 ghost use Rattle.table.specs.Questions.{questions};
+ghost use Rattle.trace.specs.Trace.{lookUp, sameLines};
 ghost use Rattle.lanq.specs.Answers.{answerOf};
 
 use questions::ask;
 use questions::Check;
+use trace::lookup::qubit_holder;
+use trace::same::same_lines;
 
 // `refused` is 0 where the input is accepted, and else the question's number with its place. Unused fields are 0.
 #[repr(C)]
@@ -48,4 +51,20 @@ pub extern "C" fn lanq_check(program: &[u16], schedule: &[u8], outcomes: &[u8], 
         Check::Schedule => refusal(7, 0),
         Check::Work => refusal(8, 0),
     }
+}
+
+// The holder of a qubit by the first k lines of a trace, all if there are fewer; 65535 is nobody.
+#[no_mangle]
+pub extern "C" fn lanq_holder(trace: &[u16], k: usize, qubit: u16) -> u16
+    ensures { λ r. ⌜ r ≡ lookUp (now (trace .entry)) k qubit ⌝ }
+{
+    qubit_holder(trace, k, qubit)
+}
+
+// Whether two traces have the same lines, column 0 left out.
+#[no_mangle]
+pub extern "C" fn lanq_same_lines(a: &[u16], b: &[u16]) -> bool
+    ensures { λ r. ⌜ r ≡ sameLines (now (a .entry)) (now (b .entry)) ⌝ }
+{
+    same_lines(a, b)
 }

@@ -1,7 +1,7 @@
 //! Safe bindings of the LanQ process machine, `include/lanq.h`.
 //!
-//! So far the library has the check; the run, the look-up and the same-lines
-//! answer are to come.
+//! So far the library has the check, the look-up and the same-lines answer; the
+//! run is to come.
 //!
 //! ```
 //! // One method, main, that returns at once.
@@ -14,6 +14,12 @@
 //! program.pop();
 //! let refusal = lanq::check(&program, &[0], &[], 8192).unwrap_err();
 //! assert_eq!((refusal.number, refusal.place), (1, 0));
+//!
+//! // Process 2 makes qubit 0 and gives it to process 5.
+//! let trace = [0, 2, 1, 0, 65535, 65535, 1, 2, 6, 5, 3, 0];
+//! assert_eq!(lanq::holder(&trace, 1, 0), Some(2));
+//! assert_eq!(lanq::holder(&trace, 2, 0), Some(5));
+//! assert_eq!(lanq::holder(&trace, 2, 1), None);
 //! ```
 
 /// The question that refused an input, with its place.
@@ -52,6 +58,8 @@ extern "C" {
         outcomes_len: usize,
         work_len: usize,
     ) -> Answer;
+    fn lanq_holder(trace: *const u16, trace_len: usize, k: usize, qubit: u16) -> u16;
+    fn lanq_same_lines(a: *const u16, a_len: usize, b: *const u16, b_len: usize) -> bool;
 }
 
 /// Puts the eight questions about a program table, a schedule, an outcome list
@@ -74,4 +82,18 @@ pub fn check(program: &[u16], schedule: &[u8], outcomes: &[u8], work_len: usize)
         0 => Ok(()),
         number => Err(Refusal { number, place: answer.place }),
     }
+}
+
+/// Who holds a qubit by the first `k` lines of a trace, all its lines if there
+/// are fewer; nobody is the number 65535.
+pub fn holder(trace: &[u16], k: usize, qubit: u16) -> Option<u16> {
+    // The slice outlives the call, and the function only reads it.
+    let number = unsafe { lanq_holder(trace.as_ptr(), trace.len(), k, qubit) };
+    (number != 65535).then_some(number)
+}
+
+/// Whether two traces have the same lines, the entries' numbers left out.
+pub fn same_lines(a: &[u16], b: &[u16]) -> bool {
+    // The slices outlive the call, and the function only reads them.
+    unsafe { lanq_same_lines(a.as_ptr(), a.len(), b.as_ptr(), b.len()) }
 }
