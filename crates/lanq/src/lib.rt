@@ -4,9 +4,8 @@ ghost use mathlib.Core.Path.{_≡_};
 ghost use Rattle.table.specs.Questions.{questions};
 ghost use Rattle.trace.specs.Trace.{lookUp, sameLines};
 ghost use Rattle.lanq.specs.Answers.{answerOf};
-
-use questions::ask;
 use questions::Check;
+use questions::ask;
 use trace::lookup::qubit_holder;
 use trace::same::same_lines;
 
@@ -36,7 +35,12 @@ fn refusal(number: u64, place: u64) -> LanqAnswer
 
 // The eight questions, for a work store of so many words.
 #[no_mangle]
-pub extern "C" fn lanq_check(program: &[u16], schedule: &[u8], outcomes: &[u8], work: usize) -> LanqAnswer
+pub extern "C" fn lanq_check(
+    program: &[u16],
+    schedule: &[u8],
+    outcomes: &[u8],
+    work: usize,
+) -> LanqAnswer
     ensures { λ r. ⌜ r ≡ answerOf (questions (now (program .entry)) (now (schedule .entry)) (now (outcomes .entry)) work) ⌝ }
 {
     let answer = ask(program, schedule, outcomes, work);
