@@ -63,7 +63,7 @@ Height (offers o) = Unit {0}
 
 -- values
 
-tag-test : (v : Value) → eqb (valOf v .tag) 0 ≡ isEmpty v
+pub tag-test : (v : Value) → eqb (valOf v .tag) 0 ≡ isEmpty v
 unfolding valOf tagOf valueWords
 tag-test empty = refl
 tag-test (int z) = refl
@@ -159,7 +159,7 @@ module _ (p : List ℕ) (kept : Kept p) (outcomes : List ℕ) (s : State) (f : F
       act-is k 1 (u ∷ us) e t q
       ∙ ap (λ (b : Bool). cond b (cond (isEmpty u || false) (faults 20) (doingOf k (scene 1 (u ∷ us)))) stuck) (le-leb 1 (suc (length us)) (omega arith))
 
-  act-two : (k : ℕ) (y x : Value) (us : List Value) → opAt p (f .place) ≡ k → takenAt p (f .place) ≡ 2 → f .pending ≡ y ∷ x ∷ us
+  pub act-two : (k : ℕ) (y x : Value) (us : List Value) → opAt p (f .place) ≡ k → takenAt p (f .place) ≡ 2 → f .pending ≡ y ∷ x ∷ us
       → act ≡ cond (isEmpty y || (isEmpty x || false)) (faults 20) (doingOf k (scene 2 (y ∷ x ∷ us)))
   act-two k y x us e t q =
       act-is k 2 (y ∷ x ∷ us) e t q
@@ -216,12 +216,12 @@ module _ (p : List ℕ) (kept : Kept p) (outcomes : List ℕ) (s : State) (f : F
       go (y ∷ x ∷ us) q = by (act-two k y x us e t q) refl (g y x us q)
 
   -- the top value, and the one below it
-  read-top : (u : Value) (us : List Value) → f .pending ≡ u ∷ us → valueAt w (topAt hd 1) ≡ valOf u
+  pub read-top : (u : Value) (us : List Value) → f .pending ≡ u ∷ us → valueAt w (topAt hd 1) ≡ valOf u
   read-top u us q =
       top-read p kept (s .config) f fs sound deep 0 (subst (λ (l : List Value). 0 < length l) (sym q) (omega arith))
       ∙ ap (λ (l : List Value). valOf (getD l 0 empty)) q
 
-  read-second : (y x : Value) (us : List Value) → f .pending ≡ y ∷ x ∷ us → valueAt w (topAt hd 2) ≡ valOf x
+  pub read-second : (y x : Value) (us : List Value) → f .pending ≡ y ∷ x ∷ us → valueAt w (topAt hd 2) ≡ valOf x
   read-second y x us q =
       top-read p kept (s .config) f fs sound deep 1 (subst (λ (l : List Value). 1 < length l) (sym q) (omega arith))
       ∙ ap (λ (l : List Value). valOf (getD l 1 empty)) q

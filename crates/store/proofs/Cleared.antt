@@ -34,6 +34,18 @@ unfolding blank
 blank-all ws n e =
     ap (λ (l : List ℕ). replicate n 0 ++ l) (drop-of-length-le ws {i = n} (omega (arith, e))) ∙ append-nil (replicate n 0)
 
+-- all the words of a list cleared
+pub all-cleared : (ws : List ℕ) (n : ℕ) → length ws ≡ n → clearedFrom ws 0 n ≡ replicate n 0
+unfolding clearedFrom
+all-cleared ws n e = go n (omega (arith, e)) ∙ blank-all ws n e
+  where
+    go : (j : ℕ) → j ≤ length ws → clearedFrom ws 0 j ≡ blank j ws
+    go zero h = blank-none ws
+    go (suc j) h =
+        ap (λ (i : ℕ). set (clearedFrom ws 0 j) i 0) {x = 0 + j} {y = j} (omega arith)
+        ∙ ap (λ (l : List ℕ). set l j 0) (go j (le-of-suc-le h))
+        ∙ blank-more j ws h
+
 pub values-cleared : (n : ℕ) (heads values vs : List ℕ) (from j : ℕ) → length heads ≤ 56 → length (values ++ vs) ≤ 448 → j ≤ length vs
     → from ≡ 64 + length values → clearedFrom (whole n heads (values ++ vs)) from j ≡ whole n heads (values ++ blank j vs)
 unfolding clearedFrom

@@ -84,6 +84,24 @@ popped h = record {
   pending = word (h .pending + 4294967295);
 }
 
+-- a process that has finished has no frames; one that has stopped keeps them
+unfoldable pub finishedHead : Head → Head
+finishedHead h = record { status = 2; fault = 0; frames = 0; method = 0; place = 0; pending = 0 }
+
+unfoldable pub stoppedHead : Head → ℕ → Head
+stoppedHead h n = record {
+  status = 3;
+  fault = n;
+  frames = h .frames;
+  method = h .method;
+  place = h .place;
+  pending = h .pending;
+}
+
+-- the status and the number of frames put back
+unfoldable pub putStatus : List ℕ → Head → List ℕ
+putStatus w h = set (set (set w 0 (h .status)) 1 (h .fault)) 2 (h .frames)
+
 -- Values one after the other, from the one at `top` down; words cleared.
 
 -- one of the first j is emptied

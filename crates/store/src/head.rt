@@ -1,6 +1,6 @@
 // The head of a process: its state, taken out of its part of the store by value, changed, and put back.
 ghost use mathlib.Core.Path.{_≡_};
-ghost use Rattle.store.specs.Words.{headOf, putTop, slotAt, topAt, stepped, movedTo, pushed, popped, lessBy};
+ghost use Rattle.store.specs.Words.{headOf, putTop, slotAt, topAt, stepped, movedTo, pushed, popped, lessBy, finishedHead, stoppedHead, putStatus};
 use super::values::get;
 use super::values::low;
 use super::values::put;
@@ -36,6 +36,15 @@ pub fn put_top(w: &mut [u32], h: Head)
     let at = 4 + 4 * (h.frames as usize);
     put(w, at + 1, h.place);
     put(w, at + 2, h.pending);
+}
+
+// The status and the number of frames, put back.
+pub fn put_status(w: &mut [u32], h: Head)
+    ensures { λ r. ⌜ now (w .exit) ≡ putStatus (now (w .entry)) h ⌝ }
+{
+    put(w, 0, h.status);
+    put(w, 1, h.fault);
+    put(w, 2, h.frames);
 }
 
 impl Head {
@@ -94,6 +103,28 @@ impl Head {
         ensures { λ r. ⌜ r ≡ popped self ⌝ }
     {
         self.pending = low(self.pending as usize + 4294967295);
+        self
+    }
+
+    // The process has finished: no frame is left.
+    pub fn finish(mut self) -> Head
+        ensures { λ r. ⌜ r ≡ finishedHead self ⌝ }
+    {
+        self.status = 2;
+        self.fault = 0;
+        self.frames = 0;
+        self.method = 0;
+        self.place = 0;
+        self.pending = 0;
+        self
+    }
+
+    // The process has stopped by a fault, and keeps its frames.
+    pub fn stop(mut self, fault: u32) -> Head
+        ensures { λ r. ⌜ r ≡ stoppedHead self fault ⌝ }
+    {
+        self.status = 3;
+        self.fault = fault;
         self
     }
 }

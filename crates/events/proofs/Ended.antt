@@ -1,0 +1,27 @@
+-- The words of a process that is over are those of a stopped or of a finished process.
+use Prim.Native.Nat.{ℕ, suc, _<_}
+use mathlib.Core.Path.{_≡_, refl, _∙_, ap}
+use mathlib.Core.List.{List, [], _∷_, flatten}
+use lib.ListN.{set, length, replicate}
+use Rattle.lists.specs.Lists.{All}
+use Rattle.table.proofs.Accepted.{Kept}
+use Rattle.machine.specs.State.{Frame, Config, finished, stopped}
+use Rattle.machine.specs.Entry.{runs}
+use Rattle.machine.specs.Sound.{FrameSound}
+use Rattle.layout.specs.Layout.{padded, statusWords, processWords}
+use Rattle.store.specs.declared.head.Head.{Head}
+use Rattle.store.specs.Words.{headOf, clearedFrom, finishedHead, stoppedHead, putStatus}
+use Rattle.store.proofs.Cleared.{all-cleared}
+use Rattle.ops.proofs.Places.{head-is}
+use Rattle.events.specs.Ended.{stoppedWords, finishedWords}
+
+pub stopped-words : (p : List ℕ) (kept : Kept p) (c : Config) (f : Frame) (fs : List Frame) (sound : All (FrameSound p c) (f ∷ fs))
+    (deep : length fs < 8) (n : ℕ)
+    → stoppedWords (processWords (runs (f ∷ fs))) n ≡ processWords (record { status = stopped n; frames = f ∷ fs })
+unfolding stoppedWords putStatus stoppedHead processWords statusWords padded
+stopped-words p kept c f fs sound deep n =
+    ap (λ (h : Head). putStatus (processWords (runs (f ∷ fs))) (stoppedHead h n)) (head-is p kept c f fs sound deep)
+
+pub finished-words : (w : List ℕ) → length w ≡ 512 → finishedWords w ≡ processWords (record { status = finished; frames = [] })
+unfolding finishedWords putStatus finishedHead processWords statusWords padded flatten
+finished-words w e = ap (λ (l : List ℕ). set (set (set l 0 2) 1 0) 2 0) (all-cleared w 512 e)

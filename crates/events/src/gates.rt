@@ -1,0 +1,67 @@
+// GATE.
+ghost use mathlib.Core.Path.{_≡_};
+ghost use Prim.Native.Nat.{_%_};
+ghost use Rattle.store.specs.Words.{valueAt, topAt};
+ghost use Rattle.events.specs.Told.{left, dropTwo, gateOne, gateTwo, gateOp};
+use super::told::Told;
+use super::told::fault;
+use super::told::line;
+use ops::jumps::discard_to;
+use ops::moves::discard;
+use ops::numbers::number;
+use ops::numbers::two_empty;
+use store::head::Head;
+use store::values::value;
+
+// The number of the value n below the next free one, as a line has it.
+pub fn qubit_no(w: &[u32], h: Head, n: u16) -> u16
+    ensures { λ r. ⌜ r ≡ valueAt (now (w .entry)) (topAt h n) .number % 65536 ⌝ }
+{
+    (number(w, h, n) % 65536) as u16
+}
+
+// Two values off.
+pub fn discard_two(w: &mut [u32], h: Head)
+    ensures { λ r. ⌜ now (w .exit) ≡ dropTwo (now (w .entry)) h ⌝ }
+{
+    discard_to(w, h, h.place);
+    discard(w, h.pop());
+}
+
+pub fn gate_one(w: &mut [u32], h: Head, a: u16) -> Told
+    ensures { λ r. ⌜ left r (now (w .exit)) ≡ gateOne (now (w .entry)) h a ⌝ }
+{
+    let v = value(w, h.top(1));
+    if v.tag == 0 {
+        return fault(20);
+    }
+    let q = qubit_no(w, h, 1);
+    discard(w, h);
+    line(3, a, q, 65535)
+}
+
+// The deeper qubit comes first; "27 a two-qubit gate on one qubit".
+pub fn gate_two(w: &mut [u32], h: Head, a: u16) -> Told
+    ensures { λ r. ⌜ left r (now (w .exit)) ≡ gateTwo (now (w .entry)) h a ⌝ }
+{
+    if two_empty(w, h) {
+        return fault(20);
+    }
+    let deeper = qubit_no(w, h, 2);
+    let q = qubit_no(w, h, 1);
+    if deeper == q {
+        return fault(27);
+    }
+    discard_two(w, h);
+    line(3, a, deeper, q)
+}
+
+// "one qubit off for 1 to 5, else two".
+pub fn op_gate(w: &mut [u32], h: Head, a: u16) -> Told
+    ensures { λ r. ⌜ left r (now (w .exit)) ≡ gateOp (now (w .entry)) h a ⌝ }
+{
+    if a <= 5 {
+        return gate_one(w, h, a);
+    }
+    gate_two(w, h, a)
+}
