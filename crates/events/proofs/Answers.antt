@@ -105,35 +105,27 @@ module _ (p : List ℕ) (kept : Kept p) (outcomes : List ℕ) (s : State) (f : F
 
   -- NEWQ and NEWC
 
+  -- a thing made and pushed, or the fault of one too many
+  made-tells : (t : Thing) (tag kind fault n : ℕ) → valOf (ref t) ≡ record { tag = tag; number = n }
+      → toldOf 0 (making t) ≡ lineTold kind n 65535 65535 → (b : Bool)
+      → Good (cond b (makes t (push (ref t) (passedBy 0 f) ∷ fs)) (faults fault))
+      (cond b (left (lineTold kind n 65535 65535) (pushOn words top (record { tag = tag; number = n }))) (left (faultTold fault) words))
+  unfolding passedBy
+  made-tells t tag kind fault n v l true h =
+      ap₂ left (sym l) (ap (pushOn words top) (sym v) ∙ push-words p kept (s .config) f fs sound deep (ref t) h)
+  made-tells t tag kind fault n v l false h = refl
+
   pub newq-tells : opAt p (f .place) ≡ 7 → Good does (newqOp words top (s .config .qubits))
   unfolding newqOp doingOf doings doNewQ opOf ops opNewQ passedBy making valOf tagOf numberOf valueWords
   newq-tells e =
       by (act-zero p kept outcomes s f fs sound deep small 7 e (taken-by p kept outcomes s f fs sound deep small 7 e)) refl
-      (made (ltb (s .config .qubits) 32))
-    where
-      made : (b : Bool)
-          → Good
-          (cond b (makes (qubit (s .config .qubits)) (push (ref (qubit (s .config .qubits))) (passedBy 0 f) ∷ fs)) (faults 22))
-          (cond b (left (lineTold 1 (s .config .qubits) 65535 65535) (pushOn words top (record { tag = 3; number = s .config .qubits }))) (left (faultTold 22) words))
-      made true h =
-          ap (left (lineTold 1 (s .config .qubits) 65535 65535))
-          (push-words p kept (s .config) f fs sound deep (ref (qubit (s .config .qubits))) h)
-      made false h = refl
+      (made-tells (qubit (s .config .qubits)) 3 1 22 (s .config .qubits) refl refl (ltb (s .config .qubits) 32))
 
   pub newc-tells : opAt p (f .place) ≡ 8 → Good does (newcOp words top (s .config .channels))
   unfolding newcOp doingOf doings doNewC opOf ops opNewC passedBy making valOf tagOf numberOf valueWords
   newc-tells e =
       by (act-zero p kept outcomes s f fs sound deep small 8 e (taken-by p kept outcomes s f fs sound deep small 8 e)) refl
-      (made (ltb (s .config .channels) 16))
-    where
-      made : (b : Bool)
-          → Good
-          (cond b (makes (channel (s .config .channels)) (push (ref (channel (s .config .channels))) (passedBy 0 f) ∷ fs)) (faults 21))
-          (cond b (left (lineTold 2 (s .config .channels) 65535 65535) (pushOn words top (record { tag = 4; number = s .config .channels }))) (left (faultTold 21) words))
-      made true h =
-          ap (left (lineTold 2 (s .config .channels) 65535 65535))
-          (push-words p kept (s .config) f fs sound deep (ref (channel (s .config .channels))) h)
-      made false h = refl
+      (made-tells (channel (s .config .channels)) 4 2 21 (s .config .channels) refl refl (ltb (s .config .channels) 16))
 
   -- GATE
 
