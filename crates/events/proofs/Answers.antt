@@ -30,7 +30,7 @@ use Rattle.store.specs.Words.{valueAt, topAt, popped}
 use Rattle.store.proofs.Vals.{valOf}
 use Rattle.ops.specs.Did.{intVal, pushOn, onTop, dropTop, dropTo, emptyTwo}
 use Rattle.ops.proofs.Places.{head, push-words, drop-words, drop-to-words, top-words}
-use Rattle.ops.proofs.Meaning.{w, hd, a, scene, act, act-zero, act-one, act-two, act-short, taken-by, tag-test, read-top, read-second}
+use Rattle.ops.proofs.Meaning.{Height, w, hd, a, scene, act, act-zero, act-one, act-two, act-short, taken-by, tag-test, read-top, read-second}
 use Rattle.events.specs.declared.told.Told.{Told}
 use Rattle.events.specs.Told.{Left, left, faultTold, lineTold, measuredTold, qubitAt, newqOp, newcOp, dropTwo, gateOne, gateTwo, gateOp, measOp}
 
@@ -50,19 +50,6 @@ Tells ends w d = ⊥
 Tells (makes t fs) w d = d ≡ left (toldOf 0 (making t)) (processWords (runs fs))
 Tells (forks m args fs) w d = ⊥
 Tells (offers o) w d = ⊥
-
--- the frame at work after the act has at most 8 pending values
-abbrev pub Room : Act → Type 0
-Room idle = Unit {0}
-Room stuck = Unit {0}
-Room (faults n) = Unit {0}
-Room (goes [] es u) = Unit {0}
-Room (goes (f ∷ fs) es u) = length (f .pending) ≤ 8
-Room ends = Unit {0}
-Room (makes t []) = Unit {0}
-Room (makes t (f ∷ fs)) = length (f .pending) ≤ 8
-Room (forks m args fs) = Unit {0}
-Room (offers o) = Unit {0}
 
 -- the outcomes that are left
 drop-some : (os : List ℕ) (n : ℕ) → n < length os → drop n os ≡ getD os n 0 ∷ drop (suc n) os
@@ -95,7 +82,7 @@ module _ (p : List ℕ) (kept : Kept p) (outcomes : List ℕ) (s : State) (f : F
   stage = scene p kept outcomes s f fs sound deep small
 
   abbrev pub Good : Act → Left → Type 0
-  Good x d = Room x → Tells x words d
+  Good x d = Height x → Tells x words d
 
   by : {x y : Act} {d e : Left} → x ≡ y → d ≡ e → Good y e → Good x d
   by q r g = subst₂ Good (sym q) (sym r) g

@@ -1,6 +1,6 @@
 // What an op that writes one line answers.
 ghost use mathlib.Core.Path.{_≡_};
-ghost use Rattle.events.specs.Told.{faultTold, lineTold};
+ghost use Rattle.events.specs.Told.{faultTold, lineTold, measuredTold};
 
 // The fault, 0 for none; how many outcomes are used; and the line behind its entry and process.
 pub struct Told {
@@ -12,29 +12,35 @@ pub struct Told {
     pub c: u16,
 }
 
-// "10 stopped by fault a."
-pub fn fault(n: u16) -> Told
-    ensures { λ r. ⌜ r ≡ faultTold n ⌝ }
+fn answer(code: u32, used: u32, kind: u16, a: u16, b: u16, c: u16) -> Told
+    ensures { λ r. ⌜ r ≡ record { code = code; used = used; kind = kind; a = a; b = b; c = c } ⌝ }
 {
     Told {
-        code: n as u32,
-        used: 0,
-        kind: 10,
-        a: n,
-        b: 65535,
-        c: 65535,
-    }
-}
-
-pub fn line(kind: u16, a: u16, b: u16, c: u16) -> Told
-    ensures { λ r. ⌜ r ≡ lineTold kind a b c ⌝ }
-{
-    Told {
-        code: 0,
-        used: 0,
+        code: code,
+        used: used,
         kind: kind,
         a: a,
         b: b,
         c: c,
     }
+}
+
+// "10 stopped by fault a."; faults "use no outcome".
+pub fn fault(n: u16) -> Told
+    ensures { λ r. ⌜ r ≡ faultTold n ⌝ }
+{
+    answer(n as u32, 0, 10, n, 65535, 65535)
+}
+
+pub fn line(kind: u16, a: u16, b: u16, c: u16) -> Told
+    ensures { λ r. ⌜ r ≡ lineTold kind a b c ⌝ }
+{
+    answer(0, 0, kind, a, b, c)
+}
+
+// "4 qubit a measured b"; the one op that uses an outcome.
+pub fn measured(q: u16, outcome: u8) -> Told
+    ensures { λ r. ⌜ r ≡ measuredTold q outcome ⌝ }
+{
+    answer(0, 1, 4, q, outcome as u16, 65535)
 }

@@ -57,7 +57,8 @@ Height (faults n) = Unit {0}
 Height (goes [] es u) = Unit {0}
 Height (goes (f ∷ fs) es u) = length (f .pending) ≤ 8
 Height ends = Unit {0}
-Height (makes t fs) = Unit {0}
+Height (makes t []) = Unit {0}
+Height (makes t (f ∷ fs)) = length (f .pending) ≤ 8
 Height (forks m args fs) = Unit {0}
 Height (offers o) = Unit {0}
 
