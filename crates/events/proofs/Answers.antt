@@ -176,7 +176,7 @@ module _ (p : List ℕ) (kept : Kept p) (outcomes : List ℕ) (s : State) (f : F
 
   -- on two
 
-  dropped-two : (y x : Value) (us : List Value) → f .pending ≡ y ∷ x ∷ us
+  pub dropped-two : (y x : Value) (us : List Value) → f .pending ≡ y ∷ x ∷ us
       → dropTwo words top ≡ processWords (runs (atPlace (suc (f .place)) (withPending us f) ∷ fs))
   unfolding dropTwo popped
   dropped-two y x us q =

@@ -1,2 +1,4 @@
 pub mod Answers
 pub mod Ended
+pub mod Telling
+pub mod Concluding

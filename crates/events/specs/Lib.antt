@@ -1,2 +1,3 @@
 pub mod Told
 pub mod Ended
+pub mod Concluded

@@ -102,7 +102,7 @@ run-one v = append-nil (valueWords v)
 
 -- lists in reverse
 
-getD-reverse : (vs : List Value) (d : ℕ) → d < length vs → getD (reverse vs) (length vs - suc d) empty ≡ getD vs d empty
+pub getD-reverse : (vs : List Value) (d : ℕ) → d < length vs → getD (reverse vs) (length vs - suc d) empty ≡ getD vs d empty
 getD-reverse [] d h = absurd (not-suc-le-zero h)
 getD-reverse (v ∷ vs) zero h =
     ap₂ (λ (l : List Value) (i : ℕ). getD l i empty) (reverse-cons v vs) last ∙ getD-append-seam (reverse vs) v [] empty

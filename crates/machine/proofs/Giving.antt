@@ -171,11 +171,11 @@ reach-set c n pr m x r = ⊎-elim (λ e. inl (same (eqb-true m n e))) (λ e. inr
     same : m ≡ n → (m ≡ n) × T (reaches pr x)
     same e = (e, subst (λ (q : Process). T (reaches q x)) (process-same c n pr (made e)) (here e))
 
-joined-old : (c : Config) (pr : Process) (m : ℕ) → m < length (c .processes) → processAt (joined c pr) m ≡ processAt c m
+pub joined-old : (c : Config) (pr : Process) (m : ℕ) → m < length (c .processes) → processAt (joined c pr) m ≡ processAt c m
 unfolding processAt joined
 joined-old c pr m h = List·getD-append (c .processes) (pr ∷ []) unmade m h
 
-joined-new : (c : Config) (pr : Process) → processAt (joined c pr) (length (c .processes)) ≡ pr
+pub joined-new : (c : Config) (pr : Process) → processAt (joined c pr) (length (c .processes)) ≡ pr
 unfolding processAt joined
 joined-new c pr = getD-append-seam (c .processes) pr [] unmade
 

@@ -14,3 +14,5 @@ pub mod Doings
 pub mod Standing
 pub mod Effects
 pub mod Sound
+pub mod Steps
+pub mod Partner

@@ -319,12 +319,12 @@ record Joined (c : Config) (e : Meeting) : Type 0 where
   sending : OfferWithin (valuesOf (processAt c (e .sender) .frames)) (sends (e .channel) (e .side) (e .value) (e .senderFrames))
   receiving : OfferWithin (valuesOf (processAt c (e .receiver) .frames)) (receives (e .channel) (not (e .side)) (e .receiverFrames))
 
-cond-some : (b : Bool) (x e : Meeting) → cond b (some x) none ≡ some e → T b × (x ≡ e)
+pub cond-some : (b : Bool) (x e : Meeting) → cond b (some x) none ≡ some e → T b × (x ≡ e)
 cond-some true x e h = (tt, Option·some-injective x e h)
 cond-some false x e h = absurd (Option·none-ne-some e h)
 
 -- the opposite side of an end that was tested to be the opposite one
-opposite : (c c′ : ℕ) (d d′ : Bool) → T (eqb c c′ && Bool·beq d (not d′)) → end c (not d) ≡ end c′ d′
+pub opposite : (c c′ : ℕ) (d d′ : Bool) → T (eqb c c′ && Bool·beq d (not d′)) → end c (not d) ≡ end c′ d′
 opposite c c′ d d′ t =
     ap (λ (i : ℕ). end i (not d)) (eqb→eq c c′ (and-left (eqb c c′) (Bool·beq d (not d′)) t))
     ∙ ap (λ (b : Bool). end c′ b) (turned d d′ (and-right (eqb c c′) (Bool·beq d (not d′)) t))
@@ -363,7 +363,7 @@ joins-within c n q (receives a d fs) (sends a′ d′ w gs) e ne ho hr h =
 joins-within c n q (receives a d fs) (receives a′ d′ gs) e ne ho hr h = absurd (Option·none-ne-some e h)
 
 -- the partner's act is an offer
-meets-offer : (n q : ℕ) (o : Offer) (act : Act) (e : Meeting) → meetsWith n o q (offered act) ≡ some e
+pub meets-offer : (n q : ℕ) (o : Offer) (act : Act) (e : Meeting) → meetsWith n o q (offered act) ≡ some e
     → (r : Offer) × (act ≡ offers r) × (joins n o q r ≡ some e)
 unfolding meetsWith offered
 meets-offer n q o idle e h = absurd (Option·none-ne-some e h)
@@ -470,7 +470,7 @@ entry-kept p outcomes k s n h =
 
 -- the run
 
-start-kept : (p : List ℕ) → Kept (startConfig p) []
+pub start-kept : (p : List ℕ) → Kept (startConfig p) []
 unfolding startConfig processAt reaches
 start-kept p = record {
   named = λ x n r. absurd (nothing-reached x n r);
@@ -500,7 +500,7 @@ run-kept p outcomes room s k (n ∷ schedule) h =
     Fine : Result → Type 0
     Fine r = Kept (r .state .config) (r .state .lines)
 
-kept-owned : (c : Config) (ls : List Line) → Kept c ls → Owned c ls
+pub kept-owned : (c : Config) (ls : List Line) → Kept c ls → Owned c ls
 kept-owned c ls h = record {
   alone = λ x m n r t. Option·some-injective m n (sym (h .named x m r) ∙ h .named x n t);
   named = h .named;

@@ -29,7 +29,7 @@ main-takes-none : (p : List ℕ) → Kept p → paramTypes p 0 ≡ []
 unfolding paramTypes
 main-takes-none p k = ap (λ n. take n (slotTypes p 0)) (k .main-params)
 
-start-typed : (p : List ℕ) → Kept p → ConfigTyped p [] (start p .config)
+pub start-typed : (p : List ℕ) → Kept p → ConfigTyped p [] (start p .config)
 unfolding start startConfig
 start-typed p k =
     let main = started-typed p k {R = Fits [] 0} (λ t. tt) 0 [] (k .sizes .methods-some) (rw (main-takes-none p k) nil) in
@@ -66,13 +66,13 @@ module _ (p : List ℕ) (k : Kept p) (ks : List ℕ) (c : Config) (t : ConfigTyp
   thing-made (channel i) n h = omega (arith, t .channels)
   thing-made (end i s) n h = omega (arith, t .channels)
 
-  value-sound : (v : Value) (n : ℕ) → Fits ks (c .qubits) v n → ValueSound c v
+  pub value-sound : (v : Value) (n : ℕ) → Fits ks (c .qubits) v n → ValueSound c v
   value-sound empty n h = tt
   value-sound (int z) n h = h .1
   value-sound (bool b) n h = tt
   value-sound (ref u) n h = thing-made u n h
 
-  frame-sound : (owed : List ℕ) (f : Frame) → FrameTyped p (Fits ks (c .qubits)) owed f → FrameSound p c f
+  pub frame-sound : (owed : List ℕ) (f : Frame) → FrameTyped p (Fits ks (c .qubits)) owed f → FrameSound p c f
   frame-sound owed f h = record {
     method = h .place .method;
     behind = h .place .behind;
@@ -89,7 +89,7 @@ module _ (p : List ℕ) (k : Kept p) (ks : List ℕ) (c : Config) (t : ConfigTyp
     pending = both-all value-sound (h .pending);
   }
 
-  callers-sound : (m : ℕ) (fs : List Frame) → Callers p (Fits ks (c .qubits)) m fs → All (FrameSound p c) fs
+  pub callers-sound : (m : ℕ) (fs : List Frame) → Callers p (Fits ks (c .qubits)) m fs → All (FrameSound p c) fs
   callers-sound m [] h = tt
   callers-sound m (f ∷ fs) h = (frame-sound _ f (h .0), callers-sound (f .method) fs (h .1))
 
@@ -108,7 +108,7 @@ module _ (p : List ℕ) (k : Kept p) (ks : List ℕ) (c : Config) (t : ConfigTyp
   process-sound (stopped n) fs h =
       record { status = (h .0, h .1, frames-some fs (h .2)); depth = h .2 .depth; frames = frames-sound fs (h .2) }
 
-  config-sound : ConfigSound p c
+  pub config-sound : ConfigSound p c
   config-sound = record {
     processCount = t .processCount;
     qubitCount = t .qubitCount;

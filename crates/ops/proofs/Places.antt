@@ -178,6 +178,15 @@ module _ (p : List ℕ) (kept : Kept p) (c : Config) (f : Frame) (fs : List Fram
       (frame-slot-set f (sound .0 .width) s (2 * s) v h refl)
       refl refl next-place refl
 
+  -- a slot written, the frame staying where it stands
+  pub slot-put : (s : ℕ) (v : Value) → s < 16 → putValue words (slotAt head s) (valOf v) ≡ processWords (runs (withSlot s v f ∷ fs))
+  unfolding slotAt headWords
+  slot-put s v h =
+      ap (λ (l : List ℕ). putValue l (slotAt head s) (valOf v)) words-part
+      ∙ value-put (frameValues f) (slotAt head s) (2 * s) v long (omega arith) (omega arith)
+      ∙ ap (stretches (headWords f)) (frame-slot-set f (sound .0 .width) s (2 * s) v h refl)
+      ∙ sym (process-part (withSlot s v f) fs)
+
   -- the top value off, and the frame at instruction i
   drop-at : (u : Value) (us : List Value) (i : ℕ) (h : Head) → f .pending ≡ u ∷ us → h .frames ≡ suc (length fs) → h .place ≡ i
       → h .pending ≡ length us → putTop (putValue words (topAt head 1) none) h ≡ processWords (runs (atPlace i (withPending us f) ∷ fs))

@@ -1,14 +1,16 @@
 -- The parts of an encoded configuration are its processes' words.
 use Prim.Native.Nat.{ℕ, zero, suc, _+_, _*_, _-_, _≤_, _<_}
 use mathlib.Core.Path.{_≡_, refl, sym, _∙_, ap, ap₂, subst}
-use mathlib.Core.List.{List, [], _∷_, _++_, map, flatten, append-assoc}
+use mathlib.Core.List.{List, [], _∷_, _++_, map, flatten, append-assoc, append-nil}
 use native.Mathlib.Nat.{le-of-suc-le-suc, not-suc-le-zero, mul-suc}
 use native.Mathlib.Omega.{arith}
-use lib.ListN.{getD, set, replicate, take, drop, length, length-append, length-map, length-set}
+use lib.ListN.{getD, set, replicate, take, drop, length, length-append, length-map, length-set, length-replicate, replicate-append-replicate}
 use lib.Seq.{take-at, drop-at, drop-drop, take-append-le, take-append-add, drop-append-add, drop-append-le, take-take}
 use Rattle.lists.specs.Lists.{All}
-use Rattle.lists.proofs.Any.{All-map, All-implies, All-set}
+use Rattle.lists.proofs.Any.{All-map, All-implies, All-set, All-append}
 use Rattle.machine.specs.State.{Process, Config, processAt, setProcess, unmade}
+use Rattle.machine.specs.Value.{qubit, channel}
+use Rattle.machine.specs.Entry.{counted, joined}
 use Rattle.machine.specs.Sound.{ProcessSound, ConfigSound}
 use Rattle.layout.specs.Layout.{padded, processWords, encode}
 use Rattle.layout.proofs.Groups.{padded-length, flatten-length}
@@ -96,7 +98,23 @@ map-set [] n y = refl
 map-set (x ∷ xs) zero y = refl
 map-set (x ∷ xs) (suc n) y = ap {B = List (List ℕ)} (λ l. processWords x ∷ l) (map-set xs n y)
 
-module _ (p : List ℕ) (c : Config) (h : ConfigSound p c) (rest : List ℕ) where
+-- every process's words fill its part
+abbrev pub Laid : Config → Type 0
+Laid c = All (λ pr. length (processWords pr) ≡ 512) (c .processes)
+
+pub laid-sound : (p : List ℕ) (c : Config) → ConfigSound p c → Laid c
+laid-sound p c h =
+    All-implies (ProcessSound p c) (λ pr. length (processWords pr) ≡ 512) (process-length p c) (c .processes) (h .processes)
+
+pub laid-set : (c : Config) (n : ℕ) (pr : Process) → Laid c → length (processWords pr) ≡ 512 → Laid (setProcess c n pr)
+unfolding setProcess
+laid-set c n pr a l = All-set (λ q. length (processWords q) ≡ 512) (c .processes) n pr a l
+
+pub laid-joined : (c : Config) (pr : Process) → Laid c → length (processWords pr) ≡ 512 → Laid (joined c pr)
+unfolding joined
+laid-joined c pr a l = All-append (λ q. length (processWords q) ≡ 512) (c .processes) (pr ∷ []) a (l, tt)
+
+module _ (c : Config) (laid : Laid c) (rest : List ℕ) where
   abbrev groups : List (List ℕ)
   groups = map processWords (c .processes)
 
@@ -109,8 +127,7 @@ module _ (p : List ℕ) (c : Config) (h : ConfigSound p c) (rest : List ℕ) whe
 
   groups-long : All (λ g. length g ≡ 512) groups
   groups-long =
-      All-map (λ g. length g ≡ 512) processWords (c .processes)
-      (All-implies (ProcessSound p c) (λ pr. length (processWords pr) ≡ 512) (process-length p c) (c .processes) (h .processes))
+      All-map (λ g. length g ≡ 512) processWords (c .processes) laid
 
   groups-count : length groups ≡ length (c .processes)
   groups-count = length-map (c .processes) processWords
@@ -172,3 +189,132 @@ module _ (p : List ℕ) (c : Config) (h : ConfigSound p c) (rest : List ℕ) whe
       ∙ ap (λ (k : ℕ). flatten (set groups n (processWords pr)) ++ (replicate (7680 - k) 0 ++ rest)) (sym (set-long groups n (processWords pr) groups-long long)))
       ∙ ap₂ (λ (u : List ℕ) (v : List (List ℕ)). u ++ (flatten v ++ padding v rest)) (sym (front-same n pr)) (sym (groups-set n pr))
       ∙ sym (store-is (setProcess c n pr) rest)
+
+-- the counts in front of the parts
+
+pub processes-word : (c : Config) (rest : List ℕ) → getD (encode c ++ rest) 0 0 ≡ length (c .processes)
+unfolding encode padded
+processes-word c rest = refl
+
+pub qubits-word : (c : Config) (rest : List ℕ) → getD (encode c ++ rest) 1 0 ≡ c .qubits
+unfolding encode padded
+qubits-word c rest = refl
+
+pub channels-word : (c : Config) (rest : List ℕ) → getD (encode c ++ rest) 2 0 ≡ c .channels
+unfolding encode padded
+channels-word c rest = refl
+
+pub qubit-counted : (c : Config) (q : ℕ) (rest : List ℕ) → set (encode c ++ rest) 1 (suc (c .qubits)) ≡ encode (counted (qubit q) c) ++ rest
+unfolding encode padded counted
+qubit-counted c q rest = refl
+
+pub channel-counted : (c : Config) (q : ℕ) (rest : List ℕ)
+    → set (encode c ++ rest) 2 (suc (c .channels)) ≡ encode (counted (channel q) c) ++ rest
+unfolding encode padded counted
+channel-counted c q rest = refl
+
+-- processes not made
+
+-- zeros past the first m
+zeros-behind : (m n : ℕ) (rest : List ℕ) → m ≤ n → drop m (replicate n 0 ++ rest) ≡ replicate (n - m) 0 ++ rest
+zeros-behind m n rest h =
+    ap (λ (k : ℕ). drop m (replicate {A = ℕ} k 0 ++ rest)) {x = n} {y = m + (n - m)} (omega arith)
+    ∙ ap (λ (l : List ℕ). drop m (l ++ rest)) (sym (replicate-append-replicate m (n - m) 0))
+    ∙ ap (drop m) (append-assoc (replicate m 0) (replicate (n - m) 0) rest)
+    ∙ drop-at (replicate m 0) (replicate (n - m) 0 ++ rest) m (length-replicate m 0)
+
+zeros-first : (m n : ℕ) (rest : List ℕ) → m ≤ n → take m (replicate n 0 ++ rest) ≡ replicate m 0
+zeros-first m n rest h =
+    ap (λ (k : ℕ). take m (replicate {A = ℕ} k 0 ++ rest)) {x = n} {y = m + (n - m)} (omega arith)
+    ∙ ap (λ (l : List ℕ). take m (l ++ rest)) (sym (replicate-append-replicate m (n - m) 0))
+    ∙ ap (take m) (append-assoc (replicate m 0) (replicate (n - m) 0) rest)
+    ∙ take-at (replicate m 0) (replicate (n - m) 0 ++ rest) m (length-replicate m 0)
+
+flatten-snoc : (gs : List (List ℕ)) (ws : List ℕ) → flatten (gs ++ (ws ∷ [])) ≡ flatten gs ++ ws
+unfolding flatten
+flatten-snoc [] ws = append-nil ws
+flatten-snoc (g ∷ gs) ws = ap (λ (l : List ℕ). g ++ l) (flatten-snoc gs ws) ∙ sym (append-assoc g (flatten gs) ws)
+
+map-snoc : (xs : List Process) (pr : Process) → map processWords (xs ++ (pr ∷ [])) ≡ map processWords xs ++ (processWords pr ∷ [])
+map-snoc [] pr = refl
+map-snoc (x ∷ xs) pr = ap {B = List (List ℕ)} (λ l. processWords x ∷ l) (map-snoc xs pr)
+
+-- the count of processes written in front
+front-set : (c : Config) (k : ℕ) (ws : List ℕ) → set (front c ++ ws) 0 k ≡ padded 512 (k ∷ c .qubits ∷ c .channels ∷ []) ++ ws
+unfolding padded
+front-set c k ws = refl
+
+module _ (c : Config) (laid : Laid c) (rest : List ℕ) where
+  abbrev words : List ℕ
+  words = flatten (map processWords (c .processes))
+
+  words-long : length words ≡ 512 * length (c .processes)
+  words-long =
+      flatten-length 512 (map processWords (c .processes)) (groups-long c laid rest)
+      ∙ omega (arith, groups-count c laid rest)
+
+  behind-words : (n : ℕ) → drop (length words + n) (parts c laid rest) ≡ drop n (padding (map processWords (c .processes)) rest)
+  behind-words n = drop-append-add words (padding (map processWords (c .processes)) rest) n
+
+  -- the part of a process that is not made is 0
+  pub part-unmade : (n : ℕ) → length (c .processes) ≤ n → n < 8 → partOf (encode c ++ rest) n ≡ replicate 512 0
+  unfolding partOf
+  part-unmade n l h =
+      ap (take 512)
+      (behind-front c laid rest n
+      ∙ ap (λ (k : ℕ). drop k (parts c laid rest)) {x = 512 * n} {y = length words + (512 * n - length words)} (omega (arith, words-long))
+      ∙ behind-words (512 * n - length words)
+      ∙ zeros-behind (512 * n - length words) (7680 - length words) rest (omega (arith, words-long)))
+      ∙ zeros-first 512 (7680 - length words - (512 * n - length words)) rest (omega (arith, words-long))
+
+  -- one more process
+  pub part-joined : (pr : Process) → length (c .processes) < 8 → length (processWords pr) ≡ 512
+      → withPart (set (encode c ++ rest) 0 (length (c .processes) + 1)) (length (c .processes)) (processWords pr) ≡ encode (joined c pr) ++ rest
+  unfolding withPart joined
+  part-joined pr h long =
+      ap (λ (w : List ℕ). take (partAt made) w ++ (processWords pr ++ drop 512 (drop (partAt made) w))) counted-first
+      ∙ ap₂ (λ (u v : List ℕ). u ++ (processWords pr ++ v)) first last
+      ∙ append-assoc front₁ words (processWords pr ++ (replicate (7680 - length words - 512) 0 ++ rest))
+      ∙ ap (λ (l : List ℕ). front₁ ++ l)
+      (sym (append-assoc words (processWords pr) (replicate (7680 - length words - 512) 0 ++ rest))
+      ∙ ap₂ (λ (l : List ℕ) (k : ℕ). l ++ (replicate {A = ℕ} k 0 ++ rest)) more shorter)
+      ∙ ap (λ (k : ℕ). padded 512 (k ∷ c .qubits ∷ c .channels ∷ []) ++ (words₁ ++ (replicate {A = ℕ} (7680 - length words₁) 0 ++ rest))) one-more
+      ∙ sym (store-is (joined c pr) rest)
+    where
+      made : ℕ
+      made = length (c .processes)
+
+      front₁ : List ℕ
+      front₁ = padded 512 ((made + 1) ∷ c .qubits ∷ c .channels ∷ [])
+
+      words₁ : List ℕ
+      words₁ = flatten (map processWords (c .processes ++ (pr ∷ [])))
+
+      one-more : made + 1 ≡ length (c .processes ++ (pr ∷ []))
+      one-more = sym (length-append (c .processes) (pr ∷ []))
+
+      more : words ++ processWords pr ≡ words₁
+      more = sym (ap flatten (map-snoc (c .processes) pr) ∙ flatten-snoc (map processWords (c .processes)) (processWords pr))
+
+      shorter : 7680 - length words - 512 ≡ 7680 - length words₁
+      shorter = omega (arith, words-long, ap length more, length-append words (processWords pr), long)
+
+      front-long₁ : length front₁ ≡ 512
+      front-long₁ = padded-length 512 ((made + 1) ∷ c .qubits ∷ c .channels ∷ []) (omega arith)
+
+      counted-first : set (encode c ++ rest) 0 (made + 1) ≡ front₁ ++ parts c laid rest
+      counted-first = ap (λ (w : List ℕ). set w 0 (made + 1)) (store-is c rest) ∙ front-set c (made + 1) (parts c laid rest)
+
+      first : take (partAt made) (front₁ ++ parts c laid rest) ≡ front₁ ++ words
+      first =
+          ap (λ (k : ℕ). take (k + 512 * made) (front₁ ++ parts c laid rest)) (sym front-long₁)
+          ∙ take-append-add front₁ (parts c laid rest) (512 * made)
+          ∙ ap (λ (l : List ℕ). front₁ ++ l) (take-at words (padding (map processWords (c .processes)) rest) (512 * made) words-long)
+
+      last : drop 512 (drop (partAt made) (front₁ ++ parts c laid rest)) ≡ replicate (7680 - length words - 512) 0 ++ rest
+      last =
+          ap (λ (k : ℕ). drop 512 (drop (k + 512 * made) (front₁ ++ parts c laid rest))) (sym front-long₁)
+          ∙ ap (drop 512)
+          (drop-append-add front₁ (parts c laid rest) (512 * made)
+          ∙ drop-at words (padding (map processWords (c .processes)) rest) (512 * made) words-long)
+          ∙ zeros-behind 512 (7680 - length words) rest (omega (arith, words-long))

@@ -18,3 +18,16 @@ unfolding partOf withPart onPart
 lifted work n r ys g e =
     ap (λ (k : ℕ). did r (putMid (512 + 512 * n) k work ys)) (size (512 + 512 * n))
     ∙ ap (λ (d : Did). did (d .code) (putMid (512 + 512 * n) 512 work (d .words))) (e ∙ ap (λ (k : ℕ). g (midOf (512 + 512 * n) k work)) (size (512 + 512 * n)))
+
+pub lifted-words : (work : List ℕ) (n : ℕ) (ys : List ℕ) (g : List ℕ → List ℕ)
+    → ys ≡ g (midOf (512 + 512 * n) (512 + 512 * n + 512 - (512 + 512 * n)) work)
+    → putMid (512 + 512 * n) (512 + 512 * n + 512 - (512 + 512 * n)) work ys ≡ withPart work n (g (partOf work n))
+unfolding partOf withPart
+lifted-words work n ys g e =
+    ap (λ (k : ℕ). putMid (512 + 512 * n) k work ys) (size (512 + 512 * n))
+    ∙ ap (putMid (512 + 512 * n) 512 work) (e ∙ ap (λ (k : ℕ). g (midOf (512 + 512 * n) k work)) (size (512 + 512 * n)))
+
+-- a part that was lent to be read
+pub part-read : (work : List ℕ) (n : ℕ) → midOf (512 + 512 * n) (512 + 512 * n + 512 - (512 + 512 * n)) work ≡ partOf work n
+unfolding partOf
+part-read work n = ap (λ (k : ℕ). midOf (512 + 512 * n) k work) (size (512 + 512 * n))

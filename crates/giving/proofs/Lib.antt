@@ -1,0 +1,4 @@
+pub mod Laws
+pub mod Parted
+pub mod Stored
+pub mod Lines

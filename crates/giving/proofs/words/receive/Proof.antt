@@ -1,0 +1,20 @@
+use Rattle.giving.specs.Given.{takenWords}
+use borrow.Author.Needs.{needs}
+use Rattle.giving.proofs.words.receive.Statement.{statement}
+use Rattle.giving.proofs.words.receive.Tie as tie
+
+read-head-requires : tie.Need-read-head-requires
+read-head-requires c κs = search needs
+
+replace-requires : tie.Need-replace-requires
+replace-requires c κs = search needs
+
+same-length : tie.Need-same-length
+same-length c = search needs
+
+returns : tie.Need-returns
+unfolding takenWords
+returns c = cc
+
+pub receive-spec : {M : Type 1} → statement M
+receive-spec = tie.close (tie.spec read-head-requires replace-requires same-length returns)

@@ -1,0 +1,77 @@
+// What a giving does within one process's part.
+ghost use mathlib.Core.Path.{_≡_};
+ghost use Prim.Native.Nat.{_+_, _*_};
+ghost use Rattle.giving.specs.Given.{givenWords, sentWords, takenWords, beganWords, droppedOnce, retiredBy, retiredWords};
+use events::gates::discard_two;
+use ops::calls::begin_frame;
+use ops::jumps::discard_to;
+use ops::moves::replace;
+use store::giving::give_away;
+use store::head::Head;
+use store::head::put_top;
+use store::head::read_head;
+use store::values::Val;
+use store::values::put;
+
+// "Every slot and every pending value of the giver, in all frames, that holds the thing is emptied." An int or a boolean
+// is no thing.
+pub fn give(w: &mut [u32], v: Val)
+    ensures { λ r. ⌜ now (w .exit) ≡ givenWords (now (w .entry)) v ⌝ }
+{
+    if v.tag < 3 {
+        return;
+    }
+    let h = read_head(w);
+    give_away(w, v, ((24 * (h.frames as usize)) % 65536) as u16);
+}
+
+// The sender's part: its two operands off, and what was sent given away.
+pub fn send(w: &mut [u32], v: Val)
+    ensures { λ r. ⌜ now (w .exit) ≡ sentWords (now (w .entry)) v ⌝ }
+{
+    let h = read_head(w);
+    discard_two(w, h);
+    give(w, v);
+}
+
+// The receiver's part: its end off, what was sent on.
+pub fn receive(w: &mut [u32], v: Val)
+    ensures { λ r. ⌜ now (w .exit) ≡ takenWords (now (w .entry)) v ⌝ }
+{
+    let h = read_head(w);
+    replace(w, h, v);
+}
+
+// The part of a process that begins in method m: it runs, with one frame.
+pub fn begin(p: &[u16], w: &mut [u32], m: u16)
+    ensures { λ r. ⌜ now (w .exit) ≡ beganWords (now (p .entry)) (now (w .entry)) m ⌝ }
+{
+    put(w, 0, 1);
+    begin_frame(p, w, 1, m);
+}
+
+fn drop_once(w: &mut [u32])
+    ensures { λ r. ⌜ now (w .exit) ≡ droppedOnce (now (w .entry)) ⌝ }
+{
+    let h = read_head(w);
+    discard_to(w, h, h.place);
+}
+
+fn drop_all(w: &mut [u32], n: u16)
+    ensures { λ r. ⌜ now (w .exit) ≡ retiredBy (now (w .entry)) n ⌝ }
+{
+    let mut j: u16 = 0;
+    while j < n {
+        drop_once(w);
+        j += 1;
+    }
+}
+
+// The forking process's part: its n arguments off, and the frame behind its instruction.
+pub fn retire(w: &mut [u32], n: u16)
+    ensures { λ r. ⌜ now (w .exit) ≡ retiredWords (now (w .entry)) n ⌝ }
+{
+    drop_all(w, n);
+    let h = read_head(w);
+    put_top(w, h.step());
+}

@@ -1,0 +1,67 @@
+-- `note_lines` goes through the lines: u is the table after those before line i.
+use Prim.Native.Nat.{ℕ, _≤_, _-_}
+use mathlib.Core.Path.{_≡_, _∙_, ap}
+use borrow.Author.Needs.{needs}
+use native.Mathlib.Omega.{arith}
+use Rattle.trace.proofs.LinesOf.{linesOf-length, linesOf-at}
+use Rattle.holders.specs.Holders.{notedFrom}
+use Rattle.holders.proofs.Noting.{noted-begins, noted-next}
+use Rattle.holders.proofs.notes.note_lines.Statement.{statement}
+use Rattle.holders.proofs.notes.note_lines.Tie as tie
+
+abbrev Inv-loop : tie.InvT-loop
+Inv-loop trace from to u₀ i₀ u i = (from ≤ i) × (i ≤ to) × (u ≡ notedFrom u₀ trace from (i - from))
+
+abbrev μ-loop : tie.MeasureT-loop
+μ-loop trace from to u₀ i₀ u i = to - i
+
+loop-holds : tie.Need-loop-holds Inv-loop μ-loop
+loop-holds c = let args = c .before .args in (search needs, omega arith, noted-begins (args .t) (args .trace .now) (args .from))
+
+cast-line-at : tie.Need-cast-line-at Inv-loop μ-loop
+cast-line-at c = search needs
+
+line-at-requires : tie.Need-line-at-requires Inv-loop μ-loop
+line-at-requires c κs = omega (arith, linesOf-length (c .before .before .before .args .trace .now))
+
+note-requires : tie.Need-note-requires Inv-loop μ-loop
+note-requires c κs = search needs
+
+add-i : tie.Need-add-i Inv-loop μ-loop
+add-i c = search needs
+
+loop-less : tie.Need-loop-less Inv-loop μ-loop
+loop-less c = search needs
+
+loop-again : tie.Need-loop-again Inv-loop μ-loop
+loop-again c =
+    let args = c .before .before .before .before .before .args in
+    let loop = c .before .before .before .loop in (
+      omega arith,
+      omega arith,
+      c .note .ensures
+          ∙ noted-next (args .t) (args .trace .now) (args .from) (loop .i) (loop .inv .0) (loop .inv .2)
+          (c .before .line-at .ensures ∙ linesOf-at (args .trace .now) (loop .i) (omega (arith, linesOf-length (args .trace .now)))),
+    )
+
+returns : tie.Need-returns Inv-loop μ-loop
+returns c =
+    let args = c .before .before .before .args in
+    let loop = c .before .loop in
+    let e : loop .i ≡ args .to = omega arith in
+    loop .inv .2 ∙ ap (λ (i : ℕ). notedFrom (args .t) (args .trace .now) (args .from) (i - args .from)) e
+
+pub note-lines-spec : {M : Type 1} → statement M
+note-lines-spec =
+    tie.close
+    (tie.spec
+    Inv-loop
+    μ-loop
+    loop-holds
+    cast-line-at
+    line-at-requires
+    note-requires
+    add-i
+    loop-less
+    loop-again
+    returns)

@@ -1,0 +1,36 @@
+-- The holders of the channel ends as a table. These definitions follow the code; that the table says what the lines
+-- say is proved in proofs/.
+use Prim.Native.Nat.{ℕ, zero, suc, _+_, _*_}
+use mathlib.Core.Bool.{cond}
+use mathlib.Core.List.{List, [], _∷_}
+use lib.ListN.{getD, set, replicate}
+use lib.Dec.{eqb}
+use Rattle.machine.specs.State.{Line}
+use Rattle.trace.specs.Read.{lineFrom}
+
+unfoldable pub nobody : List (List ℕ)
+nobody = replicate 16 (65535 ∷ 65535 ∷ [])
+
+unfoldable pub holderIn : List (List ℕ) → ℕ → ℕ → ℕ
+holderIn t c d = getD (getD t c []) d 65535
+
+unfoldable pub endGiven : List (List ℕ) → ℕ → ℕ → ℕ → List (List ℕ)
+endGiven t c d q = set t c (set (getD t c []) d q)
+
+unfoldable pub channelGiven : List (List ℕ) → ℕ → ℕ → List (List ℕ)
+channelGiven t c q = endGiven (endGiven t c 0 q) c 1 q
+
+-- the table after one more line
+unfoldable pub noted : List (List ℕ) → Line → List (List ℕ)
+noted t l =
+    cond (eqb (l .kind) 2) (channelGiven t (l .a) (l .process))
+    (cond (eqb (l .kind) 6)
+    (cond (eqb (l .b) 4) (channelGiven t (l .c) (l .a))
+    (cond (eqb (l .b) 5) (endGiven t (l .c) 0 (l .a))
+    (cond (eqb (l .b) 6) (endGiven t (l .c) 1 (l .a)) t)))
+    t)
+
+-- the table after j more lines of a trace, from line number `from` on
+unfoldable pub notedFrom : List (List ℕ) → List ℕ → ℕ → ℕ → List (List ℕ)
+notedFrom t trace from zero = t
+notedFrom t trace from (suc j) = noted (notedFrom t trace from j) (lineFrom trace (6 * (from + j)))
