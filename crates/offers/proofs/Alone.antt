@@ -1,9 +1,11 @@
--- The acts of all ops but SEND and RECV: a process offers nothing there, and is not idle.
-use Prim.Native.Nat.{ℕ, zero, suc}
+-- The acts of all ops but SEND and RECV: a process offers nothing there and is not idle, and where it goes on it writes at
+-- most one line and uses at most one outcome.
+use Prim.Native.Nat.{ℕ, zero, suc, _≤_}
 use mathlib.Core.Path.{_∙_, subst}
 use mathlib.Core.Logic.{_≢_}
 use mathlib.Core.Bool.{Bool}
 use mathlib.Core.List.{List, [], _∷_}
+use native.Mathlib.Omega.{arith}
 use lib.IntN.{ℤ, _+ℤ_, _-ℤ_}
 use lib.ListN.{getD, set, take, length}
 use lib.Seq.{getD-set-other}
@@ -21,11 +23,21 @@ abbrev pub Alone : Act → Type 0
 Alone idle = ⊥
 Alone stuck = Unit {0}
 Alone (faults n) = Unit {0}
-Alone (goes fs es u) = Unit {0}
+Alone (goes fs es u) = (length es ≤ 1) × (u ≤ 1)
 Alone ends = Unit {0}
 Alone (makes t fs) = Unit {0}
 Alone (forks m args fs) = Unit {0}
 Alone (offers o) = ⊥
+
+-- going on without a line, and with one
+quietly : (0 ≤ 1) × (0 ≤ 1)
+quietly = (omega arith, omega arith)
+
+with-line : (1 ≤ 1) × (0 ≤ 1)
+with-line = (omega arith, omega arith)
+
+with-outcome : (1 ≤ 1) × (1 ≤ 1)
+with-outcome = (omega arith, omega arith)
 
 -- the values that an op reads
 
@@ -69,13 +81,13 @@ on-outcome (o ∷ os) k h = h o
 
 on-return : (vs : List Value) (fs : List Frame) → Alone (returnTo vs fs)
 on-return vs [] = tt
-on-return vs (f ∷ fs) = tt
+on-return vs (f ∷ fs) = quietly
 
 two-ints : (a : At) (k : ℤ → ℤ → Act) → ((x y : ℤ) → Alone (k x y)) → Alone (twoInts a k)
 two-ints a k h = on-int (operand a 1) (λ x. asInt (operand a 0) (λ y. k x y)) (λ x. on-int (operand a 0) (λ y. k x y) (h x))
 
 in-range : (a : At) (z : ℤ) → Alone (result a z)
-in-range a z = cond-both Alone (inRange z) tt tt
+in-range a z = cond-both Alone (inRange z) quietly tt
 
 -- every op but the two
 
@@ -95,25 +107,25 @@ others-alone : Each others
 unfolding doings doNothing doInt doBool doGet doPut doDrop doClear doNewQ doNewC doEnd doGate doGateOne doGateTwo doMeas doCall doRet doFork doJump doJFalse doAdd doSub doEq doLess doNot
 others-alone =
     cons (λ a. tt)
-    (cons (λ a. tt) (cons (λ a. tt)
-    (cons (λ a. on-present (getD (a .frame .slots) (a .argument) empty) (pushes a) (λ u. tt))
-    (cons (λ a. tt) (cons (λ a. tt) (cons (λ a. tt)
+    (cons (λ a. quietly) (cons (λ a. quietly)
+    (cons (λ a. on-present (getD (a .frame .slots) (a .argument) empty) (pushes a) (λ u. quietly))
+    (cons (λ a. quietly) (cons (λ a. quietly) (cons (λ a. quietly)
     (cons (λ a. cond-both Alone (ltb (a .qubits) 32) tt tt)
     (cons (λ a. cond-both Alone (ltb (a .channels) 16) tt tt)
-    (cons (λ a. on-channel (operand a 0) _ (λ n. tt))
-    (cons (λ a. cond-both Alone (leb (a .argument) 5) (on-qubit (operand a 0) _ (λ q. tt))
-    (on-qubit (operand a 1) _ (λ d. on-qubit (operand a 0) _ (λ q. cond-both Alone (eqb d q) tt tt))))
-    (cons (λ a. on-qubit (operand a 0) _ (λ q. on-outcome (a .outcomes) _ (λ o. tt)))
-    (cons (λ a. cond-both Alone (ltb (suc (length (a .callers))) 8) tt tt)
+    (cons (λ a. on-channel (operand a 0) _ (λ n. quietly))
+    (cons (λ a. cond-both Alone (leb (a .argument) 5) (on-qubit (operand a 0) _ (λ q. with-line))
+    (on-qubit (operand a 1) _ (λ d. on-qubit (operand a 0) _ (λ q. cond-both Alone (eqb d q) tt with-line))))
+    (cons (λ a. on-qubit (operand a 0) _ (λ q. on-outcome (a .outcomes) _ (λ o. with-outcome)))
+    (cons (λ a. cond-both Alone (ltb (suc (length (a .callers))) 8) quietly tt)
     (cons (λ a. on-return (a .operands) (a .callers))
     (cons (λ a. cond-both Alone (ltb (a .processes) 8) tt tt)
     (cons (λ a. tt) (cons (λ a. tt)
-    (cons (λ a. tt)
-    (cons (λ a. on-bool (operand a 0) _ (λ b. cond-both Alone b tt tt))
+    (cons (λ a. quietly)
+    (cons (λ a. on-bool (operand a 0) _ (λ b. cond-both Alone b quietly quietly))
     (cons (λ a. two-ints a _ (λ x y. in-range a (x +ℤ y)))
     (cons (λ a. two-ints a _ (λ x y. in-range a (x -ℤ y)))
-    (cons (λ a. two-ints a _ (λ x y. tt)) (cons (λ a. two-ints a _ (λ x y. tt))
-    (cons (λ a. on-bool (operand a 0) _ (λ b. tt)) nil)))))))))))))))))))))))
+    (cons (λ a. two-ints a _ (λ x y. quietly)) (cons (λ a. two-ints a _ (λ x y. quietly))
+    (cons (λ a. on-bool (operand a 0) _ (λ b. quietly)) nil)))))))))))))))))))))))
 
 nothing-alone : AloneAt doNothing
 unfolding doNothing

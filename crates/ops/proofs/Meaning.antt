@@ -494,7 +494,7 @@ module _ (p : List ℕ) (kept : Kept p) (outcomes : List ℕ) (s : State) (f : F
       or-assoc false y z = refl
 
   -- looking through the arguments
-  empty-args : (n : ℕ) → n ≤ length (f .pending) → emptyDown w (topAt hd 1) n ≡ any isEmpty (take n (f .pending))
+  pub empty-args : (n : ℕ) → n ≤ length (f .pending) → emptyDown w (topAt hd 1) n ≡ any isEmpty (take n (f .pending))
   unfolding emptyDown topAt valueAt
   empty-args zero h = refl
   empty-args (suc j) h =

@@ -1,0 +1,32 @@
+-- `ability` goes by the stand, and by whether an offer has a partner.
+use Rattle.ability.proofs.Returns.{no-offer, unmet, met}
+use borrow.Author.Needs.{needs}
+use Rattle.ability.proofs.ending.ability.Statement.{statement}
+use Rattle.ability.proofs.ending.ability.Tie as tie
+
+stand-of-requires : tie.Need-stand-of-requires
+stand-of-requires c κs = search needs
+
+returns : tie.Need-returns
+returns c =
+    let args = c .before .before .before .before .before .args in
+    no-offer (args .p .now) (args .work .now) (args .t) (args .n .0)
+    (c .before .before .stand-of .ensures) (c .if1 .taken)
+
+partner-requires : tie.Need-partner-requires
+partner-requires c κs = search needs
+
+returns-2 : tie.Need-returns-2
+returns-2 c =
+    let args = c .before .before .before .before .before .before .before .before .args in
+    unmet (args .p .now) (args .work .now) (args .t) (args .n .0)
+    (c .before .before .before .before .before .stand-of .ensures) (c .before .before .before .if1 .left) (c .before .before .partner .ensures) (c .if2 .taken)
+
+returns-3 : tie.Need-returns-3
+returns-3 c =
+    let args = c .before .before .before .before .before .before .before .before .args in
+    met (args .p .now) (args .work .now) (args .t) (args .n .0)
+    (c .before .before .before .before .before .stand-of .ensures) (c .before .before .before .if1 .left) (c .before .before .partner .ensures) (c .if2 .left)
+
+pub ability-spec : {M : Type 1} → statement M
+ability-spec = tie.close (tie.spec stand-of-requires returns partner-requires returns-2 returns-3)

@@ -1,0 +1,3 @@
+pub mod Reads
+pub mod Partner
+pub mod Ending

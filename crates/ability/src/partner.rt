@@ -1,0 +1,61 @@
+// The partner of an offer, found through the holder of the opposite end.
+ghost use mathlib.Core.Path.{_≡_};
+ghost use Prim.Native.Nat.{_+_, _*_, _<_, _≤_, _%_};
+ghost use lib.ListN.{length};
+ghost use Rattle.table.specs.Table.{methods};
+ghost use Rattle.ability.specs.Partner.{oppositeOf, readyOp, partnerOp};
+use super::reads::stand_of;
+use holders::ends::holder_of;
+use names::EndNo;
+use names::ProcessNo;
+use offers::stand::Stand;
+use offers::stand::meets;
+
+fn nobody() -> ProcessNo
+    ensures { λ r. ⌜ r .0 ≡ 65535 ⌝ }
+{
+    ProcessNo(65535)
+}
+
+// The end that a partner needs: the other side of the same channel (tag 5 is side 0, tag 6 side 1).
+fn opposite(a: Stand) -> EndNo
+    ensures { λ r. ⌜ (r .0 ≡ a .end .number % 65536) × (r .1 ≡ oppositeOf (a .end .tag)) ⌝ }
+{
+    let c = (a.end.number % 65536) as u16;
+    if a.end.tag == 5 {
+        return EndNo(c, 1);
+    }
+    EndNo(c, 0)
+}
+
+// Process q, where it is another one and ready to meet the offer a of process n; 65535 else.
+fn ready(p: &[u16], start: usize, work: &[u32], n: ProcessNo, a: Stand, q: ProcessNo) -> ProcessNo
+    requires { ⌜ (start ≡ 2 + 20 * methods (now p)) × (8192 ≤ length (now work)) ⌝ }
+    ensures { λ r. ⌜ r .0 ≡ readyOp (now (p .entry)) (now (work .entry)) (n .0) a (q .0) ⌝ }
+{
+    if q.0 == n.0 {
+        return nobody();
+    }
+    if 8 <= q.0 {
+        return nobody();
+    }
+    if meets(a, stand_of(p, start, work, q)) {
+        return q;
+    }
+    nobody()
+}
+
+pub fn partner(
+    p: &[u16],
+    start: usize,
+    work: &[u32],
+    t: [[u16; 2]; 16],
+    n: ProcessNo,
+    a: Stand,
+) -> ProcessNo
+    requires { ⌜ (start ≡ 2 + 20 * methods (now p)) × (8192 ≤ length (now work)) ⌝ }
+    ensures { λ r. ⌜ r .0 ≡ partnerOp (now (p .entry)) (now (work .entry)) t (n .0) a ⌝ }
+{
+    let q = holder_of(t, opposite(a));
+    ready(p, start, work, n, a, q)
+}
