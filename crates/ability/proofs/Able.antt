@@ -172,7 +172,7 @@ module _ (p : List ℕ) (kept : Kept p) (narrow : (i : ℕ) → argAt p i < 6553
         → meetingOf p outcomes s n o ≡ cond (eqb (found o) n) none (meetsWith n o (found o) (offered (actOf p outcomes s (found o))))
     met-with n o w = partner-is p outcomes s owned n o (found o) (found-held n o w)
 
-    found-partner : (n : ℕ) (o : Offer) → OfferWithin (valuesOf (processAt config n .frames)) o → isMeeting (meetingOf p outcomes s n o) ≡ true
+    pub found-partner : (n : ℕ) (o : Offer) → OfferWithin (valuesOf (processAt config n .frames)) o → isMeeting (meetingOf p outcomes s n o) ≡ true
         → (found o < length (config .processes)) × (found o ≢ n)
     unfolding isMeeting meetsWith offered
     found-partner n o w e = (
@@ -246,7 +246,7 @@ module _ (p : List ℕ) (kept : Kept p) (narrow : (i : ℕ) → argAt p i < 6553
     unfolding abilityOp
     ability-is n h = act-rank n (actOf p outcomes s n) (standOp p (partOf work n)) (act-within p outcomes s n) (not-stuck n) (stand-at n h)
 
-    able-is : (n : ℕ) → n < 8 → able p outcomes s n ≡ eqb (abilityOp p work t n) 1
+    pub able-is : (n : ℕ) → n < 8 → able p outcomes s n ≡ eqb (abilityOp p work t n) 1
     unfolding able
     able-is n h = sym (rank-able n (actOf p outcomes s n)) ∙ ap (λ (r : ℕ). eqb r 1) (sym (ability-is n h))
 

@@ -111,7 +111,7 @@ module _ (p : List ℕ) (kept : Kept p) (c : Config) (laid : Laid c) (rest : Lis
   things-next : (j : ℕ) → j < args → thingsOf (take (suc j) given) ≡ thingsOf (take j given) ++ thingsOf (getD given j empty ∷ [])
   things-next j h = ap thingsOf (take-suc given j empty (omega (arith, given-count))) ∙ things-more (take j given) (getD given j empty)
 
-  things-counted : (j : ℕ) → j ≤ args → thingsIn (encode c ++ rest) n args j ≡ length (thingsOf (take j given))
+  pub things-counted : (j : ℕ) → j ≤ args → thingsIn (encode c ++ rest) n args j ≡ length (thingsOf (take j given))
   unfolding thingsIn thingsOf
   things-counted zero h = refl
   things-counted (suc j) h =

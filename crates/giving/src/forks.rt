@@ -56,7 +56,7 @@ fn hand_args(work: &mut [u32], n: ProcessNo, child: ProcessNo, args: u16)
     }
 }
 
-fn begin_at(p: &[u16], work: &mut [u32], child: ProcessNo, m: u16)
+pub fn begin_at(p: &[u16], work: &mut [u32], child: ProcessNo, m: u16)
     requires { ⌜ (8192 ≤ length (now work)) × (child .0 < 8) ⌝ }
     ensures { λ r. ⌜ now (work .exit) ≡ withPart (now (work .entry)) (child .0) (beganWords (now (p .entry)) (partOf (now (work .entry)) (child .0)) m) ⌝ }
 {

@@ -1,0 +1,6 @@
+pub mod Returns
+pub mod Singly
+pub mod Forked
+pub mod Exchanged
+pub mod Meets
+pub mod Stepped

@@ -1,0 +1,253 @@
+-- What an entry's functions have done at their returns, from what their callees did and how their tests came out.
+use Prim.Native.Nat.{ℕ, _+_, _*_, _-_, _%_, _≤_, _<_}
+use mathlib.Core.Path.{_≡_, refl, _∙_, ap, ap₂}
+use mathlib.Core.Bool.{Bool, true, false, cond}
+use mathlib.Core.List.{List}
+use lib.ListN.{getD, set}
+use lib.Dec.{eqb, leb, ltb}
+use borrow.Author.Tests.{eq-eqb, ne-eqb, lt-ltb, le-ltb, le-leb, lt-leb}
+use borrow.Rule.Slice.PartMut.{midOf, putMid}
+use Rattle.table.specs.Table.{paramsOf}
+use Rattle.store.specs.declared.values.Val.{Val}
+use Rattle.trace.specs.declared.lines.TraceLine.{TraceLine}
+use Rattle.trace.specs.Written.{withLine}
+use Rattle.ops.proofs.Returns.{took, passed-by}
+use Rattle.events.specs.declared.told.Told.{Told}
+use Rattle.events.specs.Told.{Left, left}
+use Rattle.parts.specs.Parts.{partOf}
+use Rattle.parts.proofs.Lifted.{lifted-words, part-read}
+use Rattle.offers.specs.declared.stand.Stand.{Stand}
+use Rattle.offers.specs.Stands.{standOp}
+use Rattle.giving.specs.Gifts.{Gifts, gifts, thingsIn, giftAdded, giftsAdded}
+use Rattle.giving.specs.Given.{forkedWords, metWords}
+use Rattle.ability.specs.Reads.{argumentIn, emptyIn}
+use Rattle.ability.specs.Partner.{partnerOp}
+use Rattle.entries.specs.declared.came.Count.{Count}
+use Rattle.entries.specs.declared.came.Moved.{Moved}
+use Rattle.entries.specs.Came.{came, movedTo, stayedAt, fullAt}
+use Rattle.entries.specs.Single.{inPart, countedWords, toldLine, noted, concludedAt, singleOp}
+use Rattle.entries.specs.Lines.{forkLine, metLine, passedLine, handedOn, forkWritten, metWritten}
+use Rattle.entries.specs.Forking.{forkDone, startOp, tryOp, forkOp}
+use Rattle.entries.specs.Meetings.{exchangeOp, pairOp, joinOp, offerOp, standsOp, meetOp}
+use Rattle.entries.specs.Entries.{entryOp}
+
+-- the answer, the trace and the store each for itself
+pub came-to : {m l : Moved} {t u v w : List ℕ} → m ≡ l → t ≡ u → v ≡ w → came m t v ≡ came l u w
+came-to {l = l} {u = u} {v = v} e f h = ap₂ (λ (x : Moved) (y : List ℕ). came x y v) e f ∙ ap (came l u) h
+
+-- what was told of a part that was lent, as told of the store
+pub lifted-left : (work : List ℕ) (n : ℕ) {t : Told} (ys : List ℕ) (f : List ℕ → Left)
+    → left t ys ≡ f (midOf (512 + 512 * n) (512 + 512 * n + 512 - (512 + 512 * n)) work)
+    → left t (putMid (512 + 512 * n) (512 + 512 * n + 512 - (512 + 512 * n)) work ys) ≡ inPart work n (f (partOf work n))
+unfolding inPart
+lifted-left work n ys f e =
+    ap₂ left
+    (ap (λ (l : Left). l .told) e ∙ ap (λ (w : List ℕ). f w .told) (part-read work n))
+    (lifted-words work n ys (λ w. f w .words) (ap (λ (l : Left). l .words) e))
+
+-- the lines of two processes
+
+pub met-line : (entry n q : ℕ) (e : Val) {side : ℕ} → side ≡ cond (eqb (e .tag) 6) 1 0
+    → record { entry = entry; process = n; kind = 7; a = q; b = e .number % 65536; c = side } ≡ metLine entry n q e
+unfolding metLine
+met-line entry n q e s =
+    ap {B = TraceLine} (λ (x : ℕ). record { entry = entry; process = n; kind = 7; a = q; b = e .number % 65536; c = x }) s
+
+module _ (trace : List ℕ) (line entry n q : ℕ) where
+  pub passes : (v : Val) {l : TraceLine} {t : List ℕ} → v .tag < 3 → l ≡ passedLine entry n v → t ≡ withLine trace line l
+      → t ≡ handedOn trace line entry n q v
+  unfolding handedOn
+  passes v h e f = took _ _ _ refl (lt-ltb (v .tag) 3 h) (f ∙ ap (withLine trace line) e)
+
+  pub gives : (v : Val) {r : ℕ} {t : List ℕ} → 3 ≤ v .tag → gifts r t ≡ giftAdded (gifts line trace) entry n q v
+      → t ≡ handedOn trace line entry n q v
+  unfolding handedOn
+  gives v h e = passed-by _ _ _ refl (le-ltb (v .tag) 3 h) (ap (λ (g : Gifts). g .words) e)
+
+  pub meeting-lines : (e v : Val) {l : TraceLine} {t u : List ℕ} → l ≡ metLine entry n q e → t ≡ withLine trace line l
+      → u ≡ handedOn t (line + 1) entry n q v → u ≡ metWritten trace line entry n q e v
+  unfolding metWritten
+  meeting-lines e v d f h =
+      h ∙ ap (λ (w : List ℕ). handedOn w (line + 1) entry n q v) (f ∙ ap (withLine trace line) d)
+
+  pub fork-lines : (work : List ℕ) (m args : ℕ) {l : TraceLine} {t u : List ℕ} {r : ℕ} → l ≡ forkLine entry n q m args
+      → t ≡ withLine trace line l → gifts r u ≡ giftsAdded (gifts (line + 1) t) work entry n q args args
+      → gifts r u ≡ forkWritten trace work line entry n q m args
+  unfolding forkWritten
+  fork-lines work m args d f h =
+      h
+      ∙ ap (λ (w : List ℕ). giftsAdded (gifts (line + 1) w) work entry n q args args) (f ∙ ap (withLine trace line) d)
+
+-- a thing made is counted
+
+module _ (work : List ℕ) (kind : ℕ) where
+  pub counts-qubit : {q x : ℕ} {w : List ℕ} → kind ≡ 1 → q ≡ getD work 1 0 → x ≡ (q + 1) % 4294967296 → w ≡ set work 1 x
+      → w ≡ countedWords work kind
+  unfolding countedWords
+  counts-qubit k e f h =
+      took _ _ _ refl (eq-eqb kind 1 k) (h ∙ ap (set work 1) (f ∙ ap (λ (i : ℕ). (i + 1) % 4294967296) e))
+
+  pub counts-channel : {q x : ℕ} {w : List ℕ} → (kind ≡ 1 → ⊥) → kind ≡ 2 → q ≡ getD work 2 0 → x ≡ (q + 1) % 4294967296
+      → w ≡ set work 2 x → w ≡ countedWords work kind
+  unfolding countedWords
+  counts-channel j k e f h =
+      passed-by _ _ _ refl (ne-eqb kind 1 j)
+      (took _ _ _ refl (eq-eqb kind 2 k) (h ∙ ap (set work 2) (f ∙ ap (λ (i : ℕ). (i + 1) % 4294967296) e)))
+
+  pub counts-nothing : (kind ≡ 1 → ⊥) → (kind ≡ 2 → ⊥) → work ≡ countedWords work kind
+  unfolding countedWords
+  counts-nothing j k = passed-by _ _ _ refl (ne-eqb kind 1 j) (passed-by _ _ _ refl (ne-eqb kind 2 k) refl)
+
+-- an entry with one line
+
+module _ (p outcomes trace work : List ℕ) (room : ℕ) (g : Count) (n code : ℕ) where
+  pub single-full : {m : Moved} → room ≤ g .lines → m ≡ fullAt g
+      → came m trace work ≡ singleOp p outcomes trace work room g n code
+  unfolding singleOp
+  single-full h e = took _ _ _ refl (le-leb room (g .lines) h) (came-to e refl refl)
+
+  pub single-noted : {t : Told} {w v ts : List ℕ} {l : TraceLine} {u : ℕ} {m : Moved} → g .lines < room
+      → left t w ≡ concludedAt p work n code outcomes (g .used) → v ≡ countedWords w (t .kind) → l ≡ toldLine (g .entry) n t
+      → ts ≡ withLine trace (g .lines) l → u ≡ (g .used + t .used) % 4294967296 → m ≡ movedTo (g .lines + 1) u
+      → came m ts v ≡ singleOp p outcomes trace work room g n code
+  unfolding singleOp noted
+  single-noted h told counted lined written used moved =
+      passed-by _ _ _ refl (lt-leb room (g .lines) h)
+      (came-to (moved ∙ ap (movedTo (g .lines + 1)) used) (written ∙ ap (withLine trace (g .lines)) lined) counted
+      ∙ ap (noted trace g n) told)
+
+-- an entry at FORK
+
+module _ (p trace work : List ℕ) (room : ℕ) (g : Count) (n child method args : ℕ) {things : ℕ}
+    (count : things ≡ thingsIn work n args args) where
+  pub fork-full : {m : Moved} → room < g .lines + 1 + things → m ≡ fullAt g
+      → came m trace work ≡ startOp p trace work room g n child method args
+  unfolding startOp
+  fork-full h e =
+      took _ _ _ (ap (λ (i : ℕ). ltb room (g .lines + 1 + i)) count) (lt-ltb room (g .lines + 1 + things) h)
+      (came-to e refl refl)
+
+  pub fork-starts : {next : ℕ} {ts w : List ℕ} {m : Moved} → g .lines + 1 + things ≤ room
+      → gifts next ts ≡ forkWritten trace work (g .lines) (g .entry) n child method args
+      → w ≡ forkedWords p work n child method args → m ≡ movedTo next (g .used)
+      → came m ts w ≡ startOp p trace work room g n child method args
+  unfolding startOp forkDone
+  fork-starts h written forked moved =
+      passed-by _ _ _ (ap (λ (i : ℕ). ltb room (g .lines + 1 + i)) count) (le-ltb room (g .lines + 1 + things) h)
+      (came-to moved refl forked ∙ ap (λ (ls : Gifts). forkDone p work g ls n child method args) written)
+
+module _ (p outcomes trace work : List ℕ) (room : ℕ) (g : Count) (n method args : ℕ) {b : Bool} {x : Moved}
+    {ts ws : List ℕ} (e : b ≡ emptyIn (partOf work n) args) where
+  pub fork-lacks : b ≡ true → came x ts ws ≡ singleOp p outcomes trace work room g n 20
+      → came x ts ws ≡ tryOp p outcomes trace work room g n method args
+  unfolding tryOp
+  fork-lacks h q = took _ _ _ e h q
+
+  pub fork-beyond : {made : ℕ} → b ≡ false → made ≡ getD work 0 0 → 8 ≤ made
+      → came x ts ws ≡ singleOp p outcomes trace work room g n 23
+      → came x ts ws ≡ tryOp p outcomes trace work room g n method args
+  unfolding tryOp
+  fork-beyond {made} h f k q = passed-by _ _ _ e h (took _ _ _ (ap (leb 8) f) (le-leb 8 made k) q)
+
+  pub fork-tried : {made : ℕ} → b ≡ false → made ≡ getD work 0 0 → made < 8
+      → came x ts ws ≡ startOp p trace work room g n made method args
+      → came x ts ws ≡ tryOp p outcomes trace work room g n method args
+  unfolding tryOp
+  fork-tried {made} h f k q =
+      passed-by _ _ _ e h
+      (passed-by _ _ _ (ap (leb 8) f) (lt-leb 8 made k)
+      (q ∙ ap (λ (i : ℕ). startOp p trace work room g n i method args) f))
+
+pub fork-read : (p outcomes trace work : List ℕ) (room : ℕ) (g : Count) (n : ℕ) {method args : ℕ} {x : Moved}
+    {ts ws : List ℕ} → method ≡ argumentIn p (partOf work n) → args ≡ paramsOf p method
+    → came x ts ws ≡ tryOp p outcomes trace work room g n method args
+    → came x ts ws ≡ forkOp p outcomes trace work room g n
+unfolding forkOp
+fork-read p outcomes trace work room g n e f q =
+    q ∙ ap₂ (tryOp p outcomes trace work room g n) e (f ∙ ap (paramsOf p) e)
+
+-- an entry at SEND or RECV
+
+module _ (trace work : List ℕ) (room : ℕ) (g : Count) (sender receiver : ℕ) (e v : Val) where
+  pub exchange-full : {m : Moved} → room < g .lines + 2 → m ≡ fullAt g
+      → came m trace work ≡ exchangeOp trace work room g sender receiver e v
+  unfolding exchangeOp
+  exchange-full h q = took _ _ _ refl (lt-ltb room (g .lines + 2) h) (came-to q refl refl)
+
+  pub exchanged : {ts w : List ℕ} {m : Moved} → g .lines + 2 ≤ room
+      → ts ≡ metWritten trace (g .lines) (g .entry) sender receiver e v → w ≡ metWords work sender receiver v
+      → m ≡ movedTo (g .lines + 2) (g .used) → came m ts w ≡ exchangeOp trace work room g sender receiver e v
+  unfolding exchangeOp
+  exchanged h written met moved =
+      passed-by _ _ _ refl (le-ltb room (g .lines + 2) h) (came-to moved written met)
+
+module _ (p trace work : List ℕ) (room : ℕ) (g : Count) (n : ℕ) (a : Stand) where
+  pub pair-sends : (q : ℕ) {x : Moved} {ts ws : List ℕ} → a .kind ≡ 2
+      → came x ts ws ≡ exchangeOp trace work room g n q (a .end) (a .value)
+      → came x ts ws ≡ pairOp p trace work room g n a q
+  unfolding pairOp
+  pair-sends q h r = took _ _ _ refl (eq-eqb (a .kind) 2 h) r
+
+  pub pair-receives : (q : ℕ) {b : Stand} {x : Moved} {ts ws : List ℕ} → (a .kind ≡ 2 → ⊥) → b ≡ standOp p (partOf work q)
+      → came x ts ws ≡ exchangeOp trace work room g q n (b .end) (b .value)
+      → came x ts ws ≡ pairOp p trace work room g n a q
+  unfolding pairOp
+  pair-receives q h e r =
+      passed-by _ _ _ refl (ne-eqb (a .kind) 2 h)
+      (r ∙ ap (λ (s : Stand). exchangeOp trace work room g q n (s .end) (s .value)) e)
+
+  pub offer-waits : (t : List (List ℕ)) {q : ℕ} {m : Moved} → q ≡ partnerOp p work t n a → 8 ≤ q → m ≡ stayedAt g
+      → came m trace work ≡ offerOp p trace work room t g n a
+  unfolding offerOp joinOp
+  offer-waits t {q} e h s =
+      took _ _ _ refl (le-leb 8 q h) (came-to s refl refl) ∙ ap (joinOp p trace work room g n a) e
+
+  pub offer-meets : (t : List (List ℕ)) {q : ℕ} {x : Moved} {ts ws : List ℕ} → q ≡ partnerOp p work t n a → q < 8
+      → came x ts ws ≡ pairOp p trace work room g n a q → came x ts ws ≡ offerOp p trace work room t g n a
+  unfolding offerOp joinOp
+  offer-meets t {q} e h r = passed-by _ _ _ refl (lt-leb 8 q h) r ∙ ap (joinOp p trace work room g n a) e
+
+module _ (p outcomes trace work : List ℕ) (room : ℕ) (t : List (List ℕ)) (g : Count) (n : ℕ) {a : Stand}
+    {x : Moved} {ts ws : List ℕ} (e : a ≡ standOp p (partOf work n)) where
+  pub meet-faults : a .kind < 2 → came x ts ws ≡ singleOp p outcomes trace work room g n 20
+      → came x ts ws ≡ meetOp p outcomes trace work room t g n
+  unfolding meetOp standsOp
+  meet-faults h q =
+      took _ _ _ refl (lt-ltb (a .kind) 2 h) q ∙ ap (standsOp p outcomes trace work room t g n) e
+
+  pub meet-offers : 2 ≤ a .kind → came x ts ws ≡ offerOp p trace work room t g n a
+      → came x ts ws ≡ meetOp p outcomes trace work room t g n
+  unfolding meetOp standsOp
+  meet-offers h q =
+      passed-by _ _ _ refl (le-ltb (a .kind) 2 h) q ∙ ap (standsOp p outcomes trace work room t g n) e
+
+-- an entry by its code
+
+module _ (p outcomes trace work : List ℕ) (room : ℕ) (t : List (List ℕ)) (g : Count) (n code : ℕ) where
+  pub entry-stays : {m : Moved} → code ≡ 1 → m ≡ stayedAt g
+      → came m trace work ≡ entryOp p outcomes trace work room t g n code
+  unfolding entryOp
+  entry-stays k e = rw (eq-eqb code 1 k) (came-to e refl refl)
+
+  module _ {x : Moved} {ts ws : List ℕ} (a : code ≡ 1 → ⊥) where
+    pub entry-forks : code ≡ 114 → came x ts ws ≡ forkOp p outcomes trace work room g n
+        → came x ts ws ≡ entryOp p outcomes trace work room t g n code
+    unfolding entryOp
+    entry-forks k q = rw (ne-eqb code 1 a, eq-eqb code 114 k) q
+
+    pub entry-sends : (code ≡ 114 → ⊥) → code ≡ 115 → came x ts ws ≡ meetOp p outcomes trace work room t g n
+        → came x ts ws ≡ entryOp p outcomes trace work room t g n code
+    unfolding entryOp
+    entry-sends b k q = rw (ne-eqb code 1 a, ne-eqb code 114 b, eq-eqb code 115 k) q
+
+    pub entry-receives : (code ≡ 114 → ⊥) → (code ≡ 115 → ⊥) → code ≡ 116
+        → came x ts ws ≡ meetOp p outcomes trace work room t g n
+        → came x ts ws ≡ entryOp p outcomes trace work room t g n code
+    unfolding entryOp
+    entry-receives b c k q = rw (ne-eqb code 1 a, ne-eqb code 114 b, ne-eqb code 115 c, eq-eqb code 116 k) q
+
+    pub entry-single : (code ≡ 114 → ⊥) → (code ≡ 115 → ⊥) → (code ≡ 116 → ⊥)
+        → came x ts ws ≡ singleOp p outcomes trace work room g n (code % 65536)
+        → came x ts ws ≡ entryOp p outcomes trace work room t g n code
+    unfolding entryOp
+    entry-single b c f q = rw (ne-eqb code 1 a, ne-eqb code 114 b, ne-eqb code 115 c, ne-eqb code 116 f) q

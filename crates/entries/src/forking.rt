@@ -1,0 +1,88 @@
+// An entry at FORK.
+ghost use mathlib.Core.Path.{_≡_};
+ghost use Prim.Native.Nat.{_+_, _*_, _<_, _≤_};
+ghost use lib.ListN.{length, getD};
+ghost use Rattle.table.specs.Table.{methods};
+ghost use Rattle.entries.specs.Came.{came};
+ghost use Rattle.entries.specs.Forking.{startOp, tryOp, forkOp};
+use super::came::Count;
+use super::came::Moved;
+use super::came::full;
+use super::came::taken;
+use super::lines::write_fork;
+use super::single::single;
+use ability::reads::argument_of;
+use ability::reads::lacks_of;
+use giving::forks::fork;
+use giving::gifts::count_things;
+use names::ProcessNo;
+use ops::calls::params;
+use store::values::get;
+
+// The child started with its arguments, where its lines fit.
+fn start_child(
+    p: &[u16],
+    trace: &mut [u16],
+    work: &mut [u32],
+    room: usize,
+    g: Count,
+    n: ProcessNo,
+    child: ProcessNo,
+    m: u16,
+    args: u16,
+) -> Moved
+    requires { ⌜ (8192 ≤ length (now work)) × (n .0 < 8) × (child .0 < 8) × (g .lines < 16000000) ⌝ }
+    ensures { λ r. ⌜ came r (now (trace .exit)) (now (work .exit)) ≡ startOp (now (p .entry)) (now (trace .entry)) (now (work .entry)) room g (n .0) (child .0) m args ⌝ }
+{
+    let things = count_things(work, n, args);
+    if room < g.lines as usize + 1 + things as usize {
+        return full(g);
+    }
+    let next = write_fork(trace, work, g.lines, g.entry, n, child, m, args);
+    fork(p, work, n, child, m, args);
+    taken(next, g.used)
+}
+
+// "20 .. before all others"; "23 process beyond 8".
+fn try_fork(
+    p: &[u16],
+    start: usize,
+    outcomes: &[u8],
+    trace: &mut [u16],
+    work: &mut [u32],
+    room: usize,
+    g: Count,
+    n: ProcessNo,
+    m: u16,
+    args: u16,
+) -> Moved
+    requires { ⌜ (start ≡ 2 + 20 * methods (now p)) × (8192 ≤ length (now work)) × (n .0 < 8) × (g .lines < 16000000) ⌝ }
+    ensures { λ r. ⌜ came r (now (trace .exit)) (now (work .exit)) ≡ tryOp (now (p .entry)) (now (outcomes .entry)) (now (trace .entry)) (now (work .entry)) room g (n .0) m args ⌝ }
+{
+    if lacks_of(work, n, args) {
+        return single(p, start, outcomes, trace, work, room, g, n, 20);
+    }
+    let made = get(work, 0);
+    if 8 <= made {
+        return single(p, start, outcomes, trace, work, room, g, n, 23);
+    }
+    start_child(p, trace, work, room, g, n, ProcessNo(made as u16), m, args)
+}
+
+pub fn fork_entry(
+    p: &[u16],
+    start: usize,
+    outcomes: &[u8],
+    trace: &mut [u16],
+    work: &mut [u32],
+    room: usize,
+    g: Count,
+    n: ProcessNo,
+) -> Moved
+    requires { ⌜ (start ≡ 2 + 20 * methods (now p)) × (8192 ≤ length (now work)) × (n .0 < 8) × (g .lines < 16000000) ⌝ }
+    ensures { λ r. ⌜ came r (now (trace .exit)) (now (work .exit)) ≡ forkOp (now (p .entry)) (now (outcomes .entry)) (now (trace .entry)) (now (work .entry)) room g (n .0) ⌝ }
+{
+    let m = argument_of(p, start, work, n);
+    let args = params(p, m);
+    try_fork(p, start, outcomes, trace, work, room, g, n, m, args)
+}

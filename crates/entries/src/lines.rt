@@ -1,0 +1,111 @@
+// The lines of an entry in which two processes take part.
+ghost use mathlib.Core.Path.{_≡_};
+ghost use Prim.Native.Nat.{_+_, _*_, _<_, _≤_};
+ghost use lib.ListN.{length};
+ghost use Rattle.giving.specs.Gifts.{gifts};
+ghost use Rattle.entries.specs.Lines.{forkLine, metLine, passedLine, handedOn, forkWritten, metWritten};
+use giving::gifts::write_gift;
+use giving::gifts::write_gifts;
+use names::ProcessNo;
+use store::values::Val;
+use trace::lines::TraceLine;
+use trace::lines::write_line;
+
+fn fork_line(entry: u16, n: ProcessNo, child: ProcessNo, m: u16, args: u16) -> TraceLine
+    ensures { λ r. ⌜ r ≡ forkLine entry (n .0) (child .0) m args ⌝ }
+{
+    TraceLine {
+        entry: entry,
+        process: n.0,
+        kind: 5,
+        a: child.0,
+        b: m,
+        c: args,
+    }
+}
+
+// "5 fork: child a, method b, P in c; then a kind 6 line for each argument given, in order". The answer is the number of
+// the next line.
+pub fn write_fork(
+    trace: &mut [u16],
+    work: &[u32],
+    line: u32,
+    entry: u16,
+    n: ProcessNo,
+    child: ProcessNo,
+    m: u16,
+    args: u16,
+) -> u32
+    requires { ⌜ (8192 ≤ length (now work)) × (n .0 < 8) × (line < 16000000) ⌝ }
+    ensures { λ r. ⌜ gifts r (now (trace .exit)) ≡ forkWritten (now (trace .entry)) (now (work .entry)) line entry (n .0) (child .0) m args ⌝ }
+{
+    write_line(trace, line, fork_line(entry, n, child, m, args));
+    write_gifts(trace, work, line + 1, entry, n, child, args)
+}
+
+// "7 met, process the sender: receiver a, channel b, sender's side c"
+fn met_line(entry: u16, sender: ProcessNo, receiver: ProcessNo, e: Val) -> TraceLine
+    ensures { λ r. ⌜ r ≡ metLine entry (sender .0) (receiver .0) e ⌝ }
+{
+    let mut side: u16 = 0;
+    if e.tag == 6 {
+        side = 1;
+    }
+    TraceLine {
+        entry: entry,
+        process: sender.0,
+        kind: 7,
+        a: receiver.0,
+        b: (e.number % 65536) as u16,
+        c: side,
+    }
+}
+
+// "8: the value's low and high 16 bits"
+fn passed_line(entry: u16, sender: ProcessNo, v: Val) -> TraceLine
+    ensures { λ r. ⌜ r ≡ passedLine entry (sender .0) v ⌝ }
+{
+    TraceLine {
+        entry: entry,
+        process: sender.0,
+        kind: 8,
+        a: (v.number % 65536) as u16,
+        b: (v.number / 65536) as u16,
+        c: 65535,
+    }
+}
+
+// "then a 6 line, or 8"
+fn write_value(
+    trace: &mut [u16],
+    line: u32,
+    entry: u16,
+    sender: ProcessNo,
+    receiver: ProcessNo,
+    v: Val,
+)
+    requires { ⌜ line < 16777216 ⌝ }
+    ensures { λ r. ⌜ now (trace .exit) ≡ handedOn (now (trace .entry)) line entry (sender .0) (receiver .0) v ⌝ }
+{
+    if v.tag < 3 {
+        write_line(trace, line, passed_line(entry, sender, v));
+        return;
+    }
+    write_gift(trace, line, entry, sender, receiver, v);
+}
+
+pub fn write_meeting(
+    trace: &mut [u16],
+    line: u32,
+    entry: u16,
+    sender: ProcessNo,
+    receiver: ProcessNo,
+    e: Val,
+    v: Val,
+)
+    requires { ⌜ line < 16000000 ⌝ }
+    ensures { λ r. ⌜ now (trace .exit) ≡ metWritten (now (trace .entry)) line entry (sender .0) (receiver .0) e v ⌝ }
+{
+    write_line(trace, line, met_line(entry, sender, receiver, e));
+    write_value(trace, line + 1, entry, sender, receiver, v);
+}
