@@ -1,0 +1,8 @@
+pub mod Steps
+pub mod Returns
+pub mod Modest
+pub mod Ready
+pub mod Began
+pub mod Accepting
+pub mod Turning
+pub mod Answering

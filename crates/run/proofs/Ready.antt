@@ -1,0 +1,549 @@
+-- What stands before an entry of the run: trace and store hold the state's lines and configuration, and the run from
+-- there is the rest of the whole run. What each entry does to it.
+use Prim.Native.Nat.{ℕ, zero, suc, _+_, _*_, _-_, _≤_, _<_}
+use mathlib.Core.Path.{_≡_, refl, sym, _∙_, ap, ap₂, subst}
+use mathlib.Core.Logic.{_≢_, _⊎_, inl, inr, ⊎-elim}
+use mathlib.Core.Bool.{Bool, true, false, cond, not, _&&_, true≢false}
+use mathlib.Core.List.{List, [], _∷_, _++_, append-nil, append-assoc}
+use mathlib.Core.Option.{Option, none, some}
+use native.Mathlib.Omega.{arith}
+use lib.ListN.{getD, take, drop, length, length-append, take-append-drop}
+use lib.Dec.{T, eqb, leb, ltb}
+use borrow.Author.Tests.{eqb-true, eqb-false, eq-eqb, ne-eqb, le-leb, lt-leb, leb-true, leb-false}
+use Rattle.lists.specs.Lists.{All}
+use Rattle.lists.proofs.Tests.{decide}
+use Rattle.table.specs.Table.{argAt}
+use Rattle.table.proofs.Accepted.{Kept}
+use Rattle.machine.specs.State.{Config, Line, State, startConfig, start}
+use Rattle.machine.specs.Act.{Act, idle, stuck, faults, goes, ends, makes, forks, offers, actOf}
+use Rattle.machine.specs.Entry.{Effect, Meeting, nothing, meetingOf, meetingIf, isMeeting, applied, effectOf, moves, able}
+use Rattle.machine.specs.Run.{Result, fits, afterEffect, ended, runFrom, run}
+use Rattle.machine.specs.Answer.{traceWords, traceAfter}
+use Rattle.machine.proofs.Typing.{ConfigTyped, Typed}
+use Rattle.machine.proofs.Partner.{unmade-idle}
+use Rattle.machine.proofs.Steps.{stateAt, ending, at-typed, at-kept, at-start, at-next, at-full, at-last, ends-here, able-goes}
+use Rattle.machine.proofs.Ownership as own
+use Rattle.layout.specs.Layout.{encode}
+use Rattle.ops.specs.Did.{Did, did, stepOp}
+use Rattle.parts.specs.Parts.{partAt, partOf, withPart, onPart}
+use Rattle.holders.specs.Holders.{notedFrom, nobody}
+use Rattle.holders.proofs.Holding.{Holding, holding-none, holding-lines}
+use Rattle.ability.specs.Ending.{endingOp}
+use Rattle.ability.proofs.Able.{sound, ending-is}
+use Rattle.entries.specs.declared.came.Count.{Count}
+use Rattle.entries.specs.declared.came.Moved.{Moved}
+use Rattle.entries.specs.Came.{Came, came, movedTo, stayedAt, fullAt}
+use Rattle.entries.specs.Entries.{entryOp}
+use Rattle.entries.proofs.Singly.{took, tried}
+use Rattle.entries.proofs.Meets.{went}
+use Rattle.entries.proofs.Stepped.{Plain, Other, Law, entry-law}
+use Rattle.run.specs.declared.turn.Turn.{Turn}
+use Rattle.run.specs.declared.burst.Burst.{Burst}
+use Rattle.run.specs.Bursts.{Stop, stopsAt, namedOp, burstOp}
+use Rattle.run.specs.Turned.{Turned, turned, cameOp, turnedBy, turnOp}
+use Rattle.run.specs.declared.turns.Advance.{Advance}
+use Rattle.run.specs.Advanced.{Advanced, advanced, usedUp, turnedAt, advancedFrom, advanceOp}
+use Rattle.run.proofs.Modest.{modest}
+
+-- an entry of a process that cannot move does nothing
+unable-nothing : (p outcomes : List ℕ) (k : ℕ) (s : State) (n : ℕ) → able p outcomes s n ≡ false → effectOf p outcomes k s n ≡ nothing s
+unfolding able effectOf meetingIf isMeeting applied moves
+unable-nothing p outcomes k s n e = go (actOf p outcomes s n) e
+  where
+    unmet : (m : Option Meeting) → isMeeting m ≡ false → meetingIf k s m ≡ nothing s
+    unmet none e = refl
+    unmet (some m) e = absurd (true≢false e)
+
+    go : (a : Act) → moves p outcomes s n a ≡ false → applied p outcomes k s n a ≡ nothing s
+    go idle e = refl
+    go stuck e = refl
+    go (faults m) e = absurd (true≢false e)
+    go (goes fs es u) e = absurd (true≢false e)
+    go ends e = absurd (true≢false e)
+    go (makes t fs) e = absurd (true≢false e)
+    go (forks m args fs) e = absurd (true≢false e)
+    go (offers o) e = unmet (meetingOf p outcomes s n o) e
+
+after-nothing : (s : State) → afterEffect s (nothing s) ≡ s
+unfolding afterEffect
+after-nothing s = λ i. record { config = s .config; used = added i; lines = append-nil (s .lines) i }
+  where
+    added : s .used + 0 ≡ s .used
+    added = omega arith
+
+-- a part put back is the store
+part-same : (w : List ℕ) (n : ℕ) → withPart w n (partOf w n) ≡ w
+unfolding withPart partOf
+part-same w n =
+    ap (λ (l : List ℕ). take (partAt n) w ++ l) (take-append-drop 512 (drop (partAt n) w)) ∙ take-append-drop (partAt n) w
+
+module _ (p : List ℕ) (kept : Kept p) (narrow : (i : ℕ) → argAt p i < 65536) (outcomes : List ℕ) (bytes : All (λ o. o < 256) outcomes)
+    (schedule : List ℕ) (short : length schedule ≤ 65535) (rest t0 : List ℕ) (room : ℕ) (holds : 6 * room ≤ length t0) where
+  abbrev pub at : ℕ → State
+  at k = stateAt p outcomes schedule k
+
+  pub record Ready (k : ℕ) (work trace : List ℕ) (t : List (List ℕ)) (lines used : ℕ) (known : Bool) : Type 0 where
+    pub runs : run p outcomes room schedule ≡ runFrom p outcomes room (at k) k (drop k schedule)
+    pub inside : k ≤ length schedule
+    pub store : work ≡ encode (at k .config) ++ rest
+    pub written : trace ≡ traceAfter (at k .lines) t0
+    pub counted : lines ≡ length (at k .lines)
+    pub drawn : used ≡ at k .used
+    pub table : Holding t (at k .lines)
+    pub sure : known ≡ true → ending p outcomes (at k) ≡ 0
+    pub fit : length (at k .lines) ≤ room
+    pub fewLines : length (at k .lines) ≤ 17 * k
+    pub fewUsed : at k .used ≤ k
+
+  -- the run is over before entry k
+  pub record Over (k end : ℕ) (work trace : List ℕ) (lines used : ℕ) : Type 0 where
+    pub ends : run p outcomes room schedule ≡ ended end k (at k)
+    pub store : work ≡ encode (at k .config) ++ rest
+    pub written : trace ≡ traceAfter (at k .lines) t0
+    pub counted : lines ≡ length (at k .lines)
+    pub drawn : used ≡ at k .used
+
+  -- the start
+
+  pub ready-start : (work : List ℕ) → work ≡ encode (startConfig p) ++ rest → Ready 0 work t0 nobody 0 0 false
+  unfolding stateAt start traceAfter traceWords
+  ready-start work e = record {
+    runs = at-start p outcomes room schedule;
+    inside = omega arith;
+    store = e;
+    written = refl;
+    counted = refl;
+    drawn = refl;
+    table = holding-none;
+    sure = λ i. absurd (true≢false (sym i));
+    fit = omega arith;
+    fewLines = omega arith;
+    fewUsed = omega arith;
+  }
+
+  module _ (k : ℕ) where
+    ks : List ℕ
+    ks = at-typed p outcomes schedule kept bytes k .0
+
+    typed : ConfigTyped p ks (at k .config)
+    unfolding ks
+    typed = at-typed p outcomes schedule kept bytes k .1
+
+    owned : own.Kept (at k .config) (at k .lines)
+    owned = at-kept p outcomes schedule k
+
+    abbrev named : ℕ
+    named = getD schedule k 0
+
+    abbrev effect : Effect
+    effect = effectOf p outcomes k (at k) named
+
+    next : at (suc k) ≡ afterEffect (at k) effect
+    unfolding stateAt
+    next = refl
+
+    small-effect : (effect .used ≤ 1) × (length (effect .lines) ≤ 17)
+    small-effect = modest p kept outcomes bytes (at k) ks typed k named
+
+    -- one entry taken, whatever it did
+    ready-next : {work trace : List ℕ} {t : List (List ℕ)} {lines used : ℕ} {known : Bool} → Ready k work trace t lines used known → k < length schedule
+        → ending p outcomes (at k) ≡ 0 → fits room (at k) effect ≡ true
+        → (work′ trace′ : List ℕ) (t′ : List (List ℕ)) (lines′ used′ : ℕ) (known′ : Bool)
+        → work′ ≡ encode (effect .config) ++ rest → trace′ ≡ traceAfter (at k .lines ++ effect .lines) t0 → lines′ ≡ length (at k .lines ++ effect .lines)
+        → used′ ≡ at k .used + effect .used → Holding t′ (at k .lines ++ effect .lines) → (known′ ≡ true → ending p outcomes (at (suc k)) ≡ 0)
+        → Ready (suc k) work′ trace′ t′ lines′ used′ known′
+    unfolding afterEffect fits stateAt
+    ready-next r l e f work′ trace′ t′ lines′ used′ known′ w tr ln us ho kn = record {
+      runs = r .runs ∙ at-next p outcomes room schedule k l e f;
+      inside = l;
+      store = w;
+      written = tr;
+      counted = ln;
+      drawn = us;
+      table = ho;
+      sure = kn;
+      fit = omega (arith, leb-true (length (at k .lines) + length (effect .lines)) room f, length-append (at k .lines) (effect .lines));
+      fewLines = omega (arith, r .fewLines, small-effect .1, length-append (at k .lines) (effect .lines));
+      fewUsed = omega (arith, r .fewUsed, small-effect .0);
+    }
+
+    -- a plain step
+
+    ready-plain : {work trace : List ℕ} {t : List (List ℕ)} {lines used : ℕ} {known : Bool} → Ready k work trace t lines used known → k < length schedule
+        → able p outcomes (at k) named ≡ true → effect .lines ≡ [] → effect .used ≡ 0
+        → (work′ : List ℕ) → work′ ≡ encode (effect .config) ++ rest → Ready (suc k) work′ trace t lines used false
+    unfolding fits
+    ready-plain {work} {trace} {t} {lines} {used} r l a ls us work′ w =
+        ready-next r l (able-goes p outcomes (at k) named a)
+        (ap (λ (x : List Line). leb (length (at k .lines) + length x) room) ls ∙ le-leb (length (at k .lines) + 0) room (omega (arith, r .fit)))
+        work′ trace t lines used false w
+        (r .written ∙ ap (λ (x : List Line). traceAfter x t0) same)
+        (r .counted ∙ ap length same)
+        (r .drawn ∙ sym (ap (λ (u : ℕ). at k .used + u) us ∙ none-more))
+        (subst (Holding t) same (r .table))
+        (λ i. absurd (true≢false (sym i)))
+      where
+        same : at k .lines ≡ at k .lines ++ effect .lines
+        same = sym (ap (λ (x : List Line). at k .lines ++ x) ls ∙ append-nil (at k .lines))
+
+        none-more : at k .used + 0 ≡ at k .used
+        none-more = omega arith
+
+    -- an idle entry, where the run goes on
+
+    idle-same : able p outcomes (at k) named ≡ false → effect ≡ nothing (at k)
+    idle-same a = unable-nothing p outcomes k (at k) named a
+
+    ready-idle : {work trace : List ℕ} {t : List (List ℕ)} {lines used : ℕ} {known : Bool} → Ready k work trace t lines used known → k < length schedule
+        → able p outcomes (at k) named ≡ false → ending p outcomes (at k) ≡ 0 → Ready (suc k) work trace t lines used true
+    unfolding fits
+    ready-idle {work} {trace} {t} {lines} {used} r l a e =
+        ready-next r l e
+        (ap (λ (x : Effect). leb (length (at k .lines) + length (x .lines)) room) (idle-same a) ∙ le-leb (length (at k .lines) + 0) room (omega (arith, r .fit)))
+        work trace t lines used true
+        (r .store ∙ ap (λ (x : Effect). encode (x .config) ++ rest) (sym (idle-same a)))
+        (r .written ∙ ap (λ (x : List Line). traceAfter x t0) same)
+        (r .counted ∙ ap length same)
+        (r .drawn ∙ sym (ap (λ (x : Effect). at k .used + x .used) (idle-same a) ∙ none-more))
+        (subst (Holding t) same (r .table))
+        (λ i. ap (ending p outcomes) (next ∙ ap (afterEffect (at k)) (idle-same a) ∙ after-nothing (at k)) ∙ e)
+      where
+        same : at k .lines ≡ at k .lines ++ effect .lines
+        same = sym (ap (λ (x : Effect). at k .lines ++ x .lines) (idle-same a) ∙ append-nil (at k .lines))
+
+        none-more : at k .used + 0 ≡ at k .used
+        none-more = omega arith
+
+    -- what the entry comes to, by whether the named process is able to move and whether the lines fit
+
+    abbrev trace₀ : List ℕ
+    trace₀ = traceAfter (at k .lines) t0
+
+    abbrev work₀ : List ℕ
+    work₀ = encode (at k .config) ++ rest
+
+    abbrev count₀ : Count
+    count₀ = record { entry = k; lines = length (at k .lines); used = at k .used }
+
+    abbrev taken : Came
+    taken =
+        came (movedTo (length (at k .lines ++ effect .lines)) (at k .used + effect .used)) (traceAfter (at k .lines ++ effect .lines) t0)
+        (encode (effect .config) ++ rest)
+
+    abbrev comes : Bool → Bool → Came
+    comes a f = cond a (cond f taken (came (fullAt count₀) trace₀ work₀)) (came (stayedAt count₀) trace₀ work₀)
+
+    abbrev comesTo : Came
+    comesTo = comes (able p outcomes (at k) named) (fits room (at k) effect)
+
+    -- the step of the named process: plain, or the rest of the entry does all
+    pub record Stepped (d : Did) : Type 0 where
+      pub code : d .code ≡ 0
+      pub can : able p outcomes (at k) named ≡ true
+      pub words : d .words ≡ encode (effect .config) ++ rest
+      pub lines : effect .lines ≡ []
+      pub used : effect .used ≡ 0
+
+    pub record Stopped (t : List (List ℕ)) (d : Did) : Type 0 where
+      pub code : d .code ≢ 0
+      pub words : d .words ≡ work₀
+      pub came : cameOp p outcomes trace₀ work₀ room t count₀ named (d .code) ≡ comesTo
+
+    named-law : {work trace : List ℕ} {t : List (List ℕ)} {lines used : ℕ} {known : Bool} → Ready k work trace t lines used known
+        → Stepped (namedOp p work₀ named) ⊎ Stopped t (namedOp p work₀ named)
+    unfolding namedOp able moves onPart cameOp effectOf
+    named-law {work} {trace} {t} {lines} {used} {known} r = go (leb 8 named) refl
+      where
+        low : at k .used < 4000000000
+        low = omega (arith, r .fewUsed, r .inside, short)
+
+        far : 8 ≤ named → able p outcomes (at k) named ≡ false
+        far h = ap (moves p outcomes (at k) named) (unmade-idle p outcomes (at k) named (omega (arith, h, sound p kept narrow outcomes bytes (at k) ks typed rest .processCount)))
+
+        near : named < 8 → Stepped (onPart work₀ named (stepOp p (partOf work₀ named))) ⊎ Stopped t (onPart work₀ named (stepOp p (partOf work₀ named)))
+        near h =
+            ⊎-elim
+            (λ (x : Plain p kept narrow outcomes bytes (at k) ks typed rest t0 room holds low k named owned t (r .table) h (stepOp p (partOf work₀ named))).
+            inl (record { code = x .code; can = x .can; words = x .words; lines = x .lines; used = x .used }))
+            (λ (x : Other p kept narrow outcomes bytes (at k) ks typed rest t0 room holds low k named owned t (r .table) h (stepOp p (partOf work₀ named))).
+            inr (record {
+              code = x .code;
+              words = ap (withPart work₀ named) (x .words) ∙ part-same work₀ named;
+              came = ap (λ (b : Bool). cond b (came (stayedAt count₀) trace₀ work₀) (entryOp p outcomes trace₀ work₀ room t count₀ named (stepOp p (partOf work₀ named) .code))) (lt-leb 8 named h) ∙ x .entry;
+            }))
+            (entry-law p kept narrow outcomes bytes (at k) ks typed rest t0 room holds low k named owned t (r .table) h)
+
+        go : (b : Bool) → leb 8 named ≡ b
+            → Stepped (cond b (did 1 work₀) (onPart work₀ named (stepOp p (partOf work₀ named))))
+            ⊎ Stopped t (cond b (did 1 work₀) (onPart work₀ named (stepOp p (partOf work₀ named))))
+        go true h =
+            inr (record {
+              code = λ e. absurd (omega (arith, e));
+              words = refl;
+              came = ap (λ (b : Bool). cond b (came (stayedAt count₀) trace₀ work₀) (entryOp p outcomes trace₀ work₀ room t count₀ named 1)) h
+                  ∙ sym (ap (λ (b : Bool). comes b (fits room (at k) effect)) (far (leb-true 8 named h)));
+            })
+        go false h = near (leb-false 8 named h)
+
+    -- the same words, by whatever names
+    ready-as : {work work′ trace trace′ : List ℕ} {t : List (List ℕ)} {lines used : ℕ} {known : Bool} → Ready k work trace t lines used known → work′ ≡ work
+        → trace′ ≡ trace → Ready k work′ trace′ t lines used known
+    ready-as r w x = record {
+      runs = r .runs;
+      inside = r .inside;
+      store = w ∙ r .store;
+      written = x ∙ r .written;
+      counted = r .counted;
+      drawn = r .drawn;
+      table = r .table;
+      sure = r .sure;
+      fit = r .fit;
+      fewLines = r .fewLines;
+      fewUsed = r .fewUsed;
+    }
+
+    came-as : {work trace : List ℕ} {t : List (List ℕ)} {lines used : ℕ} {known : Bool} → Ready k work trace t lines used known → (code : ℕ)
+        → cameOp p outcomes trace₀ work₀ room t count₀ named code ≡ comesTo
+        → cameOp p outcomes trace work room t (record { entry = k; lines = lines; used = used }) named code ≡ comesTo
+    came-as {t = t} r code e =
+        (λ i. cameOp p outcomes (r .written i) (r .store i) room t (record { entry = k; lines = r .counted i; used = r .drawn i }) named code) ∙ e
+
+    -- an entry whose step answers 1 is idle
+    idle-unable : (t : List (List ℕ)) → cameOp p outcomes trace₀ work₀ room t count₀ named 1 ≡ comesTo → able p outcomes (at k) named ≡ false
+    unfolding cameOp entryOp
+    idle-unable t e = go (able p outcomes (at k) named) (fits room (at k) effect) (sym (stays (leb 8 named)) ∙ e)
+      where
+        stays : (b : Bool) → cond b (came (stayedAt count₀) trace₀ work₀) (came (stayedAt count₀) trace₀ work₀) ≡ came (stayedAt count₀) trace₀ work₀
+        stays true = refl
+        stays false = refl
+
+        go : (a f : Bool) → came (stayedAt count₀) trace₀ work₀ ≡ comes a f → a ≡ false
+        go true true i = absurd (omega (arith, ap (λ (c : Came). c .moved .state) i))
+        go true false i = absurd (omega (arith, ap (λ (c : Came). c .moved .state) i))
+        go false f i = refl
+
+    -- the rest of the entry
+
+    abbrev Turns : List (List ℕ) → ℕ → Turned → Type 0
+    Turns t lines x =
+        ((x .turn .end ≡ 0) × (lines ≤ x .turn .lines)
+        × Ready (suc k) (x .work) (x .trace) (notedFrom t (x .trace) lines (x .turn .lines - lines)) (x .turn .lines) (x .turn .used) (x .turn .known))
+        ⊎ ((x .turn .end ≢ 0) × Over k (x .turn .end) (x .work) (x .trace) (x .turn .lines) (x .turn .used))
+
+    stay-noted : (t : List (List ℕ)) (trace : List ℕ) (lines : ℕ) → notedFrom t trace lines (lines - lines) ≡ t
+    unfolding notedFrom
+    stay-noted t trace lines = ap (notedFrom t trace lines) {x = lines - lines} {y = 0} (omega arith)
+
+    turn-law : {work trace : List ℕ} {t : List (List ℕ)} {lines used : ℕ} {known : Bool} → Ready k work trace t lines used known → k < length schedule → (code : ℕ)
+        → cameOp p outcomes trace work room t (record { entry = k; lines = lines; used = used }) named code ≡ comesTo
+        → Turns t lines (turnOp p outcomes trace work room t (record { entry = k; lines = lines; used = used }) named code known)
+    unfolding turnOp turnedBy
+    turn-law {work} {trace} {t} {lines} {used} {known} r l code e =
+        subst (λ (c : Came). Turns t lines (turnedBy p t known c)) (sym e) (go (able p outcomes (at k) named) (fits room (at k) effect) refl refl)
+      where
+        stay : (b : Bool) → known ≡ b → able p outcomes (at k) named ≡ false
+            → Turns t lines (cond b
+            (turned (record { end = 0; lines = length (at k .lines); used = at k .used; known = true }) trace₀ work₀)
+            (turned (record { end = endingOp p work₀ t 8; lines = length (at k .lines); used = at k .used; known = true }) trace₀ work₀))
+        stay true i a = inl (
+          refl,
+          omega (arith, r .counted),
+          subst (λ (x : List (List ℕ)). Ready (suc k) work₀ trace₀ x (length (at k .lines)) (at k .used) true)
+              (sym (ap (λ (j : ℕ). notedFrom t trace₀ j (length (at k .lines) - j)) (r .counted) ∙ stay-noted t trace₀ (length (at k .lines))))
+              (ready-idle plain l a (r .sure i)),
+        )
+          where
+            plain : Ready k work₀ trace₀ t (length (at k .lines)) (at k .used) known
+            plain = record {
+              runs = r .runs;
+              inside = r .inside;
+              store = refl;
+              written = refl;
+              counted = refl;
+              drawn = refl;
+              table = r .table;
+              sure = r .sure;
+              fit = r .fit;
+              fewLines = r .fewLines;
+              fewUsed = r .fewUsed;
+            }
+        stay false i a = ends (endingOp p work₀ t 8) refl
+          where
+            is : endingOp p work₀ t 8 ≡ ending p outcomes (at k)
+            is = ending-is p kept narrow outcomes bytes (at k) ks typed rest owned t (r .table)
+
+            plain : Ready k work₀ trace₀ t (length (at k .lines)) (at k .used) known
+            plain = record {
+              runs = r .runs;
+              inside = r .inside;
+              store = refl;
+              written = refl;
+              counted = refl;
+              drawn = refl;
+              table = r .table;
+              sure = r .sure;
+              fit = r .fit;
+              fewLines = r .fewLines;
+              fewUsed = r .fewUsed;
+            }
+
+            ends : (x : ℕ) → endingOp p work₀ t 8 ≡ x → Turns t lines (turned (record { end = x; lines = length (at k .lines); used = at k .used; known = true }) trace₀ work₀)
+            ends zero j = inl (
+              refl,
+              omega (arith, r .counted),
+              subst (λ (y : List (List ℕ)). Ready (suc k) work₀ trace₀ y (length (at k .lines)) (at k .used) true)
+                  (sym (ap (λ (q : ℕ). notedFrom t trace₀ q (length (at k .lines) - q)) (r .counted) ∙ stay-noted t trace₀ (length (at k .lines))))
+                  (ready-idle plain l a (sym is ∙ j)),
+            )
+            ends (suc x) j = inr (
+              λ z. absurd (omega (arith, z)),
+              record { ends = r .runs ∙ ends-here p outcomes room (at k) k x (drop k schedule) (sym is ∙ j); store = refl; written = refl; counted = refl; drawn = refl },
+            )
+
+        go : (a f : Bool) → able p outcomes (at k) named ≡ a → fits room (at k) effect ≡ f → Turns t lines (turnedBy p t known (comes a f))
+        go true true i j = inl (
+          refl,
+          omega (arith, r .counted, length-append (at k .lines) (effect .lines)),
+          ready-next r l (able-goes p outcomes (at k) named i) j (encode (effect .config) ++ rest) (traceAfter (at k .lines ++ effect .lines) t0)
+              (notedFrom t (traceAfter (at k .lines ++ effect .lines) t0) lines (length (at k .lines ++ effect .lines) - lines))
+              (length (at k .lines ++ effect .lines)) (at k .used + effect .used) false refl refl refl refl
+              (subst (λ (x : List (List ℕ)). Holding x (at k .lines ++ effect .lines))
+              (ap₂ (notedFrom t (traceAfter (at k .lines ++ effect .lines) t0)) (sym (r .counted)) (sym count-more))
+              (holding-lines t (at k .lines) (effect .lines) t0 (r .table)))
+              (λ z. absurd (true≢false (sym z))),
+        )
+          where
+            count-more : length (at k .lines ++ effect .lines) - lines ≡ length (effect .lines)
+            count-more = omega (arith, r .counted, length-append (at k .lines) (effect .lines))
+        go true false i j = inr (
+          λ z. absurd (omega (arith, z)),
+          record {
+            ends = r .runs ∙ at-full p outcomes room schedule k l (able-goes p outcomes (at k) named i) j;
+            store = refl;
+            written = refl;
+            counted = refl;
+            drawn = refl;
+          },
+        )
+        go false f i j = stay known refl i
+
+  -- plain steps and idle entries, up to the entry at which they stop
+
+  record Burst-good (trace : List ℕ) (t : List (List ℕ)) (lines used : ℕ) (b : Stop) : Type 0 where
+    ready : Ready (b .burst .at) (b .words) trace t lines used (b .burst .known)
+    came : b .burst .at < length schedule
+        → cameOp p outcomes trace (b .words) room t (record { entry = b .burst .at; lines = lines; used = used }) (getD schedule (b .burst .at) 0) (b .burst .code) ≡ comesTo (b .burst .at)
+
+  burst-law : (left k : ℕ) {work trace : List ℕ} {t : List (List ℕ)} {lines used : ℕ} {known : Bool} → left ≡ length schedule - k → Ready k work trace t lines used known
+      → Burst-good trace t lines used (burstOp p schedule work k known left)
+  unfolding burstOp
+  burst-law zero k e r = record { ready = r; came = λ l. absurd (omega (arith, l, e)) }
+  burst-law (suc left) k {work} {trace} {t} {lines} {used} {known} e r =
+      subst (λ (w : List ℕ). Burst-good trace t lines used (burstOp p schedule w k known (suc left))) (sym (r .store))
+      (⊎-elim
+      (λ (x : Stepped k (namedOp p (work₀ k) (named k))). stepped x (burst-law left (suc k) (omega (arith, e)) (ready-plain k r l (x .can) (x .lines) (x .used) (namedOp p (work₀ k) (named k) .words) (x .words))))
+      (λ (x : Stopped k t (namedOp p (work₀ k) (named k))).
+      stopped x (λ (a : able p outcomes (at k) (named k) ≡ false) (s : ending p outcomes (at k) ≡ 0).
+      burst-law left (suc k) (omega (arith, e)) (ready-as (suc k) (ready-idle k r l a s) (x .words ∙ sym (r .store)) refl)))
+      (named-law k r))
+    where
+      l : k < length schedule
+      l = omega (arith, e)
+
+      d : Did
+      d = namedOp p (work₀ k) (named k)
+
+      one-more : k + 1 ≡ suc k
+      one-more = omega arith
+
+      ends-at : Bool → Bool → Stop
+      ends-at x y =
+          cond x (stopsAt (record { at = k; code = namedOp p (work₀ k) (named k) .code; known = known }) (namedOp p (work₀ k) (named k) .words))
+          (cond (y && not known) (stopsAt (record { at = k; code = namedOp p (work₀ k) (named k) .code; known = known }) (namedOp p (work₀ k) (named k) .words))
+          (burstOp p schedule (namedOp p (work₀ k) (named k) .words) (k + 1) y left))
+
+      stepped : Stepped k (namedOp p (work₀ k) (named k)) → Burst-good trace t lines used (burstOp p schedule (namedOp p (work₀ k) (named k) .words) (suc k) false left)
+          → Burst-good trace t lines used (burstOp p schedule (work₀ k) k known (suc left))
+      stepped x g =
+          subst (λ (c : ℕ). Burst-good trace t lines used
+          (cond (leb 2 c) (stopsAt (record { at = k; code = namedOp p (work₀ k) (named k) .code; known = known }) (namedOp p (work₀ k) (named k) .words))
+          (cond (eqb c 1 && not known) (stopsAt (record { at = k; code = namedOp p (work₀ k) (named k) .code; known = known }) (namedOp p (work₀ k) (named k) .words))
+          (burstOp p schedule (namedOp p (work₀ k) (named k) .words) (k + 1) (eqb c 1) left)))) (sym (x .code))
+          (subst (λ (i : ℕ). Burst-good trace t lines used (burstOp p schedule (namedOp p (work₀ k) (named k) .words) i false left)) (sym one-more) g)
+
+      here : Stopped k t (namedOp p (work₀ k) (named k))
+          → Burst-good trace t lines used (stopsAt (record { at = k; code = namedOp p (work₀ k) (named k) .code; known = known }) (namedOp p (work₀ k) (named k) .words))
+      here x = record {
+        ready = ready-as k r (x .words ∙ sym (r .store)) refl;
+        came = λ i. came-as k (ready-as k r (x .words ∙ sym (r .store)) refl) (namedOp p (work₀ k) (named k) .code) (x .came);
+      }
+
+      stopped : Stopped k t (namedOp p (work₀ k) (named k))
+          → (able p outcomes (at k) (named k) ≡ false → ending p outcomes (at k) ≡ 0
+          → Burst-good trace t lines used (burstOp p schedule (namedOp p (work₀ k) (named k) .words) (suc k) true left))
+          → Burst-good trace t lines used (burstOp p schedule (work₀ k) k known (suc left))
+      stopped x g = far (leb 2 (namedOp p (work₀ k) (named k) .code)) refl
+        where
+          one : leb 2 (namedOp p (work₀ k) (named k) .code) ≡ false → namedOp p (work₀ k) (named k) .code ≡ 1
+          one h = single (namedOp p (work₀ k) (named k) .code) (x .code) (leb-false 2 (namedOp p (work₀ k) (named k) .code) h)
+            where
+              single : (c : ℕ) → c ≢ 0 → c < 2 → c ≡ 1
+              single zero z h = absurd (z refl)
+              single (suc zero) z h = refl
+              single (suc (suc c)) z h = absurd (omega (arith, h))
+
+          near : (b : Bool) → known ≡ b → namedOp p (work₀ k) (named k) .code ≡ 1
+              → Burst-good trace t lines used (cond (true && not b) (stopsAt (record { at = k; code = namedOp p (work₀ k) (named k) .code; known = known }) (namedOp p (work₀ k) (named k) .words))
+              (burstOp p schedule (namedOp p (work₀ k) (named k) .words) (k + 1) true left))
+          near true h c =
+              subst (λ (i : ℕ). Burst-good trace t lines used (burstOp p schedule (namedOp p (work₀ k) (named k) .words) i true left)) (sym one-more)
+              (g (idle-unable k t (ap (λ (i : ℕ). cameOp p outcomes (trace₀ k) (work₀ k) room t (count₀ k) (named k) i) (sym c) ∙ x .came)) (r .sure h))
+          near false h c = here x
+
+          far : (b : Bool) → leb 2 (namedOp p (work₀ k) (named k) .code) ≡ b → Burst-good trace t lines used (ends-at b (eqb (namedOp p (work₀ k) (named k) .code) 1))
+          far true h = here x
+          far false h =
+              subst (λ (b : Bool). Burst-good trace t lines used (ends-at false b)) (sym (eq-eqb (namedOp p (work₀ k) (named k) .code) 1 (one h)))
+              (near known refl (one h))
+
+  -- plain steps, and the entry at which they stop
+
+  abbrev pub Goes : List (List ℕ) → ℕ → Advanced → Type 0
+  Goes t lines a =
+      ((a .advance .over ≡ true) × Over (a .advance .at) (a .advance .end) (a .work) (a .trace) (a .advance .lines) (a .advance .used))
+      ⊎ ((a .advance .over ≡ false) × (lines ≤ a .advance .lines)
+      × Ready (suc (a .advance .at)) (a .work) (a .trace) (notedFrom t (a .trace) lines (a .advance .lines - lines)) (a .advance .lines) (a .advance .used) (a .advance .known))
+
+  pub ready-last : (k : ℕ) {work trace : List ℕ} {t : List (List ℕ)} {lines used : ℕ} {known : Bool} → Ready k work trace t lines used known → length schedule ≤ k
+      → Over k (endingOp p work t 8) work trace lines used
+  ready-last k {work} {trace} {t} r h = record {
+    ends =
+        r .runs ∙ at-last p outcomes room schedule k h
+        ∙ ap (λ (e : ℕ). ended e k (at k))
+        (sym (ap (λ (w : List ℕ). endingOp p w t 8) (r .store) ∙ ending-is p kept narrow outcomes bytes (at k) (ks k) (typed k) rest (owned k) t (r .table)));
+    store = r .store;
+    written = r .written;
+    counted = r .counted;
+    drawn = r .drawn;
+  }
+
+  pub advance-law : (k : ℕ) {work trace : List ℕ} {t : List (List ℕ)} {lines used : ℕ} {known : Bool} → Ready k work trace t lines used known
+      → Goes t lines (advanceOp p schedule outcomes trace work room t k lines used known)
+  unfolding advanceOp advancedFrom usedUp turnedAt
+  advance-law k {work} {trace} {t} {lines} {used} {known} r = from (burstOp p schedule work k known (length schedule - k)) (burst-law (length schedule - k) k refl r)
+    where
+      turns : (at : ℕ) (x : Turned) → Turns at t lines x → Goes t lines (turnedAt at x)
+      turns at x (inl y) = inr (ap (λ (e : ℕ). not (eqb e 0)) (y .0), y .1, y .2)
+      turns at x (inr y) = inl (ap not (ne-eqb (x .turn .end) 0 (y .0)), y .1)
+
+      from : (b : Stop) → Burst-good trace t lines used b → Goes t lines (advancedFrom p schedule outcomes trace room t lines used b)
+      from b g = go (leb (length schedule) (b .burst .at)) refl
+        where
+          go : (x : Bool) → leb (length schedule) (b .burst .at) ≡ x
+              → Goes t lines (cond x (usedUp p trace t lines used b)
+              (turnedAt (b .burst .at)
+              (turnOp p outcomes trace (b .words) room t (record { entry = b .burst .at; lines = lines; used = used }) (getD schedule (b .burst .at) 0) (b .burst .code) (b .burst .known))))
+          go true h = inl (refl, ready-last (b .burst .at) (g .ready) (leb-true (length schedule) (b .burst .at) h))
+          go false h =
+              turns (b .burst .at) _
+              (turn-law (b .burst .at) (g .ready) (leb-false (length schedule) (b .burst .at) h) (b .burst .code) (g .came (leb-false (length schedule) (b .burst .at) h)))

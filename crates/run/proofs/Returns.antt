@@ -1,0 +1,115 @@
+-- What the run's functions have done at their returns, from what their callees did and how their tests came out.
+use Prim.Native.Nat.{ℕ, _-_, _≤_, _<_}
+use mathlib.Core.Path.{_≡_, refl, sym, _∙_, ap}
+use mathlib.Core.Bool.{Bool, true, false, not}
+use mathlib.Core.List.{List}
+use lib.ListN.{getD, length}
+use lib.Dec.{eqb}
+use borrow.Author.Tests.{eq-eqb, ne-eqb, le-leb, lt-leb}
+use Rattle.questions.specs.declared.Check.{Check}
+use Rattle.questions.specs.Check.{verdictOf}
+use Rattle.ops.proofs.Returns.{took, passed-by}
+use Rattle.ability.specs.Ending.{endingOp}
+use Rattle.entries.specs.declared.came.Count.{Count}
+use Rattle.entries.specs.declared.came.Moved.{Moved}
+use Rattle.entries.specs.Came.{Came, came, stayedAt}
+use Rattle.entries.specs.Entries.{entryOp}
+use Rattle.entries.proofs.Returns.{came-to}
+use Rattle.run.specs.declared.burst.Burst.{Burst}
+use Rattle.run.specs.declared.turn.Turn.{Turn}
+use Rattle.run.specs.declared.answer.Refusal.{Refusal}
+use Rattle.run.specs.Bursts.{stopsAt, burstOp}
+use Rattle.run.specs.Turned.{Turned, turned, cameOp, turnedBy, turnOp}
+use Rattle.run.specs.Advanced.{Advanced, advanced, usedUp, turnedAt, advancedFrom, advanceOp}
+use Rattle.run.specs.Answers.{refusalOf}
+
+-- the entry of a byte that names no process, or one
+
+module _ (p outcomes trace work : List ℕ) (room : ℕ) (t : List (List ℕ)) (g : Count) (n code : ℕ) where
+  pub names-none : {m : Moved} → 8 ≤ n → m ≡ stayedAt g → came m trace work ≡ cameOp p outcomes trace work room t g n code
+  unfolding cameOp
+  names-none h e = took _ _ _ refl (le-leb 8 n h) (came-to e refl refl)
+
+  pub names-one : {c : Came} → n < 8 → c ≡ entryOp p outcomes trace work room t g n code
+      → c ≡ cameOp p outcomes trace work room t g n code
+  unfolding cameOp
+  names-one h e = passed-by _ _ _ refl (lt-leb 8 n h) e
+
+-- what an entry that came to m means for the run
+
+module _ (p outcomes trace work : List ℕ) (room : ℕ) (t : List (List ℕ)) (g : Count) (n code : ℕ) (known : Bool) {m : Moved}
+    {ts ws : List ℕ} (told : came m ts ws ≡ cameOp p outcomes trace work room t g n code) where
+  pub turn-full : m .state ≡ 2
+      → turned (record { end = 3; lines = m .lines; used = m .used; known = false }) ts ws
+      ≡ turnOp p outcomes trace work room t g n code known
+  unfolding turnOp turnedBy
+  turn-full h = took _ _ _ refl (eq-eqb (m .state) 2 h) refl ∙ ap (turnedBy p t known) told
+
+  module _ (room-left : m .state ≡ 2 → ⊥) where
+    pub turn-moves : m .state ≡ 1
+        → turned (record { end = 0; lines = m .lines; used = m .used; known = false }) ts ws
+        ≡ turnOp p outcomes trace work room t g n code known
+    unfolding turnOp turnedBy
+    turn-moves h =
+        passed-by _ _ _ refl (ne-eqb (m .state) 2 room-left) (took _ _ _ refl (eq-eqb (m .state) 1 h) refl)
+        ∙ ap (turnedBy p t known) told
+
+    pub turn-idles : (m .state ≡ 1 → ⊥) → known ≡ true
+        → turned (record { end = 0; lines = m .lines; used = m .used; known = true }) ts ws
+        ≡ turnOp p outcomes trace work room t g n code known
+    unfolding turnOp turnedBy
+    turn-idles h k =
+        passed-by _ _ _ refl (ne-eqb (m .state) 2 room-left)
+        (passed-by _ _ _ refl (ne-eqb (m .state) 1 h) (took _ _ _ refl k refl))
+        ∙ ap (turnedBy p t known) told
+
+    pub turn-asks : {end : ℕ} → (m .state ≡ 1 → ⊥) → known ≡ false → end ≡ endingOp p ws t 8
+        → turned (record { end = end; lines = m .lines; used = m .used; known = true }) ts ws
+        ≡ turnOp p outcomes trace work room t g n code known
+    unfolding turnOp turnedBy
+    turn-asks h k e =
+        passed-by _ _ _ refl (ne-eqb (m .state) 2 room-left)
+        (passed-by _ _ _ refl (ne-eqb (m .state) 1 h)
+        (passed-by _ _ _ refl k
+        (ap {B = Turned} (λ (i : ℕ). turned (record { end = i; lines = m .lines; used = m .used; known = true }) ts ws) e)))
+        ∙ ap (turnedBy p t known) told
+
+-- plain steps stopped at b
+
+module _ (p schedule outcomes trace work : List ℕ) (room : ℕ) (t : List (List ℕ)) (k lines used : ℕ) (known : Bool)
+    {b : Burst} {words : List ℕ} (told : stopsAt b words ≡ burstOp p schedule work k known (length schedule - k)) where
+  pub advance-ends : {end : ℕ} → length schedule ≤ b .at → end ≡ endingOp p words t 8
+      → advanced (record { over = true; end = end; at = b .at; lines = lines; used = used; known = true }) trace words
+      ≡ advanceOp p schedule outcomes trace work room t k lines used known
+  unfolding advanceOp advancedFrom usedUp
+  advance-ends h e =
+      took _ _ _ refl (le-leb (length schedule) (b .at) h)
+      (ap {B = Advanced}
+      (λ (i : ℕ). advanced (record { over = true; end = i; at = b .at; lines = lines; used = used; known = true }) trace words)
+      e)
+      ∙ ap (advancedFrom p schedule outcomes trace room t lines used) told
+
+  pub advance-turns : {r : Turn} {ts ws : List ℕ} → b .at < length schedule
+      → turned r ts ws
+      ≡ turnOp p outcomes trace words room t (record { entry = b .at; lines = lines; used = used })
+      (getD schedule (b .at) 0) (b .code) (b .known)
+      → advanced
+      (record {
+        over = not (eqb (r .end) 0);
+        end = r .end;
+        at = b .at;
+        lines = r .lines;
+        used = r .used;
+        known = r .known;
+      })
+      ts
+      ws
+      ≡ advanceOp p schedule outcomes trace work room t k lines used known
+  unfolding advanceOp advancedFrom turnedAt
+  advance-turns h e =
+      passed-by _ _ _ refl (lt-leb (length schedule) (b .at) h) (ap (turnedAt (b .at)) e)
+      ∙ ap (advancedFrom p schedule outcomes trace room t lines used) told
+
+-- the number and place of a case of the check's
+pub refused-as : (a k : Check) {r : Refusal} → a ≡ k → r ≡ refusalOf (verdictOf k) → r ≡ refusalOf (verdictOf a)
+refused-as a k e q = q ∙ ap (λ (x : Check). refusalOf (verdictOf x)) (sym e)

@@ -1,0 +1,31 @@
+-- `named_entry` is the entry of a process that can be.
+use Rattle.run.proofs.Returns.{names-none, names-one}
+use borrow.Author.Needs.{needs}
+use Rattle.run.proofs.turn.named_entry.Statement.{statement}
+use Rattle.run.proofs.turn.named_entry.Tie as tie
+
+stays-requires : tie.Need-stays-requires
+stays-requires c κs = search needs
+
+returns : tie.Need-returns
+returns c =
+    let args = c .before .before .before .before .before .before .args in
+    names-none (args .p .now) (args .outcomes .now) (args .trace .now) (args .work .now) (args .room) (args .t) (args .g) (args .n) (args .code) (c .before .if1 .taken) (c .stays .ensures)
+
+entry-requires : tie.Need-entry-requires
+entry-requires c κs = search needs
+
+same-length : tie.Need-same-length
+same-length c = search needs
+
+same-length-2 : tie.Need-same-length-2
+same-length-2 c = search needs
+
+returns-2 : tie.Need-returns-2
+returns-2 c =
+    let args = c .before .before .before .before .before .before .before .before .before .before .before .before .args in
+    names-one (args .p .now) (args .outcomes .now) (args .trace .now) (args .work .now) (args .room) (args .t) (args .g) (args .n) (args .code) (c .before .before .before .before .before .before .before .if1 .left) (c .before .before .before .before .entry .ensures)
+
+pub named-entry-spec : {M : Type 1} → statement M
+named-entry-spec =
+    tie.close (tie.spec stays-requires returns entry-requires same-length same-length-2 returns-2)

@@ -1,0 +1,40 @@
+-- The run's answer as document 01's numbers, and what it leaves in the lent trace and the lent work store.
+use Prim.Native.Nat.{ℕ}
+use mathlib.Core.List.{List}
+use lib.ListN.{length}
+use Rattle.table.specs.Questions.{Verdict, accepted, refused, questions}
+use Rattle.machine.specs.State.{State}
+use Rattle.machine.specs.Run.{Result, run}
+use Rattle.machine.specs.Answer.{refusal, ran, linesIn, traceAfter}
+use Rattle.machine.specs.Answer as machine
+use Rattle.layout.specs.Layout.{storeAfter}
+use Rattle.run.specs.declared.answer.Answer.{Answer}
+use Rattle.run.specs.declared.answer.Answer.the-variants.{Refused, Ran}
+use Rattle.run.specs.declared.answer.Refusal.{Refusal}
+
+-- "A refusal gives number and place"; "A run answers end, entries used (idle ones too), lines written, outcomes used."
+unfoldable pub answered : Answer → machine.Answer
+answered (Refused n i) = refusal n i
+answered (Ran e k l u) = ran e k l u
+
+-- a verdict's number, 0 where accepted, and its place; this definition follows the code
+unfoldable pub refusalOf : Verdict → Refusal
+refusalOf accepted = record { number = 0; place = 0 }
+refusalOf (refused n i) = record { number = n; place = i }
+
+-- "trace and work store keep their bytes" where a question says no
+unfoldable pub unlessRefused : Verdict → List ℕ → List ℕ → List ℕ
+unlessRefused accepted before after = after
+unlessRefused (refused n i) before after = before
+
+-- "After a run, the trace's first lines are written and the rest kept"
+unfoldable pub traceLeft : List ℕ → List ℕ → List ℕ → List ℕ → List ℕ → List ℕ
+traceLeft p schedule outcomes trace work =
+    unlessRefused (questions p schedule outcomes (length work)) trace
+    (traceAfter (run p outcomes (linesIn (length trace)) schedule .state .lines) trace)
+
+-- "the first 8,192 work words hold the final configuration .. words beyond kept"
+unfoldable pub storeLeft : List ℕ → List ℕ → List ℕ → List ℕ → List ℕ → List ℕ
+storeLeft p schedule outcomes trace work =
+    unlessRefused (questions p schedule outcomes (length work)) work
+    (storeAfter (run p outcomes (linesIn (length trace)) schedule .state .config) work)

@@ -1,0 +1,6 @@
+pub mod Begun
+pub mod Bursts
+pub mod Turned
+pub mod Advanced
+pub mod Left
+pub mod Answers

@@ -1,0 +1,105 @@
+// An entry that is no plain step, with what it means for the run.
+ghost use mathlib.Core.Path.{_≡_};
+ghost use Prim.Native.Nat.{_+_, _*_, _<_, _≤_};
+ghost use lib.ListN.{length};
+ghost use Rattle.table.specs.Table.{methods};
+ghost use Rattle.entries.specs.Came.{came};
+ghost use Rattle.run.specs.Turned.{turned, cameOp, turnOp};
+use ability::ending::ending;
+use entries::came::Count;
+use entries::came::Moved;
+use entries::came::stays;
+use entries::entry::entry;
+use names::ProcessNo;
+
+// End 0 is a run that goes on; then the lines written, the outcomes used, and whether some process is known to be able to
+// move.
+pub struct Turn {
+    pub end: u32,
+    pub lines: u32,
+    pub used: u32,
+    pub known: bool,
+}
+
+// The entry of the process that the byte names.
+fn named_entry(
+    p: &[u16],
+    start: usize,
+    outcomes: &[u8],
+    trace: &mut [u16],
+    work: &mut [u32],
+    room: usize,
+    t: [[u16; 2]; 16],
+    g: Count,
+    n: u8,
+    code: u32,
+) -> Moved
+    requires { ⌜ (start ≡ 2 + 20 * methods (now p)) × (8192 ≤ length (now work)) × (g .lines < 16000000) ⌝ }
+    ensures { λ r. ⌜ came r (now (trace .exit)) (now (work .exit)) ≡ cameOp (now (p .entry)) (now (outcomes .entry)) (now (trace .entry)) (now (work .entry)) room t g n code ⌝ }
+{
+    if 8 <= n {
+        return stays(g);
+    }
+    entry(
+        p,
+        start,
+        outcomes,
+        trace,
+        work,
+        room,
+        t,
+        g,
+        ProcessNo(n as u16),
+        code,
+    )
+}
+
+// "none able to move .. end 2" is worked out only where the named process cannot move and it is not known that another can.
+pub fn take_turn(
+    p: &[u16],
+    start: usize,
+    outcomes: &[u8],
+    trace: &mut [u16],
+    work: &mut [u32],
+    room: usize,
+    t: [[u16; 2]; 16],
+    g: Count,
+    n: u8,
+    code: u32,
+    known: bool,
+) -> Turn
+    requires { ⌜ (start ≡ 2 + 20 * methods (now p)) × (8192 ≤ length (now work)) × (g .lines < 16000000) ⌝ }
+    ensures { λ r. ⌜ turned r (now (trace .exit)) (now (work .exit)) ≡ turnOp (now (p .entry)) (now (outcomes .entry)) (now (trace .entry)) (now (work .entry)) room t g n code known ⌝ }
+{
+    let m = named_entry(p, start, outcomes, trace, work, room, t, g, n, code);
+    if m.state == 2 {
+        return Turn {
+            end: 3,
+            lines: m.lines,
+            used: m.used,
+            known: false,
+        };
+    }
+    if m.state == 1 {
+        return Turn {
+            end: 0,
+            lines: m.lines,
+            used: m.used,
+            known: false,
+        };
+    }
+    if known {
+        return Turn {
+            end: 0,
+            lines: m.lines,
+            used: m.used,
+            known: true,
+        };
+    }
+    Turn {
+        end: ending(p, start, work, t),
+        lines: m.lines,
+        used: m.used,
+        known: true,
+    }
+}
