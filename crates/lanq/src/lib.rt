@@ -1,11 +1,17 @@
 // The C interface, include/lanq.h. Each exported function has the contract of the function that it hands on to, the
-// check's answer as a struct of numbers. The run is to come.
+// answers of the check and of the run as a struct of numbers.
 ghost use mathlib.Core.Path.{_≡_};
 ghost use Rattle.table.specs.Questions.{questions};
 ghost use Rattle.trace.specs.Trace.{lookUp, sameLines};
-ghost use Rattle.lanq.specs.Answers.{answerOf};
+ghost use lib.ListN.{length};
+ghost use Rattle.machine.specs.Answer.{linesIn};
+ghost use Rattle.machine.specs.Answer as machine;
+ghost use Rattle.run.specs.Answers.{traceLeft, storeLeft};
+ghost use Rattle.lanq.specs.Answers.{answerOf, runAnswer};
 use questions::Check;
 use questions::ask;
+use run::answer::Answer;
+use run::answer::run;
 use trace::lookup::qubit_holder;
 use trace::same::same_lines;
 
@@ -54,6 +60,44 @@ pub extern "C" fn lanq_check(
         Check::Outcome(i) => refusal(6, i as u64),
         Check::Schedule => refusal(7, 0),
         Check::Work => refusal(8, 0),
+    }
+}
+
+fn ended(end: u64, entries: u64, lines: u64, outcomes: u64) -> LanqAnswer
+    ensures { λ r. ⌜ r ≡ record { refused = 0; place = 0; end = end; entries = entries; lines = lines; outcomes = outcomes } ⌝ }
+{
+    LanqAnswer {
+        refused: 0,
+        place: 0,
+        end: end,
+        entries: entries,
+        lines: lines,
+        outcomes: outcomes,
+    }
+}
+
+// The run. Where a question says no, trace and work store keep their words.
+#[no_mangle]
+pub extern "C" fn lanq_run(
+    program: &[u16],
+    schedule: &[u8],
+    outcomes: &[u8],
+    trace: &mut [u16],
+    work: &mut [u32],
+) -> LanqAnswer
+    ensures { λ r. ⌜ (r ≡ runAnswer (machine.answerOf (now (program .entry)) (now (schedule .entry)) (now (outcomes .entry)) (linesIn (length (now (trace .entry)))) (length (now (work .entry)))))
+        × (now (trace .exit) ≡ traceLeft (now (program .entry)) (now (schedule .entry)) (now (outcomes .entry)) (now (trace .entry)) (now (work .entry)))
+        × (now (work .exit) ≡ storeLeft (now (program .entry)) (now (schedule .entry)) (now (outcomes .entry)) (now (trace .entry)) (now (work .entry))) ⌝ }
+{
+    let answer = run(program, schedule, outcomes, trace, work);
+    match answer {
+        Answer::Refused { number, place } => refusal(number as u64, place as u64),
+        Answer::Ran {
+            end,
+            entries,
+            lines,
+            outcomes,
+        } => ended(end as u64, entries as u64, lines as u64, outcomes as u64),
     }
 }
 
