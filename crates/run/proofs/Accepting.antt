@@ -5,9 +5,9 @@ use mathlib.Core.Logic.{_⊎_, inl, inr, ⊎-elim}
 use mathlib.Core.Bool.{Bool, true, false, cond, true≢false}
 use mathlib.Core.List.{List, [], _∷_}
 use native.Mathlib.Omega.{arith}
-use lib.ListN.{getD, length}
+use lib.ListN.{getD, take, length}
 use lib.Dec.{T, leb, ltb}
-use borrow.Author.Tests.{leb-true, ltb-true, ltb-false}
+use borrow.Author.Tests.{le-leb, leb-true, ltb-false}
 use Rattle.lists.specs.Lists.{All, firstFalse}
 use Rattle.lists.proofs.Tests.{decide}
 use Rattle.lists.proofs.First.{firstFalse-all}
@@ -72,3 +72,18 @@ module _ (p schedule outcomes : List ℕ) (words : ℕ) (ok : questions p schedu
   pub store-long : 8192 ≤ words
   unfolding question8
   store-long = leb-true 8192 words (whole-kept 8 0 (leb 8192 words) (and-second (question7 schedule) (question8 words) (and-second (question6 outcomes) _ inputs)))
+
+-- the schedule's first entries are as little refused as the whole
+take-short : (k : ℕ) (xs : List ℕ) → length (take k xs) ≤ length xs
+take-short zero xs = omega arith
+take-short (suc k) [] = omega arith
+take-short (suc k) (x ∷ xs) = omega (arith, take-short k xs)
+
+pub shorter-accepted : (p schedule outcomes : List ℕ) (words k : ℕ) → questions p schedule outcomes words ≡ accepted
+    → questions p (take k schedule) outcomes words ≡ accepted
+unfolding questions question7 whole
+shorter-accepted p schedule outcomes words k ok =
+    ap (λ (b : Bool). andThen (tableQuestions p) (andThen (question6 outcomes) (andThen (cond b accepted (refused 7 0)) (question8 words))))
+    (le-leb (length (take k schedule)) 65535 (omega (arith, take-short k schedule, schedule-short p schedule outcomes words ok))
+    ∙ sym (le-leb (length schedule) 65535 (schedule-short p schedule outcomes words ok)))
+    ∙ ok

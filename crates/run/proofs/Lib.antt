@@ -6,3 +6,4 @@ pub mod Began
 pub mod Accepting
 pub mod Turning
 pub mod Answering
+pub mod Demands

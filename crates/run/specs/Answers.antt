@@ -1,13 +1,14 @@
 -- The run's answer as document 01's numbers, and what it leaves in the lent trace and the lent work store.
-use Prim.Native.Nat.{ℕ}
+use Prim.Native.Nat.{ℕ, _*_}
 use mathlib.Core.List.{List}
-use lib.ListN.{length}
+use lib.ListN.{take, length}
 use Rattle.table.specs.Questions.{Verdict, accepted, refused, questions}
-use Rattle.machine.specs.State.{State}
+use Rattle.machine.specs.State.{Config, Line, State}
 use Rattle.machine.specs.Run.{Result, run}
-use Rattle.machine.specs.Answer.{refusal, ran, linesIn, traceAfter}
+use Rattle.machine.specs.Answer.{refusal, ran, answerOf, linesIn, traceAfter}
 use Rattle.machine.specs.Answer as machine
-use Rattle.layout.specs.Layout.{storeAfter}
+use Rattle.layout.specs.Layout.{storeAfter, decode}
+use Rattle.trace.specs.Trace.{linesOf}
 use Rattle.run.specs.declared.answer.Answer.{Answer}
 use Rattle.run.specs.declared.answer.Answer.the-variants.{Refused, Ran}
 use Rattle.run.specs.declared.answer.Refusal.{Refusal}
@@ -38,3 +39,18 @@ unfoldable pub storeLeft : List ℕ → List ℕ → List ℕ → List ℕ → L
 storeLeft p schedule outcomes trace work =
     unlessRefused (questions p schedule outcomes (length work)) work
     (storeAfter (run p outcomes (linesIn (length trace)) schedule .state .config) work)
+
+-- What stands in the buffers after a run, read back: the configuration that the first 8,192 words of the store give, and
+-- the lines that the first words of the trace give, as many as the answer says.
+unfoldable pub linesNo : machine.Answer → ℕ
+linesNo (refusal n i) = 0
+linesNo (ran e k l u) = l
+
+unfoldable pub configRead : List ℕ → List ℕ → List ℕ → List ℕ → List ℕ → Config
+configRead p schedule outcomes trace work = decode (take 8192 (storeLeft p schedule outcomes trace work))
+
+unfoldable pub linesRead : List ℕ → List ℕ → List ℕ → List ℕ → List ℕ → List Line
+linesRead p schedule outcomes trace work =
+    linesOf
+    (take (6 * linesNo (answerOf p schedule outcomes (linesIn (length trace)) (length work)))
+    (traceLeft p schedule outcomes trace work))
