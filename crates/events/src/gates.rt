@@ -6,6 +6,7 @@ ghost use Rattle.events.specs.Told.{left, dropTwo, gateOne, gateTwo, gat
 use super::told::Told;
 use super::told::fault;
 use super::told::line;
+use names::QubitNo;
 use ops::jumps::discard_to;
 use ops::moves::discard;
 use ops::numbers::number;
@@ -14,10 +15,10 @@ use store::head::Head;
 use store::values::value;
 
 // The number of the value n below the next free one, as a line has it.
-pub fn qubit_no(w: &[u32], h: Head, n: u16) -> u16
-    ensures { λ r. ⌜ r ≡ valueAt (now (w .entry)) (topAt h n) .number % 65536 ⌝ }
+pub fn qubit_no(w: &[u32], h: Head, n: u16) -> QubitNo
+    ensures { λ r. ⌜ r .0 ≡ valueAt (now (w .entry)) (topAt h n) .number % 65536 ⌝ }
 {
-    (number(w, h, n) % 65536) as u16
+    QubitNo((number(w, h, n) % 65536) as u16)
 }
 
 // Two values off.
@@ -37,7 +38,7 @@ pub fn gate_one(w: &mut [u32], h: Head, a: u16) -> Told
     }
     let q = qubit_no(w, h, 1);
     discard(w, h);
-    line(3, a, q, 65535)
+    line(3, a, q.0, 65535)
 }
 
 // The deeper qubit comes first; "27 a two-qubit gate on one qubit".
@@ -49,11 +50,11 @@ pub fn gate_two(w: &mut [u32], h: Head, a: u16) -> Told
     }
     let deeper = qubit_no(w, h, 2);
     let q = qubit_no(w, h, 1);
-    if deeper == q {
+    if deeper.0 == q.0 {
         return fault(27);
     }
     discard_two(w, h);
-    line(3, a, deeper, q)
+    line(3, a, deeper.0, q.0)
 }
 
 // "one qubit off for 1 to 5, else two".

@@ -5,6 +5,7 @@ use super::gates::qubit_no;
 use super::told::Told;
 use super::told::fault;
 use super::told::measured;
+use names::QubitNo;
 use ops::moves::replace;
 use store::head::Head;
 use store::values::Val;
@@ -29,7 +30,7 @@ pub fn op_meas(w: &mut [u32], h: Head, outcomes: &[u8], used: usize) -> Told
                 number: o as u32,
             },
         );
-        return measured(q, o);
+        return measured(q.0, o);
     }
     fault(24)
 }

@@ -1,13 +1,17 @@
 -- What one more round of each loop comes to.
-use Prim.Native.Nat.{ℕ, _+_, _-_, _≤_, _<_}
+use Prim.Native.Nat.{ℕ, _+_, _*_, _-_, _≤_, _<_}
 use mathlib.Core.Path.{_≡_, sym, _∙_, ap, ap₂}
 use mathlib.Core.Bool.{Bool, cond}
 use mathlib.Core.List.{List}
 use native.Mathlib.Numerals.{add-one}
 use borrow.Author.Tests.{le-leb, lt-leb}
+use lib.ListN.{set}
 use lib.Dec.{leb}
+use Rattle.table.specs.Table.{word, offsetOf}
 use Rattle.store.specs.declared.values.Val.{Val}
-use Rattle.giving.specs.Given.{droppedOnce, retiredBy, operandOf, argHanded, argsHanded, argGiven, argsGiven}
+use Rattle.store.specs.declared.head.Head.{Head}
+use Rattle.store.specs.Words.{headOf, putTop, startedHead, putStatus}
+use Rattle.giving.specs.Given.{startedWords, beganWords, droppedOnce, retiredBy, operandOf, argHanded, argsHanded, argGiven, argsGiven}
 use Rattle.giving.specs.Gifts.{Gifts, thingsIn, giftAdded, giftsAdded}
 
 pub dropped-more : (w : List ℕ) (j : ℕ) {u u′ : List ℕ} → u ≡ retiredBy w j → u′ ≡ droppedOnce u → u′ ≡ retiredBy w (j + 1)
@@ -51,3 +55,12 @@ gift-more g work entry from to args j e q r =
     r
     ∙ ap₂ (λ (k : Gifts) (u : Val). giftAdded k entry from to u) e q
     ∙ sym (ap (giftsAdded g work entry from to args) (add-one j))
+
+-- a process that starts
+pub begins : (p w : List ℕ) (m : ℕ) {g h : Head} {place : ℕ} {u v z : List ℕ} → g ≡ headOf w → place ≡ word p (2 + 2 * m) → h ≡ startedHead g m place
+    → u ≡ putStatus w h → v ≡ set u 8 (h .method) → z ≡ putTop v h → z ≡ beganWords p w m
+unfolding beganWords startedWords offsetOf
+begins p w m {g} {h} {place} e o s a b d =
+    d
+    ∙ ap (λ (x : List ℕ). putTop x h) (b ∙ ap (λ (x : List ℕ). set x 8 (h .method)) a)
+    ∙ ap (startedWords w) (s ∙ (λ i. startedHead (e i) m (o i)))

@@ -21,14 +21,14 @@ use Rattle.layout.specs.Layout.{padded, valueWords, headWords, frameValues, sta
 use Rattle.layout.proofs.Frames.{tagOf, numberOf}
 use Rattle.store.specs.declared.values.Val.{Val}
 use Rattle.store.specs.declared.head.Head.{Head}
-use Rattle.store.specs.Words.{valueAt, putValue, headAt, headOf, putTop, slotAt, topAt, movedTo, stepped, emptiedBy}
+use Rattle.store.specs.Words.{valueAt, putValue, headAt, headOf, putTop, slotAt, topAt, movedTo, stepped, startedHead, putStatus, emptiedBy}
 use Rattle.store.proofs.Vals.{valOf}
 use Rattle.store.proofs.Given.{Sized, given-words}
-use Rattle.ops.specs.Did.{onTop, dropTo, begun}
+use Rattle.ops.specs.Did.{onTop, dropTo}
 use Rattle.ops.proofs.Places.{head, head-is, place-small, slot-read, slot-put, drop-to-words, top-words, move-words}
 use Rattle.events.specs.Told.{dropTwo}
 use Rattle.events.proofs.Answers.{dropped-two}
-use Rattle.giving.specs.Given.{givenWords, sentWords, takenWords, beganWords, droppedOnce, retiredBy, stayed, retiredWords}
+use Rattle.giving.specs.Given.{givenWords, sentWords, takenWords, startedWords, beganWords, droppedOnce, retiredBy, stayed, retiredWords}
 
 -- giving nothing, and giving one thing after others
 
@@ -201,7 +201,7 @@ value-sent p kept outcomes s f fs sound deep small few v x us q after =
 
 -- a process that begins
 pub began-words : (p : List ℕ) (m : ℕ) → beganWords p (replicate 512 0) m ≡ processWords (runs (started p m [] ∷ []))
-unfolding beganWords begun headAt processWords statusWords padded headWords frameValues started flatten valueWords
+unfolding beganWords startedWords startedHead putStatus putTop headAt processWords statusWords padded headWords frameValues started flatten valueWords
 began-words p m = refl
 
 -- one more argument in the slots

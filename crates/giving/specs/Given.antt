@@ -5,9 +5,11 @@ use mathlib.Core.Bool.{cond}
 use mathlib.Core.List.{List}
 use lib.Dec.{ltb}
 use lib.ListN.{set}
+use Rattle.table.specs.Table.{offsetOf}
 use Rattle.store.specs.declared.values.Val.{Val}
-use Rattle.store.specs.Words.{valueAt, putValue, headOf, putTop, topAt, stepped, emptiedBy}
-use Rattle.ops.specs.Did.{onTop, dropTo, begun}
+use Rattle.store.specs.declared.head.Head.{Head}
+use Rattle.store.specs.Words.{valueAt, putValue, headOf, putTop, topAt, stepped, startedHead, putStatus, emptiedBy}
+use Rattle.ops.specs.Did.{onTop, dropTo}
 use Rattle.events.specs.Told.{dropTwo}
 use Rattle.parts.specs.Parts.{partOf, withPart}
 
@@ -22,8 +24,12 @@ sentWords w v = givenWords (dropTwo w (headOf w)) v
 unfoldable pub takenWords : List ℕ → Val → List ℕ
 takenWords w v = onTop w (headOf w) v
 
+-- a process that starts, its head put back
+unfoldable pub startedWords : List ℕ → Head → List ℕ
+startedWords w h = putTop (set (putStatus w h) 8 (h .method)) h
+
 unfoldable pub beganWords : List ℕ → List ℕ → ℕ → List ℕ
-beganWords p w m = begun p (set w 0 1) 1 m
+beganWords p w m = startedWords w (startedHead (headOf w) m (offsetOf p m))
 
 unfoldable pub droppedOnce : List ℕ → List ℕ
 droppedOnce w = dropTo w (headOf w) (headOf w .place)

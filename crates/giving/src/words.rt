@@ -3,15 +3,16 @@ ghost use mathlib.Core.Path.{_≡_};
 ghost use Prim.Native.Nat.{_+_, _*_};
 ghost use Rattle.giving.specs.Given.{givenWords, sentWords, takenWords, beganWords, droppedOnce, retiredBy, retiredWords};
 use events::gates::discard_two;
-use ops::calls::begin_frame;
 use ops::jumps::discard_to;
 use ops::moves::replace;
 use store::giving::give_away;
 use store::head::Head;
+use store::head::put_status;
 use store::head::put_top;
 use store::head::read_head;
 use store::values::Val;
 use store::values::put;
+use table::words::word_at;
 
 // "Every slot and every pending value of the giver, in all frames, that holds the thing is emptied." An int or a boolean
 // is no thing.
@@ -46,8 +47,11 @@ pub fn receive(w: &mut [u32], v: Val)
 pub fn begin(p: &[u16], w: &mut [u32], m: u16)
     ensures { λ r. ⌜ now (w .exit) ≡ beganWords (now (p .entry)) (now (w .entry)) m ⌝ }
 {
-    put(w, 0, 1);
-    begin_frame(p, w, 1, m);
+    let place = word_at(p, 2 + 2 * (m as usize));
+    let h = read_head(w).start(m as u32, place as u32);
+    put_status(w, h);
+    put(w, 8, h.method);
+    put_top(w, h);
 }
 
 fn drop_once(w: &mut [u32])

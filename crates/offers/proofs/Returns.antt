@@ -7,8 +7,9 @@ use lib.Dec.{eqb}
 use borrow.Author.Tests.{eq-eqb}
 use Rattle.table.specs.Table.{word, methods, opAt}
 use Rattle.store.specs.declared.head.Head.{Head}
-use Rattle.store.specs.Words.{headOf}
+use Rattle.store.specs.Words.{headOf, waitingHead, topAt}
 use Rattle.ops.proofs.Returns.{took}
+use Rattle.ops.specs.Did.{emptyTwo}
 use Rattle.offers.specs.declared.stand.Stand.{Stand}
 use Rattle.offers.specs.Stands.{standing, sendOf, receiveOf, standOp}
 
@@ -24,3 +25,12 @@ stands-at p w start {h} {op} {r} e t s o q =
     (o ∙ ap (λ (n : ℕ). word p (n + 2 * h .place)) s)
     ∙ ap (λ (g : Head). cond (eqb (word p (2 + 20 * methods p + 2 * g .place)) 15) (sendOf w g)
     (cond (eqb (word p (2 + 20 * methods p + 2 * g .place)) 16) (receiveOf w g) (standing 1))) e)
+
+-- waiting changes nothing that an offer reads
+pub waits-to-send : (w : List ℕ) (h : Head) → sendOf w (waitingHead h) ≡ sendOf w h
+unfolding sendOf emptyTwo topAt waitingHead
+waits-to-send w h = refl
+
+pub waits-to-receive : (w : List ℕ) (h : Head) → receiveOf w (waitingHead h) ≡ receiveOf w h
+unfolding receiveOf topAt waitingHead
+waits-to-receive w h = refl

@@ -57,7 +57,7 @@ fn receiving(w: &[u32], h: Head) -> Stand
     }
 }
 
-// The stand of the process whose part is w; `start` is where the table's instructions begin.
+// The stand of the process whose part is w; an offer waits for its partner; `start` is where the table's instructions begin.
 pub fn read_stand(p: &[u16], start: usize, w: &[u32]) -> Stand
     requires { ⌜ start ≡ 2 + 20 * methods (now p) ⌝ }
     ensures { λ r. ⌜ r ≡ standOp (now (p .entry)) (now (w .entry)) ⌝ }
@@ -68,10 +68,10 @@ pub fn read_stand(p: &[u16], start: usize, w: &[u32]) -> Stand
     }
     let op = word_at(p, start + 2 * (h.place as usize));
     if op == 15 {
-        return sending(w, h);
+        return sending(w, h.wait());
     }
     if op == 16 {
-        return receiving(w, h);
+        return receiving(w, h.wait());
     }
     bare(1)
 }

@@ -84,6 +84,20 @@ popped h = record {
   pending = word (h .pending + 4294967295);
 }
 
+-- a process that starts in method m, and one that waits, which runs still
+unfoldable pub startedHead : Head → ℕ → ℕ → Head
+startedHead h m i = record { status = 1; fault = 0; frames = 1; method = m; place = i; pending = 0 }
+
+unfoldable pub waitingHead : Head → Head
+waitingHead h = record {
+  status = 1;
+  fault = h .fault;
+  frames = h .frames;
+  method = h .method;
+  place = h .place;
+  pending = h .pending;
+}
+
 -- a process that has finished has no frames; one that has stopped keeps them
 unfoldable pub finishedHead : Head → Head
 finishedHead h = record { status = 2; fault = 0; frames = 0; method = 0; place = 0; pending = 0 }

@@ -1,6 +1,6 @@
 // The head of a process: its state, taken out of its part of the store by value, changed, and put back.
 ghost use mathlib.Core.Path.{_≡_};
-ghost use Rattle.store.specs.Words.{headOf, putTop, slotAt, topAt, stepped, movedTo, pushed, popped, lessBy, finishedHead, stoppedHead, putStatus};
+ghost use Rattle.store.specs.Words.{headOf, putTop, slotAt, topAt, stepped, movedTo, pushed, popped, lessBy, startedHead, waitingHead, finishedHead, stoppedHead, putStatus};
 use super::values::get;
 use super::values::low;
 use super::values::put;
@@ -65,6 +65,27 @@ impl Head {
             return free - down;
         }
         0
+    }
+
+    // The process starts: it runs, with one frame at this instruction of this method and nothing pending.
+    pub fn start(mut self, method: u32, place: u32) -> Head
+        ensures { λ r. ⌜ r ≡ startedHead self method place ⌝ }
+    {
+        self.status = 1;
+        self.fault = 0;
+        self.frames = 1;
+        self.method = method;
+        self.place = place;
+        self.pending = 0;
+        self
+    }
+
+    // The process waits: it runs still and stays where it stands, so that its state is as it was.
+    pub fn wait(mut self) -> Head
+        ensures { λ r. ⌜ r ≡ waitingHead self ⌝ }
+    {
+        self.status = 1;
+        self
     }
 
     // The frame at work stands behind its instruction.

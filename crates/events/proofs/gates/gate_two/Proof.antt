@@ -34,7 +34,7 @@ same-length-2 c = search needs
 
 returns-2 : tie.Need-returns-2
 unfolding gateTwo
-returns-2 c = passed-by _ _ _ (c .before .before .before .before .before .before .before .two-empty .ensures) (c .before .before .before .before .before .before .if1 .left) (took _ _ _ (ap₂ eqb (c .before .before .before .before .qubit-no .ensures) (c .before .before .qubit-no2 .ensures)) (eq-eqb _ _ (c .before .if2 .taken)) (ap₂ left (c .fault2 .ensures) refl))
+returns-2 c = passed-by _ _ _ (c .before .before .before .before .before .before .before .before .before .two-empty .ensures) (c .before .before .before .before .before .before .before .before .if1 .left) (took _ _ _ (ap₂ eqb (c .before .before .before .before .before .before .qubit-no .ensures) (c .before .before .before .before .qubit-no2 .ensures)) (eq-eqb _ _ (c .before .if2 .taken)) (ap₂ left (c .fault2 .ensures) refl))
 
 discard-two-requires : tie.Need-discard-two-requires
 discard-two-requires c κs = search needs
@@ -47,7 +47,7 @@ same-length-3 c = search needs
 
 returns-3 : tie.Need-returns-3
 unfolding gateTwo
-returns-3 c = passed-by _ _ _ (c .before .before .before .before .before .before .before .before .before .before .before .two-empty .ensures) (c .before .before .before .before .before .before .before .before .before .before .if1 .left) (passed-by _ _ _ (ap₂ eqb (c .before .before .before .before .before .before .before .before .qubit-no .ensures) (c .before .before .before .before .before .before .qubit-no2 .ensures)) (ne-eqb _ _ (c .before .before .before .before .before .if2 .left)) (ap₂ left (c .line .ensures ∙ ap₂ (λ x y. lineTold 3 (c .before .before .before .before .before .before .before .before .before .before .before .before .before .before .args .a) x y) (c .before .before .before .before .before .before .before .before .qubit-no .ensures) (c .before .before .before .before .before .before .qubit-no2 .ensures)) (c .before .before .before .discard-two .ensures)))
+returns-3 c = passed-by _ _ _ (c .before .before .before .before .before .before .before .before .before .before .before .before .before .two-empty .ensures) (c .before .before .before .before .before .before .before .before .before .before .before .before .if1 .left) (passed-by _ _ _ (ap₂ eqb (c .before .before .before .before .before .before .before .before .before .before .qubit-no .ensures) (c .before .before .before .before .before .before .before .before .qubit-no2 .ensures)) (ne-eqb _ _ (c .before .before .before .before .before .if2 .left)) (ap₂ left (c .line .ensures ∙ ap₂ (λ x y. lineTold 3 (c .before .before .before .before .before .before .before .before .before .before .before .before .before .before .before .before .args .a) x y) (c .before .before .before .before .before .before .before .before .before .before .qubit-no .ensures) (c .before .before .before .before .before .before .before .before .qubit-no2 .ensures)) (c .before .before .before .discard-two .ensures)))
 
 pub gate-two-spec : {M : Type 1} → statement M
 gate-two-spec =

@@ -1,5 +1,5 @@
-use Rattle.offers.specs.Stands.{standOp}
-use Rattle.offers.proofs.Returns.{stands-at}
+use Rattle.offers.specs.Stands.{standOp, sendOf, receiveOf}
+use Rattle.offers.proofs.Returns.{stands-at, waits-to-send, waits-to-receive}
 use Rattle.ops.proofs.Returns.{took, passed-by}
 use Rattle.table.specs.Table.{methods, word}
 use Rattle.store.specs.Words.{headOf}
@@ -34,17 +34,23 @@ add-word-at c = omega (arith, c .before .before .before .before .before .before 
 word-at-requires : tie.Need-word-at-requires
 word-at-requires c κs = search needs
 
+wait-requires : tie.Need-wait-requires
+wait-requires c κs = search needs
+
 sending-requires : tie.Need-sending-requires
 sending-requires c κs = search needs
 
 returns-2 : tie.Need-returns-2
-returns-2 c = stands-at (c .before .before .before .before .before .before .before .before .before .args .p .now) (c .before .before .before .before .before .before .before .before .before .args .w .now) (c .before .before .before .before .before .before .before .before .before .args .start) (c .before .before .before .before .before .before .read-head .ensures) (c .before .before .before .before .if1 .left) (c .before .before .before .before .before .before .before .before .before .pre) (c .before .before .word-at .ensures .0) (took _ _ _ refl (eq-eqb _ 15 (c .before .if2 .taken)) (c .sending .ensures))
+returns-2 c = stands-at (c .before .before .before .before .before .before .before .before .before .before .args .p .now) (c .before .before .before .before .before .before .before .before .before .before .args .w .now) (c .before .before .before .before .before .before .before .before .before .before .args .start) (c .before .before .before .before .before .before .before .read-head .ensures) (c .before .before .before .before .before .if1 .left) (c .before .before .before .before .before .before .before .before .before .before .pre) (c .before .before .before .word-at .ensures .0) (took _ _ _ refl (eq-eqb _ 15 (c .before .before .if2 .taken)) (c .sending .ensures ∙ ap (sendOf (c .before .before .before .before .before .before .before .before .before .before .args .w .now)) (c .before .wait .ensures) ∙ waits-to-send (c .before .before .before .before .before .before .before .before .before .before .args .w .now) (c .before .before .before .before .before .before .before .read-head .result)))
+
+wait-requires-2 : tie.Need-wait-requires-2
+wait-requires-2 c κs = search needs
 
 receiving-requires : tie.Need-receiving-requires
 receiving-requires c κs = search needs
 
 returns-3 : tie.Need-returns-3
-returns-3 c = stands-at (c .before .before .before .before .before .before .before .before .before .before .args .p .now) (c .before .before .before .before .before .before .before .before .before .before .args .w .now) (c .before .before .before .before .before .before .before .before .before .before .args .start) (c .before .before .before .before .before .before .before .read-head .ensures) (c .before .before .before .before .before .if1 .left) (c .before .before .before .before .before .before .before .before .before .before .pre) (c .before .before .before .word-at .ensures .0) (passed-by _ _ _ refl (ne-eqb _ 15 (c .before .before .if2 .left)) (took _ _ _ refl (eq-eqb _ 16 (c .before .if3 .taken)) (c .receiving .ensures)))
+returns-3 c = stands-at (c .before .before .before .before .before .before .before .before .before .before .before .args .p .now) (c .before .before .before .before .before .before .before .before .before .before .before .args .w .now) (c .before .before .before .before .before .before .before .before .before .before .before .args .start) (c .before .before .before .before .before .before .before .before .read-head .ensures) (c .before .before .before .before .before .before .if1 .left) (c .before .before .before .before .before .before .before .before .before .before .before .pre) (c .before .before .before .before .word-at .ensures .0) (passed-by _ _ _ refl (ne-eqb _ 15 (c .before .before .before .if2 .left)) (took _ _ _ refl (eq-eqb _ 16 (c .before .before .if3 .taken)) (c .receiving .ensures ∙ ap (receiveOf (c .before .before .before .before .before .before .before .before .before .before .before .args .w .now)) (c .before .wait2 .ensures) ∙ waits-to-receive (c .before .before .before .before .before .before .before .before .before .before .before .args .w .now) (c .before .before .before .before .before .before .before .before .read-head .result))))
 
 bare-requires-2 : tie.Need-bare-requires-2
 bare-requires-2 c κs = search needs
@@ -63,8 +69,10 @@ read-stand-spec =
     mul-word-at
     add-word-at
     word-at-requires
+    wait-requires
     sending-requires
     returns-2
+    wait-requires-2
     receiving-requires
     returns-3
     bare-requires-2
