@@ -1,113 +1,73 @@
 //! Times the proved library beside the model, in one run.
 //!
-//! `bench` runs every workload and prints nanoseconds per table instruction
-//! and the ratio. `bench NAME COUNT` runs one workload COUNT times through the
-//! library alone, for counting instructions under callgrind.
+//! - `bench` runs every workload and prints nanoseconds per entry, or per
+//!   table instruction for the check, and the ratio.
+//! - `bench --case NAME [COUNT]` runs one workload once through the library
+//!   alone, on the first COUNT entries of its schedule; a check COUNT times.
+//! - `bench --instructions` counts the run workloads' instructions per entry
+//!   under callgrind.
+
+mod checks;
+mod counted;
+mod programs;
+mod runs;
 
 use std::env;
-use std::hint::black_box;
 use std::process::exit;
-use std::time::Instant;
 
-/// A program table to check, of this many instructions.
-struct Workload {
-    name: &'static str,
-    program: Vec<u16>,
-    instructions: usize,
-}
-
-/// INT, INT, ADD, PUT, GET, LESS, JFALSE and JUMP to the block's start, again
-/// and again: pending values, slots and two jumps in eight instructions.
-fn block(start: u16) -> [u16; 16] {
-    [1, 7, 1, 9, 19, 0, 4, 0, 3, 0, 22, 0, 18, start, 17, start]
-}
-
-/// Methods of equal length, each with an int and a boolean slot.
-fn table(methods: u16, length: u16) -> Vec<u16> {
-    let mut words = vec![methods, methods * length];
-    for m in 0..methods {
-        words.extend([m * length, length]);
-    }
-    for _ in 0..methods {
-        words.extend([0, 0, 1, 2]);
-        words.extend([0; 14]);
-    }
-    for _ in 0..methods {
-        for i in 0..length / 8 {
-            words.extend(block(8 * i));
-        }
-    }
-    words
-}
-
-fn workloads() -> Vec<Workload> {
-    let named = |name, methods, length| Workload {
-        name,
-        program: table(methods, length),
-        instructions: methods as usize * length as usize,
-    };
-    vec![
-        named("check-one-method", 1, 4096),
-        named("check-32-methods", 32, 128),
-    ]
-}
-
-/// Nanoseconds per instruction of so many calls.
-fn timed(work: &Workload, calls: usize, call: impl Fn(&[u16]) -> bool) -> f64 {
-    let start = Instant::now();
-    for _ in 0..calls {
-        assert!(call(black_box(&work.program)), "{} is refused", work.name);
-    }
-    start.elapsed().as_nanos() as f64 / (calls * work.instructions) as f64
-}
-
-fn library(program: &[u16]) -> bool {
-    lanq::check(program, &[], &[], 8192).is_ok()
-}
-
-fn model_check(program: &[u16]) -> bool {
-    model::check(program, &[], &[], 8192).is_ok()
-}
+use runs::{Lent, ENTRIES};
 
 fn compare() {
-    for work in workloads() {
-        let ours = timed(&work, 2_000, library);
-        let theirs = timed(&work, 20, model_check);
-        println!(
-            "{}: library {ours:.1} ns, model {theirs:.1} ns per table instruction, ratio {:.3}",
-            work.name,
-            ours / theirs
-        );
+    println!("{:18} {:>10} {:>10} {:>8} {:>7}", "", "library ns", "model ns", "ratio", "idle");
+    let row = |name: &str, ours: f64, theirs: f64, more: &str| {
+        println!("{name:18} {ours:10.1} {theirs:10.1} {:8.4} {more:>7}", ours / theirs);
+    };
+    println!("per entry, of {ENTRIES}");
+    let mut lent = Lent::new();
+    for run in runs::all() {
+        let ours = run.by_library(20, &mut lent);
+        row(run.name, ours, run.by_model(3, &lent), &format!("{:.1} %", run.idle()));
+    }
+    println!("per table instruction");
+    for check in checks::all() {
+        row(check.name, check.by_library(2_000), check.by_model(20), "");
     }
 }
 
-fn one(name: &str, calls: usize) {
-    match workloads().iter().find(|w| w.name == name) {
-        Some(work) => {
-            timed(work, calls, library);
-            println!("{name}: {calls} calls, {} instructions each", work.instructions);
-        }
-        None => {
-            eprintln!("no workload {name}: there are check-one-method and check-32-methods");
-            exit(2);
-        }
+/// One workload, for callgrind.
+fn one(name: &str, count: usize) -> Result<(), String> {
+    if let Some(run) = runs::all().iter().find(|run| run.name == name) {
+        let answer = run.once(count.min(ENTRIES), &mut Lent::new());
+        println!("{name}: {answer:?}");
+    } else if let Some(check) = checks::all().iter().find(|check| check.name == name) {
+        check.by_library(count);
+        println!("{name}: {count} calls, {} instructions each", check.instructions);
+    } else {
+        let runs = runs::all().into_iter().map(|run| run.name);
+        let names: Vec<&str> = runs.chain(checks::all().iter().map(|check| check.name)).collect();
+        return Err(format!("no workload {name}: there are {}", names.join(", ")));
     }
+    Ok(())
 }
 
 fn main() {
     let words: Vec<String> = env::args().skip(1).collect();
-    match words.as_slice() {
-        [] => compare(),
-        [name, count] => match count.parse() {
-            Ok(calls) => one(name, calls),
-            Err(_) => {
-                eprintln!("{count} is no number");
-                exit(2);
-            }
-        },
-        _ => {
-            eprintln!("usage: bench [WORKLOAD COUNT]");
-            exit(2);
+    let words: Vec<&str> = words.iter().map(String::as_str).collect();
+    let done = match words.as_slice() {
+        [] => {
+            compare();
+            Ok(())
         }
+        ["--instructions"] => counted::print(),
+        ["--case", name] => one(name, ENTRIES),
+        ["--case", name, count] => match count.parse() {
+            Ok(count) => one(name, count),
+            Err(_) => Err(format!("{count} is no number")),
+        },
+        _ => Err("usage: bench [--instructions | --case NAME [COUNT]]".to_string()),
+    };
+    if let Err(why) = done {
+        eprintln!("{why}");
+        exit(2);
     }
 }

@@ -2,6 +2,10 @@
 
 #![forbid(unsafe_code)]
 
+pub mod inputs;
+pub mod layout;
+pub mod left;
+
 use generate::Case;
 
 /// What both say to the questions about a case: number and place, or nothing

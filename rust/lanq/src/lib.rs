@@ -1,7 +1,8 @@
 //! Safe bindings of the LanQ process machine, `include/lanq.h`.
 //!
-//! So far the library has the check, the look-up and the same-lines answer; the
-//! run is to come.
+//! [`run`] runs a program table, [`decode`] reads the configuration that it
+//! leaves, [`check`] only puts the questions, [`holder`] and [`same_lines`]
+//! read traces.
 //!
 //! ```
 //! // One method, main, that returns at once.
@@ -22,6 +23,13 @@
 //! assert_eq!(lanq::holder(&trace, 2, 1), None);
 //! ```
 
+mod configuration;
+mod raw;
+mod run;
+
+pub use configuration::{decode, Configuration, Frame, Process, Status, Value, WORK_WORDS};
+pub use run::{run, Answer, End};
+
 /// The question that refused an input, with its place.
 #[derive(Clone, Copy, Debug, PartialEq, Eq)]
 pub struct Refusal {
@@ -37,37 +45,12 @@ impl std::fmt::Display for Refusal {
 
 impl std::error::Error for Refusal {}
 
-/// `LanqAnswer` of the header.
-#[repr(C)]
-struct Answer {
-    refused: u64,
-    place: u64,
-    end: u64,
-    entries: u64,
-    lines: u64,
-    outcomes: u64,
-}
-
-extern "C" {
-    fn lanq_check(
-        program: *const u16,
-        program_len: usize,
-        schedule: *const u8,
-        schedule_len: usize,
-        outcomes: *const u8,
-        outcomes_len: usize,
-        work_len: usize,
-    ) -> Answer;
-    fn lanq_holder(trace: *const u16, trace_len: usize, k: usize, qubit: u16) -> u16;
-    fn lanq_same_lines(a: *const u16, a_len: usize, b: *const u16, b_len: usize) -> bool;
-}
-
 /// Puts the eight questions about a program table, a schedule, an outcome list
 /// and a work store of `work_len` words.
 pub fn check(program: &[u16], schedule: &[u8], outcomes: &[u8], work_len: usize) -> Result<(), Refusal> {
     // The slices outlive the call, and the function only reads them.
     let answer = unsafe {
-        lanq_check(
+        raw::lanq_check(
             program.as_ptr(),
             program.len(),
             schedule.as_ptr(),
@@ -88,12 +71,18 @@ pub fn check(program: &[u16], schedule: &[u8], outcomes: &[u8], work_len: usize)
 /// are fewer; nobody is the number 65535.
 pub fn holder(trace: &[u16], k: usize, qubit: u16) -> Option<u16> {
     // The slice outlives the call, and the function only reads it.
-    let number = unsafe { lanq_holder(trace.as_ptr(), trace.len(), k, qubit) };
+    let number = unsafe { raw::lanq_holder(trace.as_ptr(), trace.len(), k, qubit) };
     (number != 65535).then_some(number)
 }
 
 /// Whether two traces have the same lines, the entries' numbers left out.
+///
+/// ```
+/// let (first, later) = ([0, 2, 1, 0, 65535, 65535], [9, 2, 1, 0, 65535, 65535]);
+/// assert!(lanq::same_lines(&first, &later));
+/// assert!(!lanq::same_lines(&first, &[]));
+/// ```
 pub fn same_lines(a: &[u16], b: &[u16]) -> bool {
     // The slices outlive the call, and the function only reads them.
-    unsafe { lanq_same_lines(a.as_ptr(), a.len(), b.as_ptr(), b.len()) }
+    unsafe { raw::lanq_same_lines(a.as_ptr(), a.len(), b.as_ptr(), b.len()) }
 }

@@ -1,0 +1,68 @@
+//! Tables to check. Nothing is run.
+
+use std::hint::black_box;
+use std::time::Instant;
+
+/// A program table to check, of this many instructions.
+pub struct Check {
+    pub name: &'static str,
+    program: Vec<u16>,
+    pub instructions: usize,
+}
+
+/// INT, INT, ADD, PUT, GET, LESS, JFALSE and JUMP to the block's start, again
+/// and again: pending values, slots and two jumps in eight instructions.
+fn block(start: u16) -> [u16; 16] {
+    [1, 7, 1, 9, 19, 0, 4, 0, 3, 0, 22, 0, 18, start, 17, start]
+}
+
+/// Methods of equal length, each with an int and a boolean slot.
+fn table(methods: u16, length: u16) -> Vec<u16> {
+    let mut words = vec![methods, methods * length];
+    for m in 0..methods {
+        words.extend([m * length, length]);
+    }
+    for _ in 0..methods {
+        words.extend([0, 0, 1, 2]);
+        words.extend([0; 14]);
+    }
+    for _ in 0..methods {
+        for i in 0..length / 8 {
+            words.extend(block(8 * i));
+        }
+    }
+    words
+}
+
+pub fn all() -> Vec<Check> {
+    let named = |name, methods, length| Check {
+        name,
+        program: table(methods, length),
+        instructions: methods as usize * length as usize,
+    };
+    vec![
+        named("check-one-method", 1, 4096),
+        named("check-32-methods", 32, 128),
+    ]
+}
+
+impl Check {
+    /// Nanoseconds per instruction of so many calls.
+    fn timed(&self, calls: usize, call: impl Fn(&[u16]) -> bool) -> f64 {
+        let start = Instant::now();
+        for _ in 0..calls {
+            assert!(call(black_box(&self.program)), "{} is refused", self.name);
+        }
+        start.elapsed().as_nanos() as f64 / (calls * self.instructions) as f64
+    }
+
+    /// The same by the library.
+    pub fn by_library(&self, calls: usize) -> f64 {
+        self.timed(calls, |program| lanq::check(program, &[], &[], 8192).is_ok())
+    }
+
+    /// The same by the model.
+    pub fn by_model(&self, calls: usize) -> f64 {
+        self.timed(calls, |program| model::check(program, &[], &[], 8192).is_ok())
+    }
+}

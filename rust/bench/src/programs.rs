@@ -1,0 +1,157 @@
+//! The programs of the run workloads. None of them ends by itself.
+
+use model::assemble::{op::*, Source};
+
+fn method(parameters: &[u16], locals: &[u16], code: Vec<(u16, u16)>) -> Source {
+    Source {
+        return_type: 0,
+        parameters: parameters.len() as u16,
+        slots: [parameters, locals].concat(),
+        code,
+    }
+}
+
+/// Ints through slot 0 and back to the start: twelve instructions.
+fn sums(start: u16) -> Vec<(u16, u16)> {
+    vec![
+        (INT, 7),
+        (INT, 9),
+        (ADD, 0),
+        (PUT, 0),
+        (DROP, 0),
+        (GET, 0),
+        (INT, 16),
+        (SUB, 0),
+        (INT, 1),
+        (LESS, 0),
+        (JFALSE, start),
+        (JUMP, start),
+    ]
+}
+
+/// One process that computes.
+pub fn arithmetic() -> Vec<Source> {
+    vec![method(&[], &[1], sums(0))]
+}
+
+/// Eight processes that compute.
+pub fn eight() -> Vec<Source> {
+    let mut main = vec![(FORK, 1); 7];
+    main.extend(sums(7));
+    vec![method(&[], &[1], main), method(&[], &[1], sums(0))]
+}
+
+/// Two processes that hand an int to and fro over one channel.
+pub fn ping_pong() -> Vec<Source> {
+    let main = vec![
+        (NEWC, 1),
+        (PUT, 0),
+        (END, 0),
+        (PUT, 1),
+        (DROP, 0),
+        (GET, 0),
+        (END, 1),
+        (FORK, 1),
+        (GET, 1),
+        (INT, 5),
+        (SEND, 0),
+        (GET, 1),
+        (RECV, 0),
+        (DROP, 0),
+        (JUMP, 8),
+    ];
+    let child = vec![
+        (GET, 0),
+        (RECV, 0),
+        (PUT, 1),
+        (DROP, 0),
+        (GET, 0),
+        (GET, 1),
+        (SEND, 0),
+        (JUMP, 0),
+    ];
+    vec![method(&[], &[17, 33], main), method(&[33], &[1], child)]
+}
+
+/// A qubit handed around four processes, a gate at each.
+pub fn relay() -> Vec<Source> {
+    // Slot 0 a channel, slots 1 to 8 the ends of four, slot 9 the qubit.
+    let mut main = vec![(NEWQ, 0), (PUT, 9), (DROP, 0)];
+    for k in 0..4 {
+        main.extend([(NEWC, 3), (PUT, 0), (END, 0), (PUT, 2 * k + 1), (DROP, 0)]);
+        main.extend([(GET, 0), (END, 1), (PUT, 2 * k + 2), (DROP, 0)]);
+    }
+    for k in 1..4 {
+        main.extend([(GET, 2 * k), (GET, 2 * k + 1), (FORK, 1)]);
+    }
+    let start = main.len() as u16;
+    main.extend([(GET, 9), (GATE, 1), (GET, 1), (GET, 9), (SEND, 0)]);
+    main.extend([(GET, 8), (RECV, 0), (PUT, 9), (DROP, 0), (JUMP, start)]);
+    let stage = vec![
+        (GET, 0),
+        (RECV, 0),
+        (PUT, 2),
+        (GATE, 4),
+        (GET, 1),
+        (GET, 2),
+        (SEND, 0),
+        (JUMP, 0),
+    ];
+    let mut slots = vec![19];
+    slots.extend([35; 8]);
+    slots.push(3);
+    vec![method(&[], &slots, main), method(&[35, 35], &[3], stage)]
+}
+
+/// f(n) is 0 for n below 1, else n + f(n - 1): main and seven more frames.
+pub fn calls() -> Vec<Source> {
+    let main = vec![(INT, 6), (CALL, 1), (DROP, 0), (JUMP, 0)];
+    let code = vec![
+        (GET, 0),
+        (INT, 1),
+        (LESS, 0),
+        (JFALSE, 6),
+        (INT, 0),
+        (RET, 0),
+        (GET, 0),
+        (GET, 0),
+        (INT, 1),
+        (SUB, 0),
+        (CALL, 1),
+        (ADD, 0),
+        (RET, 0),
+    ];
+    let mut f = method(&[1], &[], code);
+    f.return_type = 1;
+    vec![method(&[], &[], main), f]
+}
+
+/// Main computes while seven others wait for ever.
+pub fn waiting() -> Vec<Source> {
+    let mut main = [(NEWC, 1), (END, 1), (FORK, 1)].repeat(7);
+    main.extend(sums(21));
+    let child = vec![(GET, 0), (RECV, 0), (DROP, 0), (RET, 0)];
+    vec![method(&[], &[1], main), method(&[33], &[], child)]
+}
+
+/// Gates on one and two qubits, and measurements.
+pub fn quantum() -> Vec<Source> {
+    let main = vec![
+        (NEWQ, 0),
+        (PUT, 0),
+        (DROP, 0),
+        (NEWQ, 0),
+        (PUT, 1),
+        (DROP, 0),
+        (GET, 0),
+        (GATE, 4),
+        (GET, 0),
+        (GET, 1),
+        (GATE, 6),
+        (GET, 1),
+        (MEAS, 0),
+        (DROP, 0),
+        (JUMP, 6),
+    ];
+    vec![method(&[], &[3, 3], main)]
+}

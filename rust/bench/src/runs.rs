@@ -1,0 +1,108 @@
+//! Runs of many entries.
+
+use std::hint::black_box;
+use std::time::Instant;
+
+use lanq::{Answer, End};
+use model::assemble::{table, Source};
+use model::machine::{Did, Machine};
+
+use crate::programs;
+
+/// Entries of a workload's schedule.
+pub const ENTRIES: usize = 60_000;
+
+/// A program with its schedule. No run of it ends before the schedule does.
+pub struct Run {
+    pub name: &'static str,
+    program: Vec<u16>,
+    schedule: Vec<u8>,
+    outcomes: Vec<u8>,
+}
+
+/// The schedule names `processes` numbers in turn.
+fn named(name: &'static str, methods: Vec<Source>, processes: usize) -> Run {
+    Run {
+        name,
+        program: table(&methods),
+        schedule: (0..ENTRIES).map(|i| (i % processes) as u8).collect(),
+        outcomes: (0..ENTRIES).map(|i| (i % 2) as u8).collect(),
+    }
+}
+
+pub fn all() -> Vec<Run> {
+    vec![
+        named("arithmetic", programs::arithmetic(), 1),
+        named("round-robin", programs::eight(), 8),
+        named("ping-pong", programs::ping_pong(), 2),
+        named("relay", programs::relay(), 4),
+        named("calls", programs::calls(), 1),
+        named("waiting", programs::waiting(), 8),
+        named("not-made", programs::arithmetic(), 8),
+        named("quantum", programs::quantum(), 1),
+    ]
+}
+
+/// Words of the lent trace: no entry of these workloads writes more than three
+/// lines.
+const TRACE: usize = 3 * 6 * ENTRIES;
+
+/// The buffers that a run is lent, made once.
+pub struct Lent {
+    trace: Vec<u16>,
+    work: Vec<u32>,
+}
+
+impl Lent {
+    pub fn new() -> Lent {
+        Lent {
+            trace: vec![0; TRACE],
+            work: vec![0; lanq::WORK_WORDS],
+        }
+    }
+}
+
+impl Run {
+    /// Runs the schedule's first entries with the library.
+    pub fn once(&self, entries: usize, lent: &mut Lent) -> Answer {
+        let schedule = black_box(&self.schedule[..entries]);
+        lanq::run(&self.program, schedule, &self.outcomes, &mut lent.trace, &mut lent.work)
+    }
+
+    /// Nanoseconds per entry, the best of so many runs.
+    pub fn by_library(&self, runs: usize, lent: &mut Lent) -> f64 {
+        best(runs, || match self.once(ENTRIES, lent) {
+            Answer::Ran { end: End::ScheduleUsed, entries, .. } => entries,
+            other => panic!("{}: {other:?}", self.name),
+        })
+    }
+
+    /// The same by the model.
+    pub fn by_model(&self, runs: usize, lent: &Lent) -> f64 {
+        let (trace, work) = (lent.trace.len(), lent.work.len());
+        best(runs, || {
+            let schedule = black_box(&self.schedule);
+            let run = model::check_and_run(&self.program, schedule, &self.outcomes, trace, work);
+            run.expect("a workload passes the questions").entries
+        })
+    }
+
+    /// How many of a hundred entries are idle.
+    pub fn idle(&self) -> f64 {
+        let program = model::check(&self.program, &[], &[], lanq::WORK_WORDS);
+        let program = program.expect("a workload passes the questions");
+        let mut machine = Machine::new(&program, &self.outcomes, TRACE);
+        let did = self.schedule.iter().map(|byte| machine.entry(*byte));
+        let idle = did.filter(|did| *did == Ok(Did::Idle)).count();
+        100.0 * idle as f64 / ENTRIES as f64
+    }
+}
+
+fn best(runs: usize, mut run: impl FnMut() -> usize) -> f64 {
+    let timed = (0..runs).map(|_| {
+        let start = Instant::now();
+        assert_eq!(run(), ENTRIES, "a run ended early");
+        start.elapsed().as_nanos() as f64 / ENTRIES as f64
+    });
+    timed.fold(f64::INFINITY, f64::min)
+}

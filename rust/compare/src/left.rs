@@ -1,0 +1,124 @@
+//! What a run leaves: its answer and every word of the lent buffers, and of
+//! the words around them, which no run may touch.
+
+use generate::{Case, Random};
+use model::machine::Run;
+use model::Refusal;
+
+use crate::layout;
+
+/// Words on either side of a lent buffer.
+const AROUND: usize = 8;
+
+/// Trace and work store with what lies around them.
+#[derive(Clone, Debug, PartialEq, Eq)]
+pub struct Buffers {
+    trace: Vec<u16>,
+    work: Vec<u32>,
+}
+
+impl Buffers {
+    /// Buffers for a case, full of words that no run has written.
+    pub fn dirty(case: &Case, random: &mut Random) -> Buffers {
+        let trace = 0..case.trace_len + 2 * AROUND;
+        let work = 0..case.work_len + 2 * AROUND;
+        Buffers {
+            trace: trace.map(|_| random.bits() as u16).collect(),
+            work: work.map(|_| random.bits() as u32).collect(),
+        }
+    }
+
+    /// Trace and work store as they are lent.
+    pub fn lent(&mut self) -> (&mut [u16], &mut [u32]) {
+        (inner(&mut self.trace), inner(&mut self.work))
+    }
+
+    /// The words behind the lent trace.
+    pub fn behind_trace(&mut self) -> &mut [u16] {
+        let end = self.trace.len() - AROUND;
+        &mut self.trace[end..]
+    }
+}
+
+fn inner<T>(words: &mut [T]) -> &mut [T] {
+    let end = words.len() - AROUND;
+    &mut words[AROUND..end]
+}
+
+/// The numbers that a run answers.
+#[derive(Clone, Copy, Debug, PartialEq, Eq)]
+pub enum Answer {
+    Refused { number: u64, place: u64 },
+    Ran { end: u64, entries: usize, lines: usize, outcomes: usize },
+}
+
+/// What a run leaves.
+#[derive(Clone, Debug, PartialEq, Eq)]
+pub struct Left {
+    pub answer: Answer,
+    pub buffers: Buffers,
+    /// The configuration read back from the work store, after a run.
+    pub configuration: Option<lanq::Configuration>,
+}
+
+/// Runs the case with the library.
+pub fn by_library(case: &Case, mut buffers: Buffers) -> Left {
+    let (trace, work) = buffers.lent();
+    let answer = lanq::run(&case.program, &case.schedule, &case.outcomes, trace, work);
+    let (answer, configuration) = match answer {
+        lanq::Answer::Refused { number, place } => (Answer::Refused { number, place }, None),
+        lanq::Answer::Ran { end, entries, lines, outcomes } => {
+            let end = end.number();
+            (Answer::Ran { end, entries, lines, outcomes }, lanq::decode(work))
+        }
+    };
+    Left { answer, buffers, configuration }
+}
+
+/// What the model's run or refusal of the case leaves in these buffers.
+pub fn by_model(case: &Case, ran: &Result<Run, Refusal>, mut buffers: Buffers) -> Left {
+    let run = match ran {
+        Ok(run) => run,
+        Err(Refusal { number, place }) => {
+            let answer = Answer::Refused { number: *number, place: *place };
+            return Left { answer, buffers, configuration: None };
+        }
+    };
+    let lines = run.trace_words();
+    let (trace, work) = buffers.lent();
+    trace[..lines.len()].copy_from_slice(&lines);
+    work[..layout::WORDS].copy_from_slice(&layout::words(&case.program, &run.config));
+    let answer = Answer::Ran {
+        end: u64::from(run.end.number()),
+        entries: run.entries,
+        lines: run.lines.len(),
+        outcomes: run.outcomes_used,
+    };
+    let configuration = Some(layout::shown(&case.program, &run.config));
+    Left { answer, buffers, configuration }
+}
+
+/// The first thing in which the two differ.
+pub fn difference(library: &Left, model: &Left) -> Option<String> {
+    if library.answer != model.answer {
+        return Some(format!("answer {:?}, model {:?}", library.answer, model.answer));
+    }
+    let trace = first_difference(&library.buffers.trace, &model.buffers.trace);
+    if let Some(difference) = trace {
+        return Some(format!("trace word {difference}"));
+    }
+    let work = first_difference(&library.buffers.work, &model.buffers.work);
+    if let Some(difference) = work {
+        return Some(format!("work word {difference}"));
+    }
+    let (ours, theirs) = (&library.configuration, &model.configuration);
+    (ours != theirs).then(|| format!("configuration {ours:?}, model {theirs:?}"))
+}
+
+/// The first place, counted from the lent buffer's start, with both words.
+fn first_difference<T: PartialEq + std::fmt::Display>(ours: &[T], theirs: &[T]) -> Option<String> {
+    assert_eq!(ours.len(), theirs.len(), "buffers keep their lengths");
+    let at = ours.iter().zip(theirs).position(|(a, b)| a != b)?;
+    let place = at as isize - AROUND as isize;
+    Some(format!("{place}: {}, model {}", ours[at], theirs[at]))
+}

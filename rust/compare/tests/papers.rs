@@ -1,0 +1,200 @@
+//! The library's run beside what document 01 and docs/LAYOUT.md say word by
+//! word: no model stands between.
+
+use lanq::{decode, run, Answer, End};
+use model::assemble::{op::*, table, Source};
+
+/// The number in an unused column.
+const U: u16 = 65_535;
+
+fn method(return_type: u16, parameters: &[u16], locals: &[u16], code: &[(u16, u16)]) -> Source {
+    Source {
+        return_type,
+        parameters: parameters.len() as u16,
+        slots: [parameters, locals].concat(),
+        code: code.to_vec(),
+    }
+}
+
+/// "A run given whole", its words typed from 01.
+fn given_whole() -> Vec<u16> {
+    let main = [
+        [7, 0, 4, 0, 5, 0, 8, 3, 4, 1, 9, 0, 4, 2, 5, 0, 3, 1],
+        [9, 1, 14, 1, 3, 2, 3, 0, 15, 0, 3, 0, 11, 0, 5, 0, 13, 0],
+    ];
+    let main: Vec<(u16, u16)> = main.concat().chunks_exact(2).map(|two| (two[0], two[1])).collect();
+    let other = [(3, 0), (16, 0), (10, 4), (13, 0)];
+    table(&[method(0, &[], &[3, 19, 35], &main), method(0, &[35], &[], &other)])
+}
+
+const SCHEDULE: [u8; 18] = [0, 0, 0, 0, 0, 0, 0, 0, 0, 0, 0, 1, 0, 0, 0, 1, 1, 0];
+
+/// End, entries, lines and outcomes of a run, with its lines and its store.
+fn ran(program: &[u16], schedule: &[u8]) -> ((u64, usize, usize, usize), Vec<[u16; 6]>, Vec<u32>) {
+    let mut trace = vec![7; 6 * 100];
+    let mut work = vec![7; 8192];
+    match run(program, schedule, &[], &mut trace, &mut work) {
+        Answer::Ran { end, entries, lines, outcomes } => {
+            let written = trace.chunks_exact(6).take(lines);
+            let written = written.map(|six| six.try_into().expect("six words")).collect();
+            ((end.number(), entries, lines, outcomes), written, work)
+        }
+        refused => panic!("{refused:?}"),
+    }
+}
+
+/// The words that are not 0, with their places.
+fn not_0(work: &[u32]) -> Vec<(usize, u32)> {
+    work.iter().copied().enumerate().filter(|(_, word)| *word != 0).collect()
+}
+
+#[test]
+fn p1_empty_schedule() {
+    let (answer, _, work) = ran(&given_whole(), &[]);
+    assert_eq!(answer, (0, 0, 0, 0));
+    // One process, which runs in one frame, at main's first instruction.
+    assert_eq!(not_0(&work), [(0, 1), (512, 1), (514, 1)]);
+}
+
+#[test]
+fn p2_no_trace_lines() {
+    for words in 0..6 {
+        let mut trace = vec![9; words];
+        let mut work = vec![9; 8192];
+        let answer = run(&given_whole(), &[0], &[], &mut trace, &mut work);
+        assert_eq!(answer, Answer::Ran { end: End::TraceFull, entries: 0, lines: 0, outcomes: 0 });
+        assert_eq!(trace, vec![9; words]);
+        assert_eq!(not_0(&work), [(0, 1), (512, 1), (514, 1)]);
+    }
+}
+
+#[test]
+fn p3_the_run_given_whole() {
+    let (answer, lines, work) = ran(&given_whole(), &SCHEDULE);
+    assert_eq!(answer, (1, 18, 9, 0));
+    let expected = [
+        [0, 0, 1, 0, U, U],
+        [3, 0, 2, 0, U, U],
+        [10, 0, 5, 1, 1, 1],
+        [10, 0, 6, 1, 6, 0],
+        [14, 0, 7, 1, 0, 0],
+        [14, 0, 6, 1, 3, 0],
+        [15, 1, 3, 4, 0, U],
+        [16, 1, 9, U, U, U],
+        [17, 0, 10, 20, U, U],
+    ];
+    assert_eq!(lines, expected);
+    // The first example of docs/LAYOUT.md.
+    let stored = [(0, 2), (1, 1), (2, 1), (512, 3), (513, 20), (514, 1), (521, 14), (580, 5), (1024, 2)];
+    assert_eq!(not_0(&work), stored);
+}
+
+#[test]
+fn p4_p12_refusals_keep_every_word() {
+    let whole = given_whole();
+    let short = &whole[..whole.len() - 1];
+    let refused = |program: &[u16], outcomes: &[u8], number, place| {
+        let mut trace = [9; 60];
+        let mut work = vec![9; 8192];
+        let answer = run(program, &SCHEDULE, outcomes, &mut trace, &mut work);
+        assert_eq!(answer, Answer::Refused { number, place });
+        assert_eq!(trace, [9; 60]);
+        assert_eq!(work, vec![9; 8192]);
+    };
+    refused(short, &[], 1, 0);
+    refused(&whole, &[0, 1, 2, 3], 6, 2);
+    refused(&[], &[], 1, 0);
+}
+
+#[test]
+fn p5_p6_the_last_qubit() {
+    let mut code = [(NEWQ, 0), (DROP, 0)].repeat(33);
+    code.push((RET, 0));
+    let program = table(&[method(0, &[], &[], &code)]);
+    let (answer, lines, _) = ran(&program, &[0; 63]);
+    assert_eq!((answer, lines[31]), ((0, 63, 32, 0), [62, 0, 1, 31, U, U]));
+    let (answer, lines, work) = ran(&program, &[0; 70]);
+    assert_eq!((answer, lines[32]), ((1, 65, 33, 0), [64, 0, 10, 22, U, U]));
+    assert_eq!(work[1], 32);
+}
+
+#[test]
+fn p7_p8_the_largest_int() {
+    let plus = |added| {
+        let mut code = vec![(INT, 1), (PUT, 0)];
+        // 30 doublings: 1073741824.
+        code.extend([(GET, 0), (ADD, 0), (PUT, 0)].repeat(30));
+        code.extend([(INT, 1), (SUB, 0), (GET, 0), (ADD, 0)]);
+        code.extend([(INT, added), (ADD, 0), (PUT, 1), (DROP, 0), (RET, 0)]);
+        table(&[method(0, &[], &[1, 1], &code)])
+    };
+    let (answer, _, work) = ran(&plus(0), &[0; 99]);
+    assert_eq!(answer, (0, 99, 0, 0));
+    assert_eq!(work[578..580], [1, 2_147_483_647]);
+    let (answer, lines, work) = ran(&plus(1), &[0; 99]);
+    assert_eq!(answer, (1, 98, 1, 0));
+    assert_eq!(lines, [[97, 0, 10, 26, U, U]]);
+    // Both operands are as they were before the entry.
+    assert_eq!(work[608..612], [1, 2_147_483_647, 1, 1]);
+}
+
+#[test]
+fn p9_cx_on_one_qubit() {
+    let code = [(NEWQ, 0), (PUT, 0), (GET, 0), (GATE, 6), (RET, 0)];
+    let (answer, lines, _) = ran(&table(&[method(0, &[], &[3], &code)]), &[0; 9]);
+    assert_eq!(answer, (1, 4, 2, 0));
+    assert_eq!(lines[1], [3, 0, 10, 27, U, U]);
+}
+
+#[test]
+fn p10_a_value_already_evaluated() {
+    let main = [(NEWQ, 0), (PUT, 0), (DROP, 0), (GET, 0), (GET, 0), (CALL, 1), (GATE, 6), (RET, 0)];
+    let forks = [(GET, 0), (FORK, 2), (NEWQ, 0), (RET, 0)];
+    let program = table(&[
+        method(0, &[], &[3], &main),
+        method(3, &[3], &[], &forks),
+        method(0, &[3], &[], &[(RET, 0)]),
+    ]);
+    let (answer, lines, work) = ran(&program, &[0; 11]);
+    assert_eq!(answer, (0, 11, 5, 0));
+    assert_eq!(lines[4], [10, 0, 10, 20, U, U]);
+    // The second example of docs/LAYOUT.md.
+    let main = [(0, 2), (1, 2), (512, 3), (513, 20), (514, 1), (521, 6), (522, 2), (610, 3), (611, 1)];
+    let child = [(1024, 1), (1026, 1), (1032, 2), (1033, 12), (1088, 3)];
+    assert_eq!(not_0(&work), [&main[..], &child].concat());
+    let pending = &decode(&work).expect("a configuration").processes[0].frames[0].pending;
+    assert_eq!(pending[..], [lanq::Value::Empty, lanq::Value::Qubit(1)]);
+}
+
+#[test]
+fn p11_the_partner_is_gone() {
+    let main = [
+        [(NEWC, 1), (PUT, 0), (END, 0), (PUT, 1), (DROP, 0), (GET, 0)],
+        [(END, 1), (FORK, 1), (GET, 1), (INT, 5), (SEND, 0), (RET, 0)],
+    ];
+    let main = method(0, &[], &[17, 33], &main.concat());
+    let program = table(&[main, method(0, &[33], &[], &[(RET, 0)])]);
+    let schedule = [0, 0, 0, 0, 0, 0, 0, 0, 0, 0, 1, 0, 0];
+    // Main was never named at SEND, and end 2 comes before the schedule's end.
+    for used in 11..=13 {
+        assert_eq!(ran(&program, &schedule[..used]).0, (2, 11, 4, 0));
+    }
+    assert_eq!(ran(&program, &schedule[..10]).0, (0, 10, 3, 0));
+}
+
+/// The longest schedule, to its last entry.
+#[test]
+fn every_entry_of_the_longest_schedule() {
+    let code = [(NEWQ, 0), (PUT, 0), (DROP, 0), (CLEAR, 1), (GET, 0), (GATE, 1), (JUMP, 3)];
+    let program = table(&[method(0, &[], &[3, 1], &code)]);
+    let mut trace = vec![0; 6 * 20_000];
+    let mut work = vec![0; 8192];
+    let answer = run(&program, &[0; 65_535], &[], &mut trace, &mut work);
+    // A gate in entries 5, 9, 13 and so on, after the qubit's line.
+    let lines = 1 + (65_534 - 5) / 4 + 1;
+    assert_eq!(answer, Answer::Ran { end: End::ScheduleUsed, entries: 65_535, lines, outcomes: 0 });
+    assert_eq!(trace[6 * (lines - 1)..6 * lines], [65_533, 0, 3, 1, 0, U]);
+    assert_eq!(trace[6 * lines], 0);
+    let answer = run(&program, &[0; 65_536], &[], &mut trace, &mut work);
+    assert_eq!(answer, Answer::Refused { number: 7, place: 0 });
+}

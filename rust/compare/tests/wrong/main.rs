@@ -1,0 +1,91 @@
+//! The comparison is shown to work: machines that are wrong in one rule each,
+//! and every one of them is told apart from the library on the inputs that the
+//! gate compares.
+//!
+//!     cargo test --offline -p compare --test wrong -- --nocapture
+
+mod answers;
+mod entries;
+mod faults;
+mod giving;
+mod meetings;
+mod ops;
+mod questions;
+mod rules;
+
+use compare::inputs::{input, shortest};
+use compare::left::{by_library, difference, Buffers};
+use generate::{Case, Random};
+use rules::{left, Rules, RIGHT};
+
+/// What is wrong, with its rules.
+type Wrong = (&'static str, Rules);
+
+fn all() -> Vec<Wrong> {
+    let mut all = Vec::new();
+    all.extend(questions::WRONG);
+    all.extend(entries::WRONG);
+    all.extend(meetings::WRONG);
+    all.extend(faults::WRONG);
+    all.extend(giving::WRONG);
+    all.extend(ops::WRONG);
+    all.extend(answers::WRONG);
+    all
+}
+
+/// As many as the gate compares.
+const INPUTS: u64 = 20_000;
+
+#[test]
+fn every_wrong_machine_is_told_apart() {
+    let mut hidden = all();
+    let count = hidden.len();
+    for number in 0..INPUTS {
+        if hidden.is_empty() {
+            break;
+        }
+        let case = input(number);
+        let buffers = Buffers::dirty(&case, &mut Random::new(number));
+        let library = by_library(&case, buffers.clone());
+        hidden.retain(|(name, rules)| {
+            let told = difference(&library, &left(rules, &case, buffers.clone()));
+            if let Some(difference) = &told {
+                let difference: String = difference.chars().take(90).collect();
+                println!("input {number:5}: {name}: {difference}");
+            }
+            told.is_none()
+        });
+    }
+    let names: Vec<&str> = hidden.iter().map(|(name, _)| *name).collect();
+    assert!(names.is_empty(), "not told apart: {names:?}");
+    println!("{count} wrong machines told apart");
+    assert!(count >= 20);
+}
+
+/// How the library and a machine of these rules differ on a case.
+fn told(rules: &Rules, case: &Case) -> Option<String> {
+    let buffers = Buffers::dirty(case, &mut Random::new(1));
+    difference(&by_library(case, buffers.clone()), &left(rules, case, buffers))
+}
+
+/// The rules themselves add no difference.
+#[test]
+fn the_right_rules_are_the_model() {
+    for number in 0..2_000 {
+        assert_eq!(told(&RIGHT, &input(number)), None, "input {number}");
+    }
+}
+
+/// A failing comparison prints its input with no more entries than it takes.
+#[test]
+fn a_difference_is_shown_small() {
+    let rules = Rules { idle: |_| (), ..RIGHT };
+    let case = (0..).map(input).find(|case| told(&rules, case).is_some());
+    let case = case.expect("an input with an idle entry");
+    let small = shortest(&case, |case| told(&rules, case).is_some());
+    let without_last = Case {
+        schedule: small.schedule[..small.schedule.len() - 1].to_vec(),
+        ..small.clone()
+    };
+    assert!(told(&rules, &small).is_some() && told(&rules, &without_last).is_none());
+}

@@ -1,0 +1,116 @@
+//! A machine made of replaceable rules. With `RIGHT` it is the model; a wrong
+//! machine has one rule of its own.
+
+use compare::left::{by_model, Buffers, Left};
+use generate::Case;
+use model::machine::{Machine, Run, Standing};
+use model::step::{self, Effect, Entry};
+use model::{Program, Refusal};
+
+pub use model::machine::End;
+
+#[derive(Clone, Copy)]
+pub struct Rules {
+    /// The questions.
+    pub check: fn(&Case) -> Result<Program, Refusal>,
+    /// The lines that a trace of so many words holds.
+    pub room: fn(usize) -> usize,
+    /// The process that a byte names.
+    pub named: fn(u8) -> usize,
+    /// Ends 1 and 2, before each entry.
+    pub end: fn(&Machine) -> Option<End>,
+    /// The end after the last entry.
+    pub last_end: fn(&Machine) -> End,
+    /// How the process named stands.
+    pub standing: fn(&Machine, usize) -> Standing,
+    /// What the entry of a process that is able to move does.
+    pub effect: fn(&Machine, usize, Option<usize>) -> Effect,
+    /// Whether the entry's lines fit.
+    pub fits: fn(&Machine, &Effect) -> bool,
+    /// What an idle entry changes.
+    pub idle: fn(&mut Machine),
+    /// What an entry that is not taken for want of room changes.
+    pub untaken: fn(&mut Machine, Effect),
+    /// What a run or a refusal leaves in the buffers.
+    pub leave: fn(&Case, &Result<Run, Refusal>, Buffers) -> Left,
+}
+
+pub const RIGHT: Rules = Rules {
+    check: |case| model::check(&case.program, &case.schedule, &case.outcomes, case.work_len),
+    room: |words| words / 6,
+    named: usize::from,
+    end: |machine| machine.end_reached(),
+    last_end: |machine| machine.end_reached().unwrap_or(End::ScheduleUsed),
+    standing: |machine, number| machine.standing(number),
+    effect,
+    fits: |machine, effect| machine.lines.len() + effect.lines.len() <= machine.room,
+    idle: |machine| machine.entries += 1,
+    untaken: |_, _| (),
+    leave: by_model,
+};
+
+/// What the model's step does.
+pub fn effect(machine: &Machine, process: usize, partner: Option<usize>) -> Effect {
+    let op = machine.op_of(process).expect("a process able to move runs");
+    let entry = Entry {
+        program: machine.program,
+        outcomes: &machine.outcomes[machine.outcomes_used..],
+        number: machine.entries as u16,
+        process,
+    };
+    step::take(entry, &machine.config, op, partner)
+}
+
+/// The lent trace and work store after a machine of these rules.
+pub fn left(rules: &Rules, case: &Case, buffers: Buffers) -> Left {
+    let ran = (rules.check)(case).map(|program| run(rules, &program, case));
+    (rules.leave)(case, &ran, buffers)
+}
+
+fn run(rules: &Rules, program: &Program, case: &Case) -> Run {
+    let mut machine = Machine::new(program, &case.outcomes, case.trace_len);
+    machine.room = (rules.room)(case.trace_len);
+    let mut bytes = case.schedule.iter();
+    let end = loop {
+        match bytes.next() {
+            None => break (rules.last_end)(&machine),
+            Some(byte) => {
+                if let Err(end) = entry(rules, &mut machine, *byte) {
+                    break end;
+                }
+            }
+        }
+    };
+    Run {
+        end,
+        entries: machine.entries,
+        lines: machine.lines,
+        outcomes_used: machine.outcomes_used,
+        config: machine.config,
+    }
+}
+
+fn entry(rules: &Rules, machine: &mut Machine, byte: u8) -> Result<(), End> {
+    if let Some(end) = (rules.end)(machine) {
+        return Err(end);
+    }
+    let process = (rules.named)(byte);
+    let partner = match (rules.standing)(machine, process) {
+        Standing::Steps => None,
+        Standing::Meets(partner) => Some(partner),
+        _ => {
+            (rules.idle)(machine);
+            return Ok(());
+        }
+    };
+    let effect = (rules.effect)(machine, process, partner);
+    if !(rules.fits)(machine, &effect) {
+        (rules.untaken)(machine, effect);
+        return Err(End::TraceFull);
+    }
+    machine.config = effect.config;
+    machine.lines.extend(effect.lines);
+    machine.outcomes_used += effect.outcomes_used;
+    machine.entries += 1;
+    Ok(())
+}

@@ -1,0 +1,38 @@
+//! The C interface as `include/lanq.h` declares it.
+
+/// `LanqAnswer` of the header.
+#[repr(C)]
+pub struct Answer {
+    pub refused: u64,
+    pub place: u64,
+    pub end: u64,
+    pub entries: u64,
+    pub lines: u64,
+    pub outcomes: u64,
+}
+
+extern "C" {
+    pub fn lanq_check(
+        program: *const u16,
+        program_len: usize,
+        schedule: *const u8,
+        schedule_len: usize,
+        outcomes: *const u8,
+        outcomes_len: usize,
+        work_len: usize,
+    ) -> Answer;
+    pub fn lanq_run(
+        program: *const u16,
+        program_len: usize,
+        schedule: *const u8,
+        schedule_len: usize,
+        outcomes: *const u8,
+        outcomes_len: usize,
+        trace: *mut u16,
+        trace_len: usize,
+        work: *mut u32,
+        work_len: usize,
+    ) -> Answer;
+    pub fn lanq_holder(trace: *const u16, trace_len: usize, k: usize, qubit: u16) -> u16;
+    pub fn lanq_same_lines(a: *const u16, a_len: usize, b: *const u16, b_len: usize) -> bool;
+}
