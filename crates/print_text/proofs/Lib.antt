@@ -1,0 +1,4 @@
+pub mod Fitting
+pub mod Telling
+pub mod Built
+pub mod Bound

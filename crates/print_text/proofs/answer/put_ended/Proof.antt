@@ -1,0 +1,35 @@
+-- `put_ended` puts the lines and the last line.
+use native.Mathlib.Omega.{arith}
+use lib.ListN.{take}
+use Rattle.trace.specs.Trace.{linesOf}
+use Rattle.text.specs.Text.{linesText}
+use Rattle.printing.specs.Put.{endText}
+use Rattle.printing.proofs.PutLaws.{put-then, put-same}
+use Rattle.printing.proofs.TraceText.{first-length}
+use Rattle.print_text.proofs.Telling.{from-start, ran-text}
+use borrow.Author.Needs.{needs}
+use Rattle.print_text.proofs.answer.put_ended.Statement.{statement}
+use Rattle.print_text.proofs.answer.put_ended.Tie as tie
+
+put-lines-requires : tie.Need-put-lines-requires
+put-lines-requires c κs = search needs
+
+put-end-requires : tie.Need-put-end-requires
+put-end-requires c κs =
+    let args = c .before .before .before .before .before .before .before .args in
+    omega (arith, first-length (linesOf (args .trace .now)) (args .lines) (c .before .before .before .before .before .before .before .pre .0))
+
+same-length : tie.Need-same-length
+same-length c = search needs
+
+returns : tie.Need-returns
+returns c =
+    let args = c .before .before .before .before .before .before .before .before .before .before .args in
+    let out = args .out .now in
+    let ls = take (args .lines) (linesOf (args .trace .now)) in
+    from-start out _
+    (put-same out 0 (ran-text ls (args .end) (args .entries) (args .lines) (args .outcomes))
+    (put-then out 0 (linesText ls) (endText (args .end) (args .entries) (args .lines) (args .outcomes)) (c .before .before .before .before .before .before .put-lines .ensures) (c .before .before .put-end .ensures)))
+
+pub put-ended-spec : {M : Type 1} → statement M
+put-ended-spec = tie.close (tie.spec put-lines-requires put-end-requires same-length returns)
