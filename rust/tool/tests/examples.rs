@@ -2,6 +2,9 @@
 
 mod common;
 
+use std::io::Write;
+use std::process::{Command, Stdio};
+
 use common::{bytes, example, examples, repository};
 use model::print::print;
 
@@ -10,6 +13,23 @@ fn examples_print_what_is_expected() {
     for example in examples() {
         let printed = print(&bytes(&example.text));
         assert_eq!(printed, example.expected, "{}", example.name);
+    }
+}
+
+/// The proved printing program prints the same; `rt` builds it.
+#[test]
+fn the_program_prints_the_examples() {
+    for example in examples() {
+        let mut program = Command::new(repository("target/bin/print_run"))
+            .stdin(Stdio::piped())
+            .stdout(Stdio::piped())
+            .spawn()
+            .expect("target/bin/print_run is there once the crates are proved");
+        let mut input = program.stdin.take().expect("its standard input is open");
+        input.write_all(&bytes(&example.text)).expect("it reads a whole file");
+        drop(input);
+        let output = program.wait_with_output().expect("it ends");
+        assert_eq!(String::from_utf8_lossy(&output.stdout), example.expected, "{}", example.name);
     }
 }
 
