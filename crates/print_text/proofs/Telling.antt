@@ -14,7 +14,7 @@ use Rattle.text.specs.Text.{linesText, answerText, runText}
 use Rattle.printing.specs.Put.{putBytes, endText}
 use Rattle.printing.proofs.PutLaws.{Put}
 use Rattle.run.specs.Answers.{unlessRefused, traceLeft}
-use Rattle.print_text.specs.Told.{linesTold}
+use Rattle.run.specs.Answers.{linesNo}
 use Rattle.print_text.proofs.Fitting.{lines-fit, lines-held, lines-read}
 
 -- what a function here ensures: this text is put from the buffer's start, and the answer is its length
@@ -34,9 +34,9 @@ ran-text ls e k l o = simp append-assoc
 
 -- the answer speaks of no more lines than the trace holds, and with these lines it is the text of the run
 pub record Told (p schedule outcomes : List ℕ) (a : Answer) (trace : List ℕ) : Type 0 where
-  pub few : linesTold a ≤ 4096
-  pub held : linesTold a ≤ length (linesOf trace)
-  pub text : answerText (take (linesTold a) (linesOf trace)) a ≡ runText p schedule outcomes
+  pub few : linesNo a ≤ 4096
+  pub held : linesNo a ≤ length (linesOf trace)
+  pub text : answerText (take (linesNo a) (linesOf trace)) a ≡ runText p schedule outcomes
 
 module _ (p schedule outcomes trace work : List ℕ) (t : length trace ≡ 24576) (w : length work ≡ 8192) where
   abbrev room : ℕ
@@ -50,11 +50,11 @@ module _ (p schedule outcomes trace work : List ℕ) (t : length trace ≡ 24576
   AsAsked v =
       let a = machine.unlessRefused v result in
       let left = unlessRefused v trace (traceAfter (result .state .lines) trace) in
-      (linesTold a ≤ room) × (linesTold a ≤ length (linesOf left))
-      × (answerText (take (linesTold a) (linesOf left)) a ≡ answerText (result .state .lines) a)
+      (linesNo a ≤ room) × (linesNo a ≤ length (linesOf left))
+      × (answerText (take (linesNo a) (linesOf left)) a ≡ answerText (result .state .lines) a)
 
   as-asked : (v : Verdict) → AsAsked v
-  unfolding machine.unlessRefused answered unlessRefused linesTold answerText
+  unfolding machine.unlessRefused answered unlessRefused linesNo answerText
   as-asked accepted = (
     lines-fit p outcomes room schedule,
     lines-held (result .state .lines) trace,

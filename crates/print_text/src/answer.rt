@@ -7,7 +7,7 @@ ghost use Rattle.trace.specs.Trace.{linesOf};
 ghost use Rattle.text.specs.Text.{answerText};
 ghost use Rattle.printing.specs.Put.{putBytes};
 ghost use Rattle.run.specs.Answers.{answered};
-ghost use Rattle.print_text.specs.Told.{linesTold};
+ghost use Rattle.run.specs.Answers.{linesNo};
 use printing::lines::put_lines;
 use printing::writing::put_end;
 use printing::writing::put_refused;
@@ -33,10 +33,10 @@ fn put_ended(
 
 // What is printed for an answer, its lines being the first of the trace.
 pub fn put_answer(out: &mut [u8], a: Answer, trace: &[u16]) -> usize
-    requires { ⌜ (linesTold (answered a) ≤ length (linesOf (now trace))) × (126 * linesTold (answered a) < 4294967296) ⌝ }
+    requires { ⌜ (linesNo (answered a) ≤ length (linesOf (now trace))) × (126 * linesNo (answered a) < 4294967296) ⌝ }
     ensures { λ r. ⌜
-        (now (out .exit) ≡ putBytes (now (out .entry)) 0 (answerText (take (linesTold (answered a)) (linesOf (now (trace .entry)))) (answered a)))
-        × (r ≡ length (answerText (take (linesTold (answered a)) (linesOf (now (trace .entry)))) (answered a))) ⌝ }
+        (now (out .exit) ≡ putBytes (now (out .entry)) 0 (answerText (take (linesNo (answered a)) (linesOf (now (trace .entry)))) (answered a)))
+        × (r ≡ length (answerText (take (linesNo (answered a)) (linesOf (now (trace .entry)))) (answered a))) ⌝ }
 {
     match a {
         Answer::Refused { number, place } => put_refused(out, 0, number as u64, place as u64),

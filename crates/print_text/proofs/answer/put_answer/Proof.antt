@@ -6,7 +6,7 @@ use Rattle.trace.specs.Trace.{linesOf}
 use Rattle.text.specs.Text.{answerText}
 use Rattle.run.specs.declared.answer.Answer.{Answer}
 use Rattle.run.specs.Answers.{answered}
-use Rattle.print_text.specs.Told.{linesTold}
+use Rattle.run.specs.Answers.{linesNo}
 use Rattle.print_text.proofs.Telling.{from-start, prints-same}
 use borrow.Author.Needs.{needs}
 use Rattle.print_text.proofs.answer.put_answer.Statement.{statement}
@@ -31,9 +31,9 @@ cast-put-ended-2 : tie.Need-cast-put-ended-2
 cast-put-ended-2 c = search needs
 
 put-ended-requires : tie.Need-put-ended-requires
-unfolding linesTold answered
+unfolding linesNo answered
 put-ended-requires c κs =
-    let told = ap (λ (a : Answer). linesTold (answered a)) (c .before .before .a2 .given .1) in
+    let told = ap (λ (a : Answer). linesNo (answered a)) (c .before .before .a2 .given .1) in
     let pre = c .before .before .before .before .before .before .pre in
     (omega (arith, told, pre .0), omega (arith, told, pre .1))
 
@@ -41,24 +41,24 @@ same-length : tie.Need-same-length
 same-length c = search needs
 
 returns : tie.Need-returns
-unfolding linesTold answered answerText
+unfolding linesNo answered answerText
 returns c =
     let args = c .before .before .before .before .before .before .before .before .before .args in
     let ls = linesOf (args .trace .now) in
     prints-same (args .out .now)
-    (ap (λ (a : Answer). answerText (take (linesTold (answered a)) ls) (answered a)) (sym (c .before .before .before .before .before .a .given .1)))
+    (ap (λ (a : Answer). answerText (take (linesNo (answered a)) ls) (answered a)) (sym (c .before .before .before .before .before .a .given .1)))
     (from-start (args .out .now) _ (c .before .before .put-refused .ensures))
 
 same-length-2 : tie.Need-same-length-2
 same-length-2 c = search needs
 
 returns-2 : tie.Need-returns-2
-unfolding linesTold answered
+unfolding linesNo answered
 returns-2 c =
     let args = c .before .before .before .before .before .before .before .before .before .args in
     let ls = linesOf (args .trace .now) in
     prints-same (args .out .now)
-    (ap (λ (a : Answer). answerText (take (linesTold (answered a)) ls) (answered a)) (sym (c .before .before .before .before .before .a2 .given .1)))
+    (ap (λ (a : Answer). answerText (take (linesNo (answered a)) ls) (answered a)) (sym (c .before .before .before .before .before .a2 .given .1)))
     (c .before .before .put-ended .ensures)
 
 pub put-answer-spec : {M : Type 1} → statement M
