@@ -1,3 +1,4 @@
 pub mod Returns
 pub mod Scans
 pub mod Able
+pub mod Idle

@@ -10,9 +10,9 @@ use super::reads::stand_of;
 use names::ProcessNo;
 
 // 0 over, 1 able to move, 2 waiting.
-pub fn ability(p: &[u16], start: usize, work: &[u32], t: [[u16; 2]; 16], n: ProcessNo) -> u32
+pub fn ability(p: &[u16], start: usize, work: &[u32], t: &[[u16; 2]; 16], n: ProcessNo) -> u32
     requires { ⌜ (start ≡ 2 + 20 * methods (now p)) × (8192 ≤ length (now work)) × (n .0 < 8) ⌝ }
-    ensures { λ r. ⌜ r ≡ abilityOp (now (p .entry)) (now (work .entry)) t (n .0) ⌝ }
+    ensures { λ r. ⌜ r ≡ abilityOp (now (p .entry)) (now (work .entry)) (now (t .entry)) (n .0) ⌝ }
 {
     let a = stand_of(p, start, work, n);
     if a.kind < 2 {
@@ -26,9 +26,9 @@ pub fn ability(p: &[u16], start: usize, work: &[u32], t: [[u16; 2]; 16], n: Proc
 }
 
 // 0 where some process is able to move.
-pub fn ending(p: &[u16], start: usize, work: &[u32], t: [[u16; 2]; 16]) -> u32
+pub fn ending(p: &[u16], start: usize, work: &[u32], t: &[[u16; 2]; 16]) -> u32
     requires { ⌜ (start ≡ 2 + 20 * methods (now p)) × (8192 ≤ length (now work)) ⌝ }
-    ensures { λ r. ⌜ r ≡ endingOp (now (p .entry)) (now (work .entry)) t 8 ⌝ }
+    ensures { λ r. ⌜ r ≡ endingOp (now (p .entry)) (now (work .entry)) (now (t .entry)) 8 ⌝ }
 {
     let mut end: u32 = 1;
     let mut j: u16 = 0;

@@ -49,12 +49,12 @@ pub fn partner(
     p: &[u16],
     start: usize,
     work: &[u32],
-    t: [[u16; 2]; 16],
+    t: &[[u16; 2]; 16],
     n: ProcessNo,
     a: Stand,
 ) -> ProcessNo
     requires { ⌜ (start ≡ 2 + 20 * methods (now p)) × (8192 ≤ length (now work)) ⌝ }
-    ensures { λ r. ⌜ r .0 ≡ partnerOp (now (p .entry)) (now (work .entry)) t (n .0) a ⌝ }
+    ensures { λ r. ⌜ r .0 ≡ partnerOp (now (p .entry)) (now (work .entry)) (now (t .entry)) (n .0) a ⌝ }
 {
     let q = holder_of(t, opposite(a));
     ready(p, start, work, n, a, q)

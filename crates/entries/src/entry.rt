@@ -21,13 +21,13 @@ pub fn entry(
     trace: &mut [u16],
     work: &mut [u32],
     room: usize,
-    t: [[u16; 2]; 16],
+    t: &[[u16; 2]; 16],
     g: Count,
     n: ProcessNo,
     code: u32,
 ) -> Moved
     requires { ⌜ (start ≡ 2 + 20 * methods (now p)) × (8192 ≤ length (now work)) × (n .0 < 8) × (g .lines < 16000000) ⌝ }
-    ensures { λ r. ⌜ came r (now (trace .exit)) (now (work .exit)) ≡ entryOp (now (p .entry)) (now (outcomes .entry)) (now (trace .entry)) (now (work .entry)) room t g (n .0) code ⌝ }
+    ensures { λ r. ⌜ came r (now (trace .exit)) (now (work .exit)) ≡ entryOp (now (p .entry)) (now (outcomes .entry)) (now (trace .entry)) (now (work .entry)) room (now (t .entry)) g (n .0) code ⌝ }
 {
     if code == 1 {
         return stays(g);

@@ -70,13 +70,13 @@ fn offer(
     trace: &mut [u16],
     work: &mut [u32],
     room: usize,
-    t: [[u16; 2]; 16],
+    t: &[[u16; 2]; 16],
     g: Count,
     n: ProcessNo,
     a: Stand,
 ) -> Moved
     requires { ⌜ (start ≡ 2 + 20 * methods (now p)) × (8192 ≤ length (now work)) × (n .0 < 8) × (g .lines < 16000000) ⌝ }
-    ensures { λ r. ⌜ came r (now (trace .exit)) (now (work .exit)) ≡ offerOp (now (p .entry)) (now (trace .entry)) (now (work .entry)) room t g (n .0) a ⌝ }
+    ensures { λ r. ⌜ came r (now (trace .exit)) (now (work .exit)) ≡ offerOp (now (p .entry)) (now (trace .entry)) (now (work .entry)) room (now (t .entry)) g (n .0) a ⌝ }
 {
     let q = partner(p, start, work, t, n, a);
     if 8 <= q.0 {
@@ -93,12 +93,12 @@ pub fn meet_entry(
     trace: &mut [u16],
     work: &mut [u32],
     room: usize,
-    t: [[u16; 2]; 16],
+    t: &[[u16; 2]; 16],
     g: Count,
     n: ProcessNo,
 ) -> Moved
     requires { ⌜ (start ≡ 2 + 20 * methods (now p)) × (8192 ≤ length (now work)) × (n .0 < 8) × (g .lines < 16000000) ⌝ }
-    ensures { λ r. ⌜ came r (now (trace .exit)) (now (work .exit)) ≡ meetOp (now (p .entry)) (now (outcomes .entry)) (now (trace .entry)) (now (work .entry)) room t g (n .0) ⌝ }
+    ensures { λ r. ⌜ came r (now (trace .exit)) (now (work .exit)) ≡ meetOp (now (p .entry)) (now (outcomes .entry)) (now (trace .entry)) (now (work .entry)) room (now (t .entry)) g (n .0) ⌝ }
 {
     let a = stand_of(p, start, work, n);
     if a.kind < 2 {

@@ -21,7 +21,7 @@ use Rattle.trace.specs.Trace.{linesOf}
 use Rattle.trace.specs.Read.{lineFrom}
 use Rattle.trace.proofs.LinesOf.{linesOf-at}
 use Rattle.holders.specs.Holders.{nobody, holderIn, endGiven, channelGiven, noted, notedFrom}
-use Rattle.holders.proofs.Rows.{Shape, Two, row-length, end-shape, noted-shape}
+use Rattle.holders.proofs.Rows.{Shape, Two, holder-read, row-length, end-shape, noted-shape}
 
 pub record Holding (t : List (List ℕ)) (ls : List Line) : Type 0 where
   pub shape : Shape t
@@ -36,22 +36,31 @@ holding-none = record {
 
 -- what is read after one place was changed: the new holder at that place, and the old one elsewhere
 side-read : (r : List ℕ) (e d : Bool) (q : ℕ) → length r ≡ 2
-    → getD (set r (sideNo e) q) (sideNo d) 65535 ≡ cond (Bool·beq e d) q (getD r (sideNo d) 65535)
-side-read r true true q h = getD-set-same r 1 q 65535 (omega (arith, h))
-side-read r true false q h = getD-set-other r 1 0 q 65535 (λ p. omega (arith, p))
-side-read r false true q h = getD-set-other r 0 1 q 65535 (λ p. omega (arith, p))
-side-read r false false q h = getD-set-same r 0 q 65535 (omega (arith, h))
+    → getD (set r (sideNo e) q) (sideNo d) 0 ≡ cond (Bool·beq e d) q (getD r (sideNo d) 0)
+side-read r true true q h = getD-set-same r 1 q 0 (omega (arith, h))
+side-read r true false q h = getD-set-other r 1 0 q 0 (λ p. omega (arith, p))
+side-read r false true q h = getD-set-other r 0 1 q 0 (λ p. omega (arith, p))
+side-read r false false q h = getD-set-same r 0 q 0 (omega (arith, h))
+
+side-low : (d : Bool) → sideNo d < 2
+side-low true = omega arith
+side-low false = omega arith
 
 end-read : {t : List (List ℕ)} (n : ℕ) (e : Bool) (q c : ℕ) (d : Bool) → Shape t → c < 16
     → holderIn (endGiven t n (sideNo e) q) c (sideNo d) ≡ cond (eqb n c && Bool·beq e d) q (holderIn t c (sideNo d))
-unfolding holderIn endGiven
-end-read {t} n e q c d s h = ⊎-elim same other (decide (eqb n c))
+unfolding endGiven
+end-read {t} n e q c d s h =
+    sym (side-word (endGiven t n (sideNo e) q)) ∙ ⊎-elim same other (decide (eqb n c))
+    ∙ ap (cond (eqb n c && Bool·beq e d) q) (side-word t)
   where
+    side-word : (u : List (List ℕ)) → getD (getD u c []) (sideNo d) 0 ≡ holderIn u c (sideNo d)
+    side-word u = holder-read u c (sideNo d) h (side-low d)
+
     new : ℕ → List ℕ
     new i = set (getD t i []) (sideNo e) q
 
     read : List ℕ → ℕ
-    read r = getD r (sideNo d) 65535
+    read r = getD r (sideNo d) 0
 
     same : eqb n c ≡ true → read (getD (set t n (new n)) c []) ≡ cond (eqb n c && Bool·beq e d) q (read (getD t c []))
     same p =

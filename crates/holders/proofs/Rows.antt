@@ -6,6 +6,7 @@ use native.Mathlib.Nat.{le-of-suc-le-suc, not-suc-le-zero}
 use native.Mathlib.Omega.{arith}
 use lib.ListN.{length, getD, set, length-set, List·getD-eq-default}
 use lib.Dec.{eqb}
+use borrow.Author.Tests.{lt-ltb, le-ltb}
 use lib.Seq.{set-out, set-getD}
 use mir.Syntax.{w16}
 use mir.Val.{Val}
@@ -40,30 +41,23 @@ row-two [] c a h = absurd (not-suc-le-zero h)
 row-two (r ∷ t) zero a h = a .0
 row-two (r ∷ t) (suc c) a h = row-two t c (a .1) (le-of-suc-le-suc h)
 
--- the default is not read within a list
-within : (l : List ℕ) (i d e : ℕ) → i < length l → getD l i d ≡ getD l i e
-within [] i d e h = absurd (not-suc-le-zero h)
-within (x ∷ l) zero d e h = refl
-within (x ∷ l) (suc i) d e h = within l i d e (le-of-suc-le-suc h)
+-- the word of an end that there is, no such side, no such channel
+
+pub holder-read : (t : List (List ℕ)) (c d : ℕ) → c < 16 → d < 2 → getD (getD t c []) d 0 ≡ holderIn t c d
+unfolding holderIn
+holder-read t c d h k = rw (lt-ltb c 16 h) (rw (lt-ltb d 2 k) refl)
+
+pub no-side : (t : List (List ℕ)) (c d : ℕ) → c < 16 → 2 ≤ d → 65535 ≡ holderIn t c d
+unfolding holderIn
+no-side t c d h k = rw (lt-ltb c 16 h) (rw (le-ltb d 2 k) refl)
+
+pub no-channel : (t : List (List ℕ)) (c d : ℕ) → 16 ≤ c → 65535 ≡ holderIn t c d
+unfolding holderIn
+no-channel t c d h = rw (le-ltb c 16 h) refl
 
 module _ {t : List (List ℕ)} (s : Shape t) where
   pub row-length : (c : ℕ) → c < 16 → length (getD t c []) ≡ 2
   row-length c h = row-two t c (s .two) (omega (arith, s .rows))
-
-  -- the word of an end that there is
-  pub holder-read : (c d : ℕ) → c < 16 → d < 2 → getD (getD t c []) d 0 ≡ holderIn t c d
-  unfolding holderIn
-  holder-read c d h k = within (getD t c []) d 0 65535 (omega (arith, row-length c h))
-
-  -- no such side, no such channel
-
-  pub no-side : (c d : ℕ) → c < 16 → 2 ≤ d → 65535 ≡ holderIn t c d
-  unfolding holderIn
-  no-side c d h k = sym (List·getD-eq-default (getD t c []) 65535 (omega (arith, row-length c h)))
-
-  pub no-channel : (c d : ℕ) → 16 ≤ c → 65535 ≡ holderIn t c d
-  unfolding holderIn
-  no-channel c d h = ap (λ (r : List ℕ). getD r d 65535) (sym (List·getD-eq-default t [] (omega (arith, s .rows))))
 
   pub no-side-given : (c d q : ℕ) → c < 16 → 2 ≤ d → t ≡ endGiven t c d q
   unfolding endGiven

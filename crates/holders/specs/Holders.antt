@@ -4,7 +4,7 @@ use Prim.Native.Nat.{ℕ, zero, suc, _+_, _*_}
 use mathlib.Core.Bool.{cond}
 use mathlib.Core.List.{List, [], _∷_}
 use lib.ListN.{getD, set, replicate}
-use lib.Dec.{eqb}
+use lib.Dec.{eqb, ltb}
 use Rattle.machine.specs.State.{Line}
 use Rattle.trace.specs.Read.{lineFrom}
 
@@ -12,7 +12,7 @@ unfoldable pub nobody : List (List ℕ)
 nobody = replicate 16 (65535 ∷ 65535 ∷ [])
 
 unfoldable pub holderIn : List (List ℕ) → ℕ → ℕ → ℕ
-holderIn t c d = getD (getD t c []) d 65535
+holderIn t c d = cond (ltb c 16) (cond (ltb d 2) (getD (getD t c []) d 0) 65535) 65535
 
 unfoldable pub endGiven : List (List ℕ) → ℕ → ℕ → ℕ → List (List ℕ)
 endGiven t c d q = set t c (set (getD t c []) d q)

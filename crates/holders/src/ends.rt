@@ -15,8 +15,8 @@ pub fn no_holders() -> [[u16; 2]; 16]
 }
 
 // The holder of an end, 65535 where there is no such end.
-pub fn holder_of(t: [[u16; 2]; 16], e: EndNo) -> ProcessNo
-    ensures { λ r. ⌜ r .0 ≡ holderIn t (e .0) (e .1) ⌝ }
+pub fn holder_of(t: &[[u16; 2]; 16], e: EndNo) -> ProcessNo
+    ensures { λ r. ⌜ r .0 ≡ holderIn (now (t .entry)) (e .0) (e .1) ⌝ }
 {
     let c = e.0 as usize;
     let d = e.1 as usize;

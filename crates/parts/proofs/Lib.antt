@@ -1,2 +1,3 @@
 pub mod Lifted
 pub mod Encoded
+pub mod Apart

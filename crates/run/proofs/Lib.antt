@@ -1,3 +1,4 @@
+pub mod Knowing
 pub mod Steps
 pub mod Returns
 pub mod Modest

@@ -7,11 +7,12 @@ use mathlib.Core.Bool.{Bool, true, false, cond, not, _&&_, true≢false}
 use mathlib.Core.List.{List, [], _∷_, _++_, append-nil, append-assoc}
 use mathlib.Core.Option.{Option, none, some}
 use native.Mathlib.Omega.{arith}
-use lib.ListN.{getD, take, drop, length, length-append, take-append-drop}
+use lib.ListN.{getD, set, replicate, take, drop, length, length-append, length-drop, getD-replicate}
+use lib.Seq.{length-take-le, getD-set-other}
 use lib.Dec.{T, eqb, leb, ltb}
-use borrow.Author.Tests.{eqb-true, eqb-false, eq-eqb, ne-eqb, le-leb, lt-leb, leb-true, leb-false}
+use borrow.Author.Tests.{eqb-true, eqb-false, eq-eqb, ne-eqb, le-leb, lt-leb, leb-true, leb-false, ltb-true, ltb-false, lt-ltb}
 use Rattle.lists.specs.Lists.{All}
-use Rattle.lists.proofs.Tests.{decide}
+use Rattle.lists.proofs.Tests.{decide, cond-each}
 use Rattle.table.specs.Table.{argAt}
 use Rattle.table.proofs.Accepted.{Kept}
 use Rattle.machine.specs.State.{Config, Line, State, startConfig, start}
@@ -24,12 +25,17 @@ use Rattle.machine.proofs.Partner.{unmade-idle}
 use Rattle.machine.proofs.Steps.{stateAt, ending, at-typed, at-kept, at-start, at-next, at-full, at-last, ends-here, able-goes}
 use Rattle.machine.proofs.Ownership as own
 use Rattle.layout.specs.Layout.{encode}
+use Rattle.layout.proofs.RoundTrip.{encode-length}
 use Rattle.ops.specs.Did.{Did, did, stepOp}
 use Rattle.parts.specs.Parts.{partAt, partOf, withPart, onPart}
+use Rattle.parts.proofs.Apart.{part-same, part-other}
+use Rattle.offers.specs.declared.stand.Stand.{Stand}
+use Rattle.offers.specs.Stands.{standOp}
 use Rattle.holders.specs.Holders.{notedFrom, nobody}
 use Rattle.holders.proofs.Holding.{Holding, holding-none, holding-lines}
-use Rattle.ability.specs.Ending.{endingOp}
-use Rattle.ability.proofs.Able.{sound, ending-is}
+use Rattle.ability.specs.Ending.{abilityOp, endingOp}
+use Rattle.ability.proofs.Able.{sound, able-is, ending-is}
+use Rattle.ability.proofs.Idle.{still-unable, alone-able}
 use Rattle.entries.specs.declared.came.Count.{Count}
 use Rattle.entries.specs.declared.came.Moved.{Moved}
 use Rattle.entries.specs.Came.{Came, came, movedTo, stayedAt, fullAt}
@@ -39,7 +45,9 @@ use Rattle.entries.proofs.Meets.{went}
 use Rattle.entries.proofs.Stepped.{Plain, Other, Law, entry-law}
 use Rattle.run.specs.declared.turn.Turn.{Turn}
 use Rattle.run.specs.declared.burst.Burst.{Burst}
-use Rattle.run.specs.Bursts.{Stop, stopsAt, namedOp, burstOp}
+use Rattle.run.specs.declared.known.Known.{Known}
+use Rattle.run.specs.Knowing.{unknown, marked, isIdle, withIdle, alone, stillKnown}
+use Rattle.run.specs.Bursts.{Stop, stopsAt, namedOp, idleOr, burstOp}
 use Rattle.run.specs.Turned.{Turned, turned, cameOp, turnedBy, turnOp}
 use Rattle.run.specs.declared.turns.Advance.{Advance}
 use Rattle.run.specs.Advanced.{Advanced, advanced, usedUp, turnedAt, advancedFrom, advanceOp}
@@ -71,18 +79,16 @@ after-nothing s = λ i. record { config = s .config; used = added i; lines = app
     added : s .used + 0 ≡ s .used
     added = omega arith
 
--- a part put back is the store
-part-same : (w : List ℕ) (n : ℕ) → withPart w n (partOf w n) ≡ w
-unfolding withPart partOf
-part-same w n =
-    ap (λ (l : List ℕ). take (partAt n) w ++ l) (take-append-drop 512 (drop (partAt n) w)) ∙ take-append-drop (partAt n) w
-
 module _ (p : List ℕ) (kept : Kept p) (narrow : (i : ℕ) → argAt p i < 65536) (outcomes : List ℕ) (bytes : All (λ o. o < 256) outcomes)
     (schedule : List ℕ) (short : length schedule ≤ 65535) (rest t0 : List ℕ) (room : ℕ) (holds : 6 * room ≤ length t0) where
   abbrev pub at : ℕ → State
   at k = stateAt p outcomes schedule k
 
-  pub record Ready (k : ℕ) (work trace : List ℕ) (t : List (List ℕ)) (lines used : ℕ) (known : Bool) : Type 0 where
+  -- of the processes marked here it is true that they are not able to move
+  abbrev Idle : List ℕ → List (List ℕ) → List Bool → Type 0
+  Idle work t marks = (n : ℕ) → n < 8 → getD marks n false ≡ true → abilityOp p work t n ≢ 1
+
+  pub record Ready (k : ℕ) (work trace : List ℕ) (t : List (List ℕ)) (lines used : ℕ) (known : Known) : Type 0 where
     pub runs : run p outcomes room schedule ≡ runFrom p outcomes room (at k) k (drop k schedule)
     pub inside : k ≤ length schedule
     pub store : work ≡ encode (at k .config) ++ rest
@@ -90,7 +96,8 @@ module _ (p : List ℕ) (kept : Kept p) (narrow : (i : ℕ) → argAt p i < 6553
     pub counted : lines ≡ length (at k .lines)
     pub drawn : used ≡ at k .used
     pub table : Holding t (at k .lines)
-    pub sure : known ≡ true → ending p outcomes (at k) ≡ 0
+    pub sure : known .some ≡ true → ending p outcomes (at k) ≡ 0
+    pub idle : known .some ≡ true → Idle work t (known .idle)
     pub fit : length (at k .lines) ≤ room
     pub fewLines : length (at k .lines) ≤ 17 * k
     pub fewUsed : at k .used ≤ k
@@ -105,8 +112,8 @@ module _ (p : List ℕ) (kept : Kept p) (narrow : (i : ℕ) → argAt p i < 6553
 
   -- the start
 
-  pub ready-start : (work : List ℕ) → work ≡ encode (startConfig p) ++ rest → Ready 0 work t0 nobody 0 0 false
-  unfolding stateAt start traceAfter traceWords
+  pub ready-start : (work : List ℕ) → work ≡ encode (startConfig p) ++ rest → Ready 0 work t0 nobody 0 0 unknown
+  unfolding unknown stateAt start traceAfter traceWords
   ready-start work e = record {
     runs = at-start p outcomes room schedule;
     inside = omega arith;
@@ -116,6 +123,7 @@ module _ (p : List ℕ) (kept : Kept p) (narrow : (i : ℕ) → argAt p i < 6553
     drawn = refl;
     table = holding-none;
     sure = λ i. absurd (true≢false (sym i));
+    idle = λ i. absurd (true≢false (sym i));
     fit = omega arith;
     fewLines = omega arith;
     fewUsed = omega arith;
@@ -146,14 +154,14 @@ module _ (p : List ℕ) (kept : Kept p) (narrow : (i : ℕ) → argAt p i < 6553
     small-effect = modest p kept outcomes bytes (at k) ks typed k named
 
     -- one entry taken, whatever it did
-    ready-next : {work trace : List ℕ} {t : List (List ℕ)} {lines used : ℕ} {known : Bool} → Ready k work trace t lines used known → k < length schedule
+    ready-next : {work trace : List ℕ} {t : List (List ℕ)} {lines used : ℕ} {known : Known} → Ready k work trace t lines used known → k < length schedule
         → ending p outcomes (at k) ≡ 0 → fits room (at k) effect ≡ true
-        → (work′ trace′ : List ℕ) (t′ : List (List ℕ)) (lines′ used′ : ℕ) (known′ : Bool)
+        → (work′ trace′ : List ℕ) (t′ : List (List ℕ)) (lines′ used′ : ℕ) (known′ : Known)
         → work′ ≡ encode (effect .config) ++ rest → trace′ ≡ traceAfter (at k .lines ++ effect .lines) t0 → lines′ ≡ length (at k .lines ++ effect .lines)
-        → used′ ≡ at k .used + effect .used → Holding t′ (at k .lines ++ effect .lines) → (known′ ≡ true → ending p outcomes (at (suc k)) ≡ 0)
-        → Ready (suc k) work′ trace′ t′ lines′ used′ known′
+        → used′ ≡ at k .used + effect .used → Holding t′ (at k .lines ++ effect .lines) → (known′ .some ≡ true → ending p outcomes (at (suc k)) ≡ 0)
+        → (known′ .some ≡ true → Idle work′ t′ (known′ .idle)) → Ready (suc k) work′ trace′ t′ lines′ used′ known′
     unfolding afterEffect fits stateAt
-    ready-next r l e f work′ trace′ t′ lines′ used′ known′ w tr ln us ho kn = record {
+    ready-next r l e f work′ trace′ t′ lines′ used′ known′ w tr ln us ho kn id = record {
       runs = r .runs ∙ at-next p outcomes room schedule k l e f;
       inside = l;
       store = w;
@@ -162,6 +170,7 @@ module _ (p : List ℕ) (kept : Kept p) (narrow : (i : ℕ) → argAt p i < 6553
       drawn = us;
       table = ho;
       sure = kn;
+      idle = id;
       fit = omega (arith, leb-true (length (at k .lines) + length (effect .lines)) room f, length-append (at k .lines) (effect .lines));
       fewLines = omega (arith, r .fewLines, small-effect .1, length-append (at k .lines) (effect .lines));
       fewUsed = omega (arith, r .fewUsed, small-effect .0);
@@ -169,19 +178,22 @@ module _ (p : List ℕ) (kept : Kept p) (narrow : (i : ℕ) → argAt p i < 6553
 
     -- a plain step
 
-    ready-plain : {work trace : List ℕ} {t : List (List ℕ)} {lines used : ℕ} {known : Bool} → Ready k work trace t lines used known → k < length schedule
+    ready-plain : {work trace : List ℕ} {t : List (List ℕ)} {lines used : ℕ} {known : Known} → Ready k work trace t lines used known → k < length schedule
         → able p outcomes (at k) named ≡ true → effect .lines ≡ [] → effect .used ≡ 0
-        → (work′ : List ℕ) → work′ ≡ encode (effect .config) ++ rest → Ready (suc k) work′ trace t lines used false
+        → (work′ : List ℕ) → work′ ≡ encode (effect .config) ++ rest
+        → (known′ : Known) → (known′ .some ≡ true → ending p outcomes (at (suc k)) ≡ 0) → (known′ .some ≡ true → Idle work′ t (known′ .idle))
+        → Ready (suc k) work′ trace t lines used known′
     unfolding fits
-    ready-plain {work} {trace} {t} {lines} {used} r l a ls us work′ w =
+    ready-plain {work} {trace} {t} {lines} {used} r l a ls us work′ w known′ kn id =
         ready-next r l (able-goes p outcomes (at k) named a)
         (ap (λ (x : List Line). leb (length (at k .lines) + length x) room) ls ∙ le-leb (length (at k .lines) + 0) room (omega (arith, r .fit)))
-        work′ trace t lines used false w
+        work′ trace t lines used known′ w
         (r .written ∙ ap (λ (x : List Line). traceAfter x t0) same)
         (r .counted ∙ ap length same)
         (r .drawn ∙ sym (ap (λ (u : ℕ). at k .used + u) us ∙ none-more))
         (subst (Holding t) same (r .table))
-        (λ i. absurd (true≢false (sym i)))
+        kn
+        id
       where
         same : at k .lines ≡ at k .lines ++ effect .lines
         same = sym (ap (λ (x : List Line). at k .lines ++ x) ls ∙ append-nil (at k .lines))
@@ -194,19 +206,21 @@ module _ (p : List ℕ) (kept : Kept p) (narrow : (i : ℕ) → argAt p i < 6553
     idle-same : able p outcomes (at k) named ≡ false → effect ≡ nothing (at k)
     idle-same a = unable-nothing p outcomes k (at k) named a
 
-    ready-idle : {work trace : List ℕ} {t : List (List ℕ)} {lines used : ℕ} {known : Bool} → Ready k work trace t lines used known → k < length schedule
-        → able p outcomes (at k) named ≡ false → ending p outcomes (at k) ≡ 0 → Ready (suc k) work trace t lines used true
+    ready-idle : {work trace : List ℕ} {t : List (List ℕ)} {lines used : ℕ} {known : Known} → Ready k work trace t lines used known → k < length schedule
+        → able p outcomes (at k) named ≡ false → ending p outcomes (at k) ≡ 0
+        → (known′ : Known) → (known′ .some ≡ true → Idle work t (known′ .idle)) → Ready (suc k) work trace t lines used known′
     unfolding fits
-    ready-idle {work} {trace} {t} {lines} {used} r l a e =
+    ready-idle {work} {trace} {t} {lines} {used} r l a e known′ id =
         ready-next r l e
         (ap (λ (x : Effect). leb (length (at k .lines) + length (x .lines)) room) (idle-same a) ∙ le-leb (length (at k .lines) + 0) room (omega (arith, r .fit)))
-        work trace t lines used true
+        work trace t lines used known′
         (r .store ∙ ap (λ (x : Effect). encode (x .config) ++ rest) (sym (idle-same a)))
         (r .written ∙ ap (λ (x : List Line). traceAfter x t0) same)
         (r .counted ∙ ap length same)
         (r .drawn ∙ sym (ap (λ (x : Effect). at k .used + x .used) (idle-same a) ∙ none-more))
         (subst (Holding t) same (r .table))
         (λ i. ap (ending p outcomes) (next ∙ ap (afterEffect (at k)) (idle-same a) ∙ after-nothing (at k)) ∙ e)
+        id
       where
         same : at k .lines ≡ at k .lines ++ effect .lines
         same = sym (ap (λ (x : Effect). at k .lines ++ x .lines) (idle-same a) ∙ append-nil (at k .lines))
@@ -249,7 +263,7 @@ module _ (p : List ℕ) (kept : Kept p) (narrow : (i : ℕ) → argAt p i < 6553
       pub words : d .words ≡ work₀
       pub came : cameOp p outcomes trace₀ work₀ room t count₀ named (d .code) ≡ comesTo
 
-    named-law : {work trace : List ℕ} {t : List (List ℕ)} {lines used : ℕ} {known : Bool} → Ready k work trace t lines used known
+    named-law : {work trace : List ℕ} {t : List (List ℕ)} {lines used : ℕ} {known : Known} → Ready k work trace t lines used known
         → Stepped (namedOp p work₀ named) ⊎ Stopped t (namedOp p work₀ named)
     unfolding namedOp able moves onPart cameOp effectOf
     named-law {work} {trace} {t} {lines} {used} {known} r = go (leb 8 named) refl
@@ -285,24 +299,29 @@ module _ (p : List ℕ) (kept : Kept p) (narrow : (i : ℕ) → argAt p i < 6553
             })
         go false h = near (leb-false 8 named h)
 
-    -- the same words, by whatever names
-    ready-as : {work work′ trace trace′ : List ℕ} {t : List (List ℕ)} {lines used : ℕ} {known : Bool} → Ready k work trace t lines used known → work′ ≡ work
-        → trace′ ≡ trace → Ready k work′ trace′ t lines used known
-    ready-as r w x = record {
+    -- the same words and counts, by whatever names
+    ready-as : {work work′ trace trace′ : List ℕ} {t : List (List ℕ)} {lines lines′ used used′ : ℕ} {known : Known} → Ready k work trace t lines used known
+        → work′ ≡ work → trace′ ≡ trace → lines′ ≡ lines → used′ ≡ used → Ready k work′ trace′ t lines′ used′ known
+    ready-as {t = t} {known = known} r w x n u = record {
       runs = r .runs;
       inside = r .inside;
       store = w ∙ r .store;
       written = x ∙ r .written;
-      counted = r .counted;
-      drawn = r .drawn;
+      counted = n ∙ r .counted;
+      drawn = u ∙ r .drawn;
       table = r .table;
       sure = r .sure;
+      idle = λ i. subst (λ (v : List ℕ). Idle v t (known .idle)) (sym w) (r .idle i);
       fit = r .fit;
       fewLines = r .fewLines;
       fewUsed = r .fewUsed;
     }
 
-    came-as : {work trace : List ℕ} {t : List (List ℕ)} {lines used : ℕ} {known : Bool} → Ready k work trace t lines used known → (code : ℕ)
+    ready-there : {work trace : List ℕ} {t : List (List ℕ)} {lines used : ℕ} {known : Known} → Ready k work trace t lines used known
+        → Ready k work₀ trace₀ t (length (at k .lines)) (at k .used) known
+    ready-there r = ready-as r (sym (r .store)) (sym (r .written)) (sym (r .counted)) (sym (r .drawn))
+
+    came-as : {work trace : List ℕ} {t : List (List ℕ)} {lines used : ℕ} {known : Known} → Ready k work trace t lines used known → (code : ℕ)
         → cameOp p outcomes trace₀ work₀ room t count₀ named code ≡ comesTo
         → cameOp p outcomes trace work room t (record { entry = k; lines = lines; used = used }) named code ≡ comesTo
     came-as {t = t} r code e =
@@ -322,6 +341,53 @@ module _ (p : List ℕ) (kept : Kept p) (narrow : (i : ℕ) → argAt p i < 6553
         go true false i = absurd (omega (arith, ap (λ (c : Came). c .moved .state) i))
         go false f i = refl
 
+    -- who is able to move, read off the store
+
+    module _ {t : List (List ℕ)} (holding : Holding t (at k .lines)) where
+      ability : (n : ℕ) → n < 8 → able p outcomes (at k) n ≡ eqb (abilityOp p work₀ t n) 1
+      ability = able-is p kept narrow outcomes bytes (at k) ks typed rest owned t holding
+
+      not-able : (n : ℕ) → n < 8 → abilityOp p work₀ t n ≢ 1 → able p outcomes (at k) n ≡ false
+      not-able n h a = ability n h ∙ ne-eqb (abilityOp p work₀ t n) 1 a
+
+      unable : (n : ℕ) → n < 8 → able p outcomes (at k) n ≡ false → abilityOp p work₀ t n ≢ 1
+      unable n h a = eqb-false (abilityOp p work₀ t n) 1 (sym (ability n h) ∙ a)
+
+      -- where a process is able to move, the run goes on
+      goes-on : (n : ℕ) → n < 8 → abilityOp p work₀ t n ≡ 1 → ending p outcomes (at k) ≡ 0
+      goes-on n h a = able-goes p outcomes (at k) n (ability n h ∙ eq-eqb (abilityOp p work₀ t n) 1 a)
+
+    -- a process known not to be able to move is not
+    known-idle : {t : List (List ℕ)} {known : Known} → Ready k work₀ trace₀ t (length (at k .lines)) (at k .used) known → isIdle known named ≡ true
+        → (known .some ≡ true) × (able p outcomes (at k) named ≡ false)
+    unfolding isIdle
+    known-idle {t} {known} r e = go (known .some) (leb 8 named) refl refl e
+      where
+        go : (x y : Bool) → known .some ≡ x → leb 8 named ≡ y → cond x (cond y false (getD (known .idle) named false)) false ≡ true
+            → (x ≡ true) × (able p outcomes (at k) named ≡ false)
+        go true true i j h = absurd (true≢false (sym h))
+        go true false i j h = (refl, not-able (r .table) named (leb-false 8 named j) (r .idle i named (leb-false 8 named j) h))
+        go false y i j h = absurd (true≢false (sym h))
+
+    -- one more process that is not able to move
+    idle-more : {t : List (List ℕ)} {known : Known} → Ready k work₀ trace₀ t (length (at k .lines)) (at k .used) known
+        → able p outcomes (at k) named ≡ false → Idle work₀ t (withIdle known named .idle)
+    unfolding withIdle marked
+    idle-more {t} {known} r a = cond-each (Idle work₀ t) (ltb named 8) (λ h. more (ltb-true named 8 h)) (λ h. old)
+      where
+        base : List Bool
+        base = cond (known .some) (known .idle) (replicate 8 false)
+
+        old : Idle work₀ t base
+        old = cond-each (Idle work₀ t) (known .some) (r .idle) (λ i n h e. absurd (true≢false (sym e ∙ getD-replicate 8 n false false h)))
+
+        more : named < 8 → Idle work₀ t (set base named true)
+        more l n h e =
+            ⊎-elim
+            (λ i. subst (λ (m : ℕ). abilityOp p work₀ t m ≢ 1) (sym (eqb-true n named i)) (unable (r .table) named l a))
+            (λ i. old n h (sym (getD-set-other base named n true false (eqb-false n named i)) ∙ e))
+            (decide (eqb n named))
+
     -- the rest of the entry
 
     abbrev Turns : List (List ℕ) → ℕ → Turned → Type 0
@@ -334,82 +400,55 @@ module _ (p : List ℕ) (kept : Kept p) (narrow : (i : ℕ) → argAt p i < 6553
     unfolding notedFrom
     stay-noted t trace lines = ap (notedFrom t trace lines) {x = lines - lines} {y = 0} (omega arith)
 
-    turn-law : {work trace : List ℕ} {t : List (List ℕ)} {lines used : ℕ} {known : Bool} → Ready k work trace t lines used known → k < length schedule → (code : ℕ)
+    turn-law : {work trace : List ℕ} {t : List (List ℕ)} {lines used : ℕ} {known : Known} → Ready k work trace t lines used known → k < length schedule → (code : ℕ)
         → cameOp p outcomes trace work room t (record { entry = k; lines = lines; used = used }) named code ≡ comesTo
         → Turns t lines (turnOp p outcomes trace work room t (record { entry = k; lines = lines; used = used }) named code known)
-    unfolding turnOp turnedBy
+    unfolding turnOp turnedBy unknown
     turn-law {work} {trace} {t} {lines} {used} {known} r l code e =
-        subst (λ (c : Came). Turns t lines (turnedBy p t known c)) (sym e) (go (able p outcomes (at k) named) (fits room (at k) effect) refl refl)
+        subst (λ (c : Came). Turns t lines (turnedBy p t named known c)) (sym e) (go (able p outcomes (at k) named) (fits room (at k) effect) refl refl)
       where
-        stay : (b : Bool) → known ≡ b → able p outcomes (at k) named ≡ false
-            → Turns t lines (cond b
-            (turned (record { end = 0; lines = length (at k .lines); used = at k .used; known = true }) trace₀ work₀)
-            (turned (record { end = endingOp p work₀ t 8; lines = length (at k .lines); used = at k .used; known = true }) trace₀ work₀))
-        stay true i a = inl (
+        there : Ready k work₀ trace₀ t (length (at k .lines)) (at k .used) known
+        there = ready-there r
+
+        idles : able p outcomes (at k) named ≡ false → ending p outcomes (at k) ≡ 0
+            → Turns t lines (turned (record { end = 0; lines = length (at k .lines); used = at k .used; known = withIdle known named }) trace₀ work₀)
+        idles a e = inl (
           refl,
           omega (arith, r .counted),
-          subst (λ (x : List (List ℕ)). Ready (suc k) work₀ trace₀ x (length (at k .lines)) (at k .used) true)
+          subst (λ (x : List (List ℕ)). Ready (suc k) work₀ trace₀ x (length (at k .lines)) (at k .used) (withIdle known named))
               (sym (ap (λ (j : ℕ). notedFrom t trace₀ j (length (at k .lines) - j)) (r .counted) ∙ stay-noted t trace₀ (length (at k .lines))))
-              (ready-idle plain l a (r .sure i)),
+              (ready-idle there l a e (withIdle known named) (λ i. idle-more there a)),
         )
-          where
-            plain : Ready k work₀ trace₀ t (length (at k .lines)) (at k .used) known
-            plain = record {
-              runs = r .runs;
-              inside = r .inside;
-              store = refl;
-              written = refl;
-              counted = refl;
-              drawn = refl;
-              table = r .table;
-              sure = r .sure;
-              fit = r .fit;
-              fewLines = r .fewLines;
-              fewUsed = r .fewUsed;
-            }
+
+        stay : (b : Bool) → known .some ≡ b → able p outcomes (at k) named ≡ false
+            → Turns t lines (cond b
+            (turned (record { end = 0; lines = length (at k .lines); used = at k .used; known = withIdle known named }) trace₀ work₀)
+            (turned (record { end = endingOp p work₀ t 8; lines = length (at k .lines); used = at k .used; known = withIdle known named }) trace₀ work₀))
+        stay true i a = idles a (r .sure i)
         stay false i a = ends (endingOp p work₀ t 8) refl
           where
             is : endingOp p work₀ t 8 ≡ ending p outcomes (at k)
             is = ending-is p kept narrow outcomes bytes (at k) ks typed rest owned t (r .table)
 
-            plain : Ready k work₀ trace₀ t (length (at k .lines)) (at k .used) known
-            plain = record {
-              runs = r .runs;
-              inside = r .inside;
-              store = refl;
-              written = refl;
-              counted = refl;
-              drawn = refl;
-              table = r .table;
-              sure = r .sure;
-              fit = r .fit;
-              fewLines = r .fewLines;
-              fewUsed = r .fewUsed;
-            }
-
-            ends : (x : ℕ) → endingOp p work₀ t 8 ≡ x → Turns t lines (turned (record { end = x; lines = length (at k .lines); used = at k .used; known = true }) trace₀ work₀)
-            ends zero j = inl (
-              refl,
-              omega (arith, r .counted),
-              subst (λ (y : List (List ℕ)). Ready (suc k) work₀ trace₀ y (length (at k .lines)) (at k .used) true)
-                  (sym (ap (λ (q : ℕ). notedFrom t trace₀ q (length (at k .lines) - q)) (r .counted) ∙ stay-noted t trace₀ (length (at k .lines))))
-                  (ready-idle plain l a (sym is ∙ j)),
-            )
+            ends : (x : ℕ) → endingOp p work₀ t 8 ≡ x
+                → Turns t lines (turned (record { end = x; lines = length (at k .lines); used = at k .used; known = withIdle known named }) trace₀ work₀)
+            ends zero j = idles a (sym is ∙ j)
             ends (suc x) j = inr (
               λ z. absurd (omega (arith, z)),
               record { ends = r .runs ∙ ends-here p outcomes room (at k) k x (drop k schedule) (sym is ∙ j); store = refl; written = refl; counted = refl; drawn = refl },
             )
 
-        go : (a f : Bool) → able p outcomes (at k) named ≡ a → fits room (at k) effect ≡ f → Turns t lines (turnedBy p t known (comes a f))
+        go : (a f : Bool) → able p outcomes (at k) named ≡ a → fits room (at k) effect ≡ f → Turns t lines (turnedBy p t named known (comes a f))
         go true true i j = inl (
           refl,
           omega (arith, r .counted, length-append (at k .lines) (effect .lines)),
           ready-next r l (able-goes p outcomes (at k) named i) j (encode (effect .config) ++ rest) (traceAfter (at k .lines ++ effect .lines) t0)
               (notedFrom t (traceAfter (at k .lines ++ effect .lines) t0) lines (length (at k .lines ++ effect .lines) - lines))
-              (length (at k .lines ++ effect .lines)) (at k .used + effect .used) false refl refl refl refl
+              (length (at k .lines ++ effect .lines)) (at k .used + effect .used) unknown refl refl refl refl
               (subst (λ (x : List (List ℕ)). Holding x (at k .lines ++ effect .lines))
               (ap₂ (notedFrom t (traceAfter (at k .lines ++ effect .lines) t0)) (sym (r .counted)) (sym count-more))
               (holding-lines t (at k .lines) (effect .lines) t0 (r .table)))
+              (λ z. absurd (true≢false (sym z)))
               (λ z. absurd (true≢false (sym z))),
         )
           where
@@ -425,7 +464,170 @@ module _ (p : List ℕ) (kept : Kept p) (narrow : (i : ℕ) → argAt p i < 6553
             drawn = refl;
           },
         )
-        go false f i j = stay known refl i
+        go false f i j = stay (known .some) refl i
+
+  module _ (k : ℕ) where
+    -- a step of the named process that comes to stand at no offer leaves the idle processes idle
+
+    module _ {t : List (List ℕ)} {known : Known} (r : Ready k (work₀ k) (trace₀ k) t (length (at k .lines)) (at k .used) known)
+        (d : Did) (x : Stepped k d) (low : named k < 8) (ws : List ℕ) (words : d .words ≡ withPart (work₀ k) (named k) ws)
+        (by-itself : standOp p (partOf (d .words) (named k)) .kind ≡ 1) where
+      long : 8192 ≤ length (work₀ k)
+      long = omega (arith, length-append (encode (at k .config)) rest, encode-length p (at k .config) (sound p kept narrow outcomes bytes (at k) (ks k) (typed k) rest))
+
+      -- the step leaves as many words as there were
+      same-long : length (d .words) ≡ length (work₀ k)
+      unfolding stateAt afterEffect
+      same-long =
+          ap length (x .words)
+          ∙ length-append (encode (at (suc k) .config)) rest
+          ∙ ap (λ (i : ℕ). i + length rest)
+          (encode-length p (at (suc k) .config) (sound p kept narrow outcomes bytes (at (suc k)) (ks (suc k)) (typed (suc k)) rest)
+          ∙ sym (encode-length p (at k .config) (sound p kept narrow outcomes bytes (at k) (ks k) (typed k) rest)))
+          ∙ sym (length-append (encode (at k .config)) rest)
+
+      part-long : length ws ≡ 512
+      unfolding withPart
+      part-long =
+          omega (
+            arith,
+            long,
+            low,
+            sym same-long ∙ ap length words,
+            length-append (take (partAt (named k)) (work₀ k)) (ws ++ drop 512 (drop (partAt (named k)) (work₀ k))),
+            length-append ws (drop 512 (drop (partAt (named k)) (work₀ k))),
+            length-take-le (partAt (named k)) (work₀ k) (omega (arith, long, low)),
+            length-drop 512 (drop (partAt (named k)) (work₀ k)),
+            length-drop (partAt (named k)) (work₀ k),
+          )
+
+      other : (q : ℕ) → q < 8 → q ≢ named k → partOf (d .words) q ≡ partOf (work₀ k) q
+      other q h ne = ap (λ (w : List ℕ). partOf w q) words ∙ part-other (work₀ k) long (named k) q ws low h ne part-long
+
+      stepped-idle : known .some ≡ true → isIdle known (named k) ≡ false → Idle (d .words) t (known .idle)
+      unfolding isIdle
+      stepped-idle i free n h e =
+          still-unable p (work₀ k) (d .words) t n (other n h ne)
+          (λ q l. ⊎-elim (λ j. inr (subst (λ (m : ℕ). standOp p (partOf (d .words) m) .kind < 2) (sym (eqb-true q (named k) j)) (omega (arith, by-itself))))
+          (λ j. inl (other q l (eqb-false q (named k) j)))
+          (decide (eqb q (named k))))
+          (r .idle i n h e)
+        where
+          unmarked : getD (known .idle) (named k) false ≡ false
+          unmarked =
+              sym (ap₂ (λ (x y : Bool). cond x (cond y false (getD (known .idle) (named k) false)) false) i (lt-leb 8 (named k) low)) ∙ free
+
+          ne : n ≢ named k
+          ne j = true≢false (sym e ∙ ap (λ (m : ℕ). getD (known .idle) m false) j ∙ unmarked)
+
+      stepped-goes : ending p outcomes (at (suc k)) ≡ 0
+      unfolding stateAt afterEffect
+      stepped-goes =
+          goes-on (suc k) (subst (Holding t) same (r .table)) (named k) low
+          (ap (λ (w : List ℕ). abilityOp p w t (named k)) (sym (x .words)) ∙ alone-able p (d .words) t (named k) by-itself)
+        where
+          same : at k .lines ≡ at (suc k) .lines
+          same = sym (ap (λ (ls : List Line). at k .lines ++ ls) (x .lines) ∙ append-nil (at k .lines))
+
+    -- an entry of a burst: it is passed, or the rest of the entry does all
+
+    record Passed (t : List (List ℕ)) (known : Known) (d : Did) : Type 0 where
+      low : leb 2 (d .code) ≡ false
+      goes : (eqb (d .code) 1 && not (known .some)) ≡ false
+      ready : Ready (suc k) (d .words) (trace₀ k) t (length (at k .lines)) (at k .used) (stillKnown p (d .words) (named k) known (d .code))
+
+    record Held (t : List (List ℕ)) (known : Known) (d : Did) : Type 0 where
+      stops : (leb 2 (d .code) ≡ true) ⊎ ((leb 2 (d .code) ≡ false) × ((eqb (d .code) 1 && not (known .some)) ≡ true))
+      words : d .words ≡ work₀ k
+      came : cameOp p outcomes (trace₀ k) (work₀ k) room t (count₀ k) (named k) (d .code) ≡ comesTo k
+
+    module _ {t : List (List ℕ)} {known : Known} (r : Ready k (work₀ k) (trace₀ k) t (length (at k .lines)) (at k .used) known)
+        (l : k < length schedule) where
+      -- what is known still was known before
+      still-some : (w : List ℕ) (code : ℕ) → stillKnown p w (named k) known code .some ≡ true → known .some ≡ true
+      unfolding stillKnown
+      still-some w code e = go (known .some) e
+        where
+          go : (b : Bool) → cond b (cond (eqb code 0) (alone p w (named k)) true) false ≡ true → b ≡ true
+          go true i = refl
+          go false i = i
+
+      pass-idle : (d : Did) → d .code ≡ 1 → d .words ≡ work₀ k → known .some ≡ true → able p outcomes (at k) (named k) ≡ false → Passed t known d
+      unfolding stillKnown
+      pass-idle d c w i a = record {
+        low = ap (leb 2) c;
+        goes = ap₂ (λ (n : ℕ) (b : Bool). eqb n 1 && not b) c i;
+        ready =
+            ready-as (suc k) (ready-idle k r l a (r .sure i) (stillKnown p (d .words) (named k) known (d .code)) (λ j. r .idle i)) w refl refl refl;
+      }
+
+      pass-step : (d : Did) → Stepped k d → d ≡ namedOp p (work₀ k) (named k) → isIdle known (named k) ≡ false → Passed t known d
+      unfolding stillKnown alone namedOp onPart
+      pass-step d x e free = record {
+        low = ap (leb 2) (x .code);
+        goes = ap (λ (n : ℕ). eqb n 1 && not (known .some)) (x .code);
+        ready =
+            ready-plain k r l (x .can) (x .lines) (x .used) (d .words) (x .words) (stillKnown p (d .words) (named k) known (d .code))
+            (λ i. stepped-goes r d x (near i) ws (words (near i)) (by-itself i))
+            (λ i. stepped-idle r d x (near i) ws (words (near i)) (by-itself i) (still-some (d .words) (d .code) i) free);
+      }
+        where
+          ws : List ℕ
+          ws = stepOp p (partOf (work₀ k) (named k)) .words
+
+          stands : stillKnown p (d .words) (named k) known (d .code) .some ≡ true → (named k < 8) × (standOp p (partOf (d .words) (named k)) .kind ≡ 1)
+          stands i = go (known .some) (leb 8 (named k)) refl (sym (ap (λ (c : ℕ). cond (known .some) (cond (eqb c 0) (alone p (d .words) (named k)) true) false) (x .code)) ∙ i)
+            where
+              go : (x y : Bool) → leb 8 (named k) ≡ y → cond x (cond y false (eqb (standOp p (partOf (d .words) (named k)) .kind) 1)) false ≡ true
+                  → (named k < 8) × (standOp p (partOf (d .words) (named k)) .kind ≡ 1)
+              go true true j h = absurd (true≢false (sym h))
+              go true false j h = (leb-false 8 (named k) j, eqb-true (standOp p (partOf (d .words) (named k)) .kind) 1 h)
+              go false y j h = absurd (true≢false (sym h))
+
+          near : stillKnown p (d .words) (named k) known (d .code) .some ≡ true → named k < 8
+          near i = stands i .0
+
+          by-itself : stillKnown p (d .words) (named k) known (d .code) .some ≡ true → standOp p (partOf (d .words) (named k)) .kind ≡ 1
+          by-itself i = stands i .1
+
+          words : named k < 8 → d .words ≡ withPart (work₀ k) (named k) ws
+          words h =
+              ap (λ (c : Did). c .words) e
+              ∙ ap (λ (b : Bool). cond b (did 1 (work₀ k)) (onPart (work₀ k) (named k) (stepOp p (partOf (work₀ k) (named k)))) .words) (lt-leb 8 (named k) h)
+
+      hold : (d : Did) → Stopped k t d → Passed t known d ⊎ Held t known d
+      hold d x = far (leb 2 (d .code)) refl
+        where
+          one : d .code < 2 → d .code ≡ 1
+          one h = single (d .code) (x .code) h
+            where
+              single : (c : ℕ) → c ≢ 0 → c < 2 → c ≡ 1
+              single zero z h = absurd (z refl)
+              single (suc zero) z h = refl
+              single (suc (suc c)) z h = absurd (omega (arith, h))
+
+          near : (b : Bool) → known .some ≡ b → d .code ≡ 1 → Passed t known d ⊎ Held t known d
+          near true i c =
+              inl (pass-idle d c (x .words) i
+              (idle-unable k t (ap (λ (n : ℕ). cameOp p outcomes (trace₀ k) (work₀ k) room t (count₀ k) (named k) n) (sym c) ∙ x .came)))
+          near false i c = inr (record {
+            stops = inr (ap (leb 2) c, ap₂ (λ (n : ℕ) (b : Bool). eqb n 1 && not b) c i);
+            words = x .words;
+            came = x .came;
+          })
+
+          far : (b : Bool) → leb 2 (d .code) ≡ b → Passed t known d ⊎ Held t known d
+          far true h = inr (record { stops = inl h; words = x .words; came = x .came })
+          far false h = near (known .some) refl (one (leb-false 2 (d .code) h))
+
+      plain-law : Passed t known (idleOr p (work₀ k) (named k) known) ⊎ Held t known (idleOr p (work₀ k) (named k) known)
+      unfolding idleOr
+      plain-law = go (isIdle known (named k)) refl
+        where
+          go : (b : Bool) → isIdle known (named k) ≡ b
+              → Passed t known (cond b (did 1 (work₀ k)) (namedOp p (work₀ k) (named k))) ⊎ Held t known (cond b (did 1 (work₀ k)) (namedOp p (work₀ k) (named k)))
+          go true i = inl (pass-idle (did 1 (work₀ k)) refl refl (known-idle k r i .0) (known-idle k r i .1))
+          go false i = ⊎-elim (λ x. inl (pass-step (namedOp p (work₀ k) (named k)) x refl i)) (hold (namedOp p (work₀ k) (named k))) (named-law k r)
 
   -- plain steps and idle entries, up to the entry at which they stop
 
@@ -434,77 +636,48 @@ module _ (p : List ℕ) (kept : Kept p) (narrow : (i : ℕ) → argAt p i < 6553
     came : b .burst .at < length schedule
         → cameOp p outcomes trace (b .words) room t (record { entry = b .burst .at; lines = lines; used = used }) (getD schedule (b .burst .at) 0) (b .burst .code) ≡ comesTo (b .burst .at)
 
-  burst-law : (left k : ℕ) {work trace : List ℕ} {t : List (List ℕ)} {lines used : ℕ} {known : Bool} → left ≡ length schedule - k → Ready k work trace t lines used known
+  burst-law : (left k : ℕ) {work trace : List ℕ} {t : List (List ℕ)} {lines used : ℕ} {known : Known} → left ≡ length schedule - k → Ready k work trace t lines used known
       → Burst-good trace t lines used (burstOp p schedule work k known left)
   unfolding burstOp
   burst-law zero k e r = record { ready = r; came = λ l. absurd (omega (arith, l, e)) }
   burst-law (suc left) k {work} {trace} {t} {lines} {used} {known} e r =
       subst (λ (w : List ℕ). Burst-good trace t lines used (burstOp p schedule w k known (suc left))) (sym (r .store))
-      (⊎-elim
-      (λ (x : Stepped k (namedOp p (work₀ k) (named k))). stepped x (burst-law left (suc k) (omega (arith, e)) (ready-plain k r l (x .can) (x .lines) (x .used) (namedOp p (work₀ k) (named k) .words) (x .words))))
-      (λ (x : Stopped k t (namedOp p (work₀ k) (named k))).
-      stopped x (λ (a : able p outcomes (at k) (named k) ≡ false) (s : ending p outcomes (at k) ≡ 0).
-      burst-law left (suc k) (omega (arith, e)) (ready-as (suc k) (ready-idle k r l a s) (x .words ∙ sym (r .store)) refl)))
-      (named-law k r))
+      (⊎-elim (λ x. passed x (burst-law left (suc k) (omega (arith, e)) (ready-as (suc k) (x .ready) refl (r .written) (r .counted) (r .drawn)))) held
+      (plain-law k (ready-there k r) l))
     where
       l : k < length schedule
       l = omega (arith, e)
 
       d : Did
-      d = namedOp p (work₀ k) (named k)
+      d = idleOr p (work₀ k) (named k) known
 
-      one-more : k + 1 ≡ suc k
-      one-more = omega arith
+      here : Stop
+      here = stopsAt (record { at = k; code = d .code; known = known }) (d .words)
 
-      ends-at : Bool → Bool → Stop
-      ends-at x y =
-          cond x (stopsAt (record { at = k; code = namedOp p (work₀ k) (named k) .code; known = known }) (namedOp p (work₀ k) (named k) .words))
-          (cond (y && not known) (stopsAt (record { at = k; code = namedOp p (work₀ k) (named k) .code; known = known }) (namedOp p (work₀ k) (named k) .words))
-          (burstOp p schedule (namedOp p (work₀ k) (named k) .words) (k + 1) y left))
+      rest-of : ℕ → Stop
+      rest-of i = burstOp p schedule (d .words) i (stillKnown p (d .words) (named k) known (d .code)) left
 
-      stepped : Stepped k (namedOp p (work₀ k) (named k)) → Burst-good trace t lines used (burstOp p schedule (namedOp p (work₀ k) (named k) .words) (suc k) false left)
-          → Burst-good trace t lines used (burstOp p schedule (work₀ k) k known (suc left))
-      stepped x g =
-          subst (λ (c : ℕ). Burst-good trace t lines used
-          (cond (leb 2 c) (stopsAt (record { at = k; code = namedOp p (work₀ k) (named k) .code; known = known }) (namedOp p (work₀ k) (named k) .words))
-          (cond (eqb c 1 && not known) (stopsAt (record { at = k; code = namedOp p (work₀ k) (named k) .code; known = known }) (namedOp p (work₀ k) (named k) .words))
-          (burstOp p schedule (namedOp p (work₀ k) (named k) .words) (k + 1) (eqb c 1) left)))) (sym (x .code))
-          (subst (λ (i : ℕ). Burst-good trace t lines used (burstOp p schedule (namedOp p (work₀ k) (named k) .words) i false left)) (sym one-more) g)
+      passed : Passed k t known d → Burst-good trace t lines used (rest-of (suc k))
+          → Burst-good trace t lines used (cond (leb 2 (d .code)) here (cond (eqb (d .code) 1 && not (known .some)) here (rest-of (k + 1))))
+      passed x g =
+          subst (Burst-good trace t lines used)
+          (sym (ap₂ (λ (a b : Bool). cond a here (cond b here (rest-of (k + 1)))) (x .low) (x .goes) ∙ ap rest-of {x = k + 1} {y = suc k} (omega arith))) g
 
-      here : Stopped k t (namedOp p (work₀ k) (named k))
-          → Burst-good trace t lines used (stopsAt (record { at = k; code = namedOp p (work₀ k) (named k) .code; known = known }) (namedOp p (work₀ k) (named k) .words))
-      here x = record {
-        ready = ready-as k r (x .words ∙ sym (r .store)) refl;
-        came = λ i. came-as k (ready-as k r (x .words ∙ sym (r .store)) refl) (namedOp p (work₀ k) (named k) .code) (x .came);
-      }
-
-      stopped : Stopped k t (namedOp p (work₀ k) (named k))
-          → (able p outcomes (at k) (named k) ≡ false → ending p outcomes (at k) ≡ 0
-          → Burst-good trace t lines used (burstOp p schedule (namedOp p (work₀ k) (named k) .words) (suc k) true left))
-          → Burst-good trace t lines used (burstOp p schedule (work₀ k) k known (suc left))
-      stopped x g = far (leb 2 (namedOp p (work₀ k) (named k) .code)) refl
+      held : Held k t known d → Burst-good trace t lines used (cond (leb 2 (d .code)) here (cond (eqb (d .code) 1 && not (known .some)) here (rest-of (k + 1))))
+      held x =
+          ⊎-elim
+          (λ i. subst (Burst-good trace t lines used) (sym (ap (λ (a : Bool). cond a here (cond (eqb (d .code) 1 && not (known .some)) here (rest-of (k + 1)))) i)) good)
+          (λ i. subst (Burst-good trace t lines used) (sym (ap₂ (λ (a b : Bool). cond a here (cond b here (rest-of (k + 1)))) (i .0) (i .1))) good)
+          (x .stops)
         where
-          one : leb 2 (namedOp p (work₀ k) (named k) .code) ≡ false → namedOp p (work₀ k) (named k) .code ≡ 1
-          one h = single (namedOp p (work₀ k) (named k) .code) (x .code) (leb-false 2 (namedOp p (work₀ k) (named k) .code) h)
-            where
-              single : (c : ℕ) → c ≢ 0 → c < 2 → c ≡ 1
-              single zero z h = absurd (z refl)
-              single (suc zero) z h = refl
-              single (suc (suc c)) z h = absurd (omega (arith, h))
+          there : Ready k (d .words) trace t lines used known
+          there = ready-as k r (x .words ∙ sym (r .store)) refl refl refl
 
-          near : (b : Bool) → known ≡ b → namedOp p (work₀ k) (named k) .code ≡ 1
-              → Burst-good trace t lines used (cond (true && not b) (stopsAt (record { at = k; code = namedOp p (work₀ k) (named k) .code; known = known }) (namedOp p (work₀ k) (named k) .words))
-              (burstOp p schedule (namedOp p (work₀ k) (named k) .words) (k + 1) true left))
-          near true h c =
-              subst (λ (i : ℕ). Burst-good trace t lines used (burstOp p schedule (namedOp p (work₀ k) (named k) .words) i true left)) (sym one-more)
-              (g (idle-unable k t (ap (λ (i : ℕ). cameOp p outcomes (trace₀ k) (work₀ k) room t (count₀ k) (named k) i) (sym c) ∙ x .came)) (r .sure h))
-          near false h c = here x
-
-          far : (b : Bool) → leb 2 (namedOp p (work₀ k) (named k) .code) ≡ b → Burst-good trace t lines used (ends-at b (eqb (namedOp p (work₀ k) (named k) .code) 1))
-          far true h = here x
-          far false h =
-              subst (λ (b : Bool). Burst-good trace t lines used (ends-at false b)) (sym (eq-eqb (namedOp p (work₀ k) (named k) .code) 1 (one h)))
-              (near known refl (one h))
+          good : Burst-good trace t lines used here
+          good = record {
+            ready = there;
+            came = λ i. came-as k there (d .code) (x .came);
+          }
 
   -- plain steps, and the entry at which they stop
 
@@ -514,7 +687,7 @@ module _ (p : List ℕ) (kept : Kept p) (narrow : (i : ℕ) → argAt p i < 6553
       ⊎ ((a .advance .over ≡ false) × (lines ≤ a .advance .lines)
       × Ready (suc (a .advance .at)) (a .work) (a .trace) (notedFrom t (a .trace) lines (a .advance .lines - lines)) (a .advance .lines) (a .advance .used) (a .advance .known))
 
-  pub ready-last : (k : ℕ) {work trace : List ℕ} {t : List (List ℕ)} {lines used : ℕ} {known : Bool} → Ready k work trace t lines used known → length schedule ≤ k
+  pub ready-last : (k : ℕ) {work trace : List ℕ} {t : List (List ℕ)} {lines used : ℕ} {known : Known} → Ready k work trace t lines used known → length schedule ≤ k
       → Over k (endingOp p work t 8) work trace lines used
   ready-last k {work} {trace} {t} r h = record {
     ends =
@@ -527,7 +700,7 @@ module _ (p : List ℕ) (kept : Kept p) (narrow : (i : ℕ) → argAt p i < 6553
     drawn = r .drawn;
   }
 
-  pub advance-law : (k : ℕ) {work trace : List ℕ} {t : List (List ℕ)} {lines used : ℕ} {known : Bool} → Ready k work trace t lines used known
+  pub advance-law : (k : ℕ) {work trace : List ℕ} {t : List (List ℕ)} {lines used : ℕ} {known : Known} → Ready k work trace t lines used known
       → Goes t lines (advanceOp p schedule outcomes trace work room t k lines used known)
   unfolding advanceOp advancedFrom usedUp turnedAt
   advance-law k {work} {trace} {t} {lines} {used} {known} r = from (burstOp p schedule work k known (length schedule - k)) (burst-law (length schedule - k) k refl r)
@@ -536,11 +709,11 @@ module _ (p : List ℕ) (kept : Kept p) (narrow : (i : ℕ) → argAt p i < 6553
       turns at x (inl y) = inr (ap (λ (e : ℕ). not (eqb e 0)) (y .0), y .1, y .2)
       turns at x (inr y) = inl (ap not (ne-eqb (x .turn .end) 0 (y .0)), y .1)
 
-      from : (b : Stop) → Burst-good trace t lines used b → Goes t lines (advancedFrom p schedule outcomes trace room t lines used b)
+      from : (b : Stop) → Burst-good trace t lines used b → Goes t lines (advancedFrom p schedule outcomes trace room t lines used known b)
       from b g = go (leb (length schedule) (b .burst .at)) refl
         where
           go : (x : Bool) → leb (length schedule) (b .burst .at) ≡ x
-              → Goes t lines (cond x (usedUp p trace t lines used b)
+              → Goes t lines (cond x (usedUp p trace t lines used known b)
               (turnedAt (b .burst .at)
               (turnOp p outcomes trace (b .words) room t (record { entry = b .burst .at; lines = lines; used = used }) (getD schedule (b .burst .at) 0) (b .burst .code) (b .burst .known))))
           go true h = inl (refl, ready-last (b .burst .at) (g .ready) (leb-true (length schedule) (b .burst .at) h))

@@ -1,7 +1,7 @@
 -- What the run's functions have done at their returns, from what their callees did and how their tests came out.
 use Prim.Native.Nat.{ℕ, _-_, _≤_, _<_}
-use mathlib.Core.Path.{_≡_, refl, sym, _∙_, ap}
-use mathlib.Core.Bool.{Bool, true, false, not}
+use mathlib.Core.Path.{_≡_, refl, sym, _∙_, ap, ap₂}
+use mathlib.Core.Bool.{true, false, not}
 use mathlib.Core.List.{List}
 use lib.ListN.{getD, length}
 use lib.Dec.{eqb}
@@ -16,8 +16,10 @@ use Rattle.entries.specs.Came.{Came, came, stayedAt}
 use Rattle.entries.specs.Entries.{entryOp}
 use Rattle.entries.proofs.Returns.{came-to}
 use Rattle.run.specs.declared.burst.Burst.{Burst}
+use Rattle.run.specs.declared.known.Known.{Known}
 use Rattle.run.specs.declared.turn.Turn.{Turn}
 use Rattle.run.specs.declared.answer.Refusal.{Refusal}
+use Rattle.run.specs.Knowing.{unknown, withIdle}
 use Rattle.run.specs.Bursts.{stopsAt, burstOp}
 use Rattle.run.specs.Turned.{Turned, turned, cameOp, turnedBy, turnOp}
 use Rattle.run.specs.Advanced.{Advanced, advanced, usedUp, turnedAt, advancedFrom, advanceOp}
@@ -35,59 +37,60 @@ module _ (p outcomes trace work : List ℕ) (room : ℕ) (t : List (List ℕ)) (
   unfolding cameOp
   names-one h e = passed-by _ _ _ refl (lt-leb 8 n h) e
 
--- what an entry that came to m means for the run
+-- what an entry that came to m means for the run; q is what is known behind it
 
-module _ (p outcomes trace work : List ℕ) (room : ℕ) (t : List (List ℕ)) (g : Count) (n code : ℕ) (known : Bool) {m : Moved}
-    {ts ws : List ℕ} (told : came m ts ws ≡ cameOp p outcomes trace work room t g n code) where
-  pub turn-full : m .state ≡ 2
-      → turned (record { end = 3; lines = m .lines; used = m .used; known = false }) ts ws
+abbrev with-end : Moved → List ℕ → List ℕ → ℕ → Known → Turned
+with-end m ts ws e q = turned (record { end = e; lines = m .lines; used = m .used; known = q }) ts ws
+
+module _ (p outcomes trace work : List ℕ) (room : ℕ) (t : List (List ℕ)) (g : Count) (n code : ℕ) (known : Known) {m : Moved}
+    {ts ws : List ℕ} (told : came m ts ws ≡ cameOp p outcomes trace work room t g n code) {q : Known} where
+  pub turn-full : m .state ≡ 2 → q ≡ unknown
+      → turned (record { end = 3; lines = m .lines; used = m .used; known = q }) ts ws
       ≡ turnOp p outcomes trace work room t g n code known
   unfolding turnOp turnedBy
-  turn-full h = took _ _ _ refl (eq-eqb (m .state) 2 h) refl ∙ ap (turnedBy p t known) told
+  turn-full h e = took _ _ _ refl (eq-eqb (m .state) 2 h) (ap (with-end m ts ws 3) e) ∙ ap (turnedBy p t n known) told
 
   module _ (room-left : m .state ≡ 2 → ⊥) where
-    pub turn-moves : m .state ≡ 1
-        → turned (record { end = 0; lines = m .lines; used = m .used; known = false }) ts ws
+    pub turn-moves : m .state ≡ 1 → q ≡ unknown
+        → turned (record { end = 0; lines = m .lines; used = m .used; known = q }) ts ws
         ≡ turnOp p outcomes trace work room t g n code known
     unfolding turnOp turnedBy
-    turn-moves h =
-        passed-by _ _ _ refl (ne-eqb (m .state) 2 room-left) (took _ _ _ refl (eq-eqb (m .state) 1 h) refl)
-        ∙ ap (turnedBy p t known) told
+    turn-moves h e =
+        passed-by _ _ _ refl (ne-eqb (m .state) 2 room-left) (took _ _ _ refl (eq-eqb (m .state) 1 h) (ap (with-end m ts ws 0) e))
+        ∙ ap (turnedBy p t n known) told
 
-    pub turn-idles : (m .state ≡ 1 → ⊥) → known ≡ true
-        → turned (record { end = 0; lines = m .lines; used = m .used; known = true }) ts ws
+    pub turn-idles : (m .state ≡ 1 → ⊥) → known .some ≡ true → q ≡ withIdle known n
+        → turned (record { end = 0; lines = m .lines; used = m .used; known = q }) ts ws
         ≡ turnOp p outcomes trace work room t g n code known
     unfolding turnOp turnedBy
-    turn-idles h k =
+    turn-idles h k e =
         passed-by _ _ _ refl (ne-eqb (m .state) 2 room-left)
-        (passed-by _ _ _ refl (ne-eqb (m .state) 1 h) (took _ _ _ refl k refl))
-        ∙ ap (turnedBy p t known) told
+        (passed-by _ _ _ refl (ne-eqb (m .state) 1 h) (took _ _ _ refl k (ap (with-end m ts ws 0) e)))
+        ∙ ap (turnedBy p t n known) told
 
-    pub turn-asks : {end : ℕ} → (m .state ≡ 1 → ⊥) → known ≡ false → end ≡ endingOp p ws t 8
-        → turned (record { end = end; lines = m .lines; used = m .used; known = true }) ts ws
+    pub turn-asks : {end : ℕ} → (m .state ≡ 1 → ⊥) → known .some ≡ false → end ≡ endingOp p ws t 8 → q ≡ withIdle known n
+        → turned (record { end = end; lines = m .lines; used = m .used; known = q }) ts ws
         ≡ turnOp p outcomes trace work room t g n code known
     unfolding turnOp turnedBy
-    turn-asks h k e =
+    turn-asks h k e i =
         passed-by _ _ _ refl (ne-eqb (m .state) 2 room-left)
-        (passed-by _ _ _ refl (ne-eqb (m .state) 1 h)
-        (passed-by _ _ _ refl k
-        (ap {B = Turned} (λ (i : ℕ). turned (record { end = i; lines = m .lines; used = m .used; known = true }) ts ws) e)))
-        ∙ ap (turnedBy p t known) told
+        (passed-by _ _ _ refl (ne-eqb (m .state) 1 h) (passed-by _ _ _ refl k (ap₂ (with-end m ts ws) e i)))
+        ∙ ap (turnedBy p t n known) told
 
 -- plain steps stopped at b
 
-module _ (p schedule outcomes trace work : List ℕ) (room : ℕ) (t : List (List ℕ)) (k lines used : ℕ) (known : Bool)
+module _ (p schedule outcomes trace work : List ℕ) (room : ℕ) (t : List (List ℕ)) (k lines used : ℕ) (known : Known)
     {b : Burst} {words : List ℕ} (told : stopsAt b words ≡ burstOp p schedule work k known (length schedule - k)) where
   pub advance-ends : {end : ℕ} → length schedule ≤ b .at → end ≡ endingOp p words t 8
-      → advanced (record { over = true; end = end; at = b .at; lines = lines; used = used; known = true }) trace words
+      → advanced (record { over = true; end = end; at = b .at; lines = lines; used = used; known = known }) trace words
       ≡ advanceOp p schedule outcomes trace work room t k lines used known
   unfolding advanceOp advancedFrom usedUp
   advance-ends h e =
       took _ _ _ refl (le-leb (length schedule) (b .at) h)
       (ap {B = Advanced}
-      (λ (i : ℕ). advanced (record { over = true; end = i; at = b .at; lines = lines; used = used; known = true }) trace words)
+      (λ (i : ℕ). advanced (record { over = true; end = i; at = b .at; lines = lines; used = used; known = known }) trace words)
       e)
-      ∙ ap (advancedFrom p schedule outcomes trace room t lines used) told
+      ∙ ap (advancedFrom p schedule outcomes trace room t lines used known) told
 
   pub advance-turns : {r : Turn} {ts ws : List ℕ} → b .at < length schedule
       → turned r ts ws
@@ -108,7 +111,7 @@ module _ (p schedule outcomes trace work : List ℕ) (room : ℕ) (t : List (Lis
   unfolding advanceOp advancedFrom turnedAt
   advance-turns h e =
       passed-by _ _ _ refl (lt-leb (length schedule) (b .at) h) (ap (turnedAt (b .at)) e)
-      ∙ ap (advancedFrom p schedule outcomes trace room t lines used) told
+      ∙ ap (advancedFrom p schedule outcomes trace room t lines used known) told
 
 -- the number and place of a case of the check's
 pub refused-as : (a k : Check) {r : Refusal} → a ≡ k → r ≡ refusalOf (verdictOf k) → r ≡ refusalOf (verdictOf a)

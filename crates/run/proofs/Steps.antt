@@ -10,7 +10,9 @@ use borrow.Author.Tests.{le-leb, lt-leb}
 use Rattle.ops.specs.Did.{Did, did, stepOp}
 use Rattle.ops.proofs.Returns.{took, passed-by}
 use Rattle.parts.specs.Parts.{partOf, onPart}
-use Rattle.run.specs.Bursts.{Stop, stopsAt, namedOp, burstOp}
+use Rattle.run.specs.declared.known.Known.{Known}
+use Rattle.run.specs.Knowing.{isIdle, stillKnown}
+use Rattle.run.specs.Bursts.{Stop, stopsAt, namedOp, idleOr, burstOp}
 
 -- the byte names no process, or one that steps
 
@@ -22,14 +24,24 @@ pub named-steps : (p work : List ℕ) (n : ℕ) {d : Did} → n < 8 → d ≡ on
 unfolding namedOp
 named-steps p work n h e = passed-by _ _ _ refl (lt-leb 8 n h) e
 
+-- the process is known to be idle, or else it steps
+
+pub idle-known : (p work : List ℕ) (n : ℕ) (known : Known) {b : Bool} → b ≡ isIdle known n → b ≡ true → did 1 work ≡ idleOr p work n known
+unfolding idleOr
+idle-known p work n known e h = took _ _ _ e h refl
+
+pub not-known : (p work : List ℕ) (n : ℕ) (known : Known) {b : Bool} {d : Did} → b ≡ isIdle known n → b ≡ false → d ≡ namedOp p work n → d ≡ idleOr p work n known
+unfolding idleOr
+not-known p work n known e h q = passed-by _ _ _ e h q
+
 -- a burst whose first entry did this
-abbrev burstBy : List ℕ → List ℕ → ℕ → Bool → ℕ → Did → Stop
+abbrev burstBy : List ℕ → List ℕ → ℕ → Known → ℕ → Did → Stop
 burstBy p schedule k known left d =
     cond (leb 2 (d .code)) (stopsAt (record { at = k; code = d .code; known = known }) (d .words))
-    (cond (eqb (d .code) 1 && not known) (stopsAt (record { at = k; code = d .code; known = known }) (d .words))
-    (burstOp p schedule (d .words) (k + 1) (eqb (d .code) 1) left))
+    (cond (eqb (d .code) 1 && not (known .some)) (stopsAt (record { at = k; code = d .code; known = known }) (d .words))
+    (burstOp p schedule (d .words) (k + 1) (stillKnown p (d .words) (getD schedule k 0) known (d .code)) left))
 
-module _ (p schedule work : List ℕ) (k : ℕ) (known : Bool) where
+module _ (p schedule work : List ℕ) (k : ℕ) (known : Known) where
   -- the schedule is used up
   pub burst-ends : length schedule ≤ k
       → stopsAt (record { at = k; code = 0; known = known }) work ≡ burstOp p schedule work k known (length schedule - k)
@@ -40,7 +52,7 @@ module _ (p schedule work : List ℕ) (k : ℕ) (known : Bool) where
       none = omega (arith, h)
 
   module _ {code : ℕ} {words : List ℕ} (more : k < length schedule)
-      (told : did code words ≡ namedOp p work (getD schedule k 0)) where
+      (told : did code words ≡ idleOr p work (getD schedule k 0) known) where
     burst-turn : burstBy p schedule k known (length schedule - (k + 1)) (did code words)
         ≡ burstOp p schedule work k known (length schedule - k)
     unfolding burstOp
@@ -57,13 +69,14 @@ module _ (p schedule work : List ℕ) (k : ℕ) (known : Bool) where
     burst-stops h = took _ _ _ refl (le-leb 2 code h) refl ∙ burst-turn
 
     -- the process cannot step, and it is not known that another can
-    pub burst-waits : code < 2 → (eqb code 1 && not known) ≡ true
+    pub burst-waits : code < 2 → (eqb code 1 && not (known .some)) ≡ true
         → stopsAt (record { at = k; code = code; known = known }) words ≡ burstOp p schedule work k known (length schedule - k)
     burst-waits h e = passed-by _ _ _ refl (lt-leb 2 code h) (took _ _ _ refl e refl) ∙ burst-turn
 
     -- a step or an idle entry
-    pub burst-goes : code < 2 → (eqb code 1 && not known) ≡ false
+    pub burst-goes : code < 2 → (eqb code 1 && not (known .some)) ≡ false → {next : Known} → next ≡ stillKnown p words (getD schedule k 0) known code
         → burstOp p schedule work k known (length schedule - k)
-        ≡ burstOp p schedule words (k + 1) (eqb code 1) (length schedule - (k + 1))
-    burst-goes h e =
-        sym (passed-by _ _ _ refl (lt-leb 2 code h) (passed-by _ _ _ refl e refl) ∙ burst-turn)
+        ≡ burstOp p schedule words (k + 1) next (length schedule - (k + 1))
+    burst-goes h e q =
+        sym (passed-by _ _ _ refl (lt-leb 2 code h)
+        (passed-by _ _ _ refl e (ap (λ (x : Known). burstOp p schedule words (k + 1) x (length schedule - (k + 1))) q)) ∙ burst-turn)

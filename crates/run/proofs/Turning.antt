@@ -18,12 +18,14 @@ use Rattle.layout.specs.Layout.{encode, storeAfter}
 use Rattle.holders.specs.Holders.{notedFrom, nobody}
 use Rattle.ability.specs.Ending.{endingOp}
 use Rattle.run.specs.declared.turns.Advance.{Advance}
-use Rattle.run.specs.Bursts.{Stop, namedOp, burstOp}
+use Rattle.run.specs.declared.known.Known.{Known}
+use Rattle.run.specs.Knowing.{unknown, stillKnown}
+use Rattle.run.specs.Bursts.{Stop, idleOr, burstOp}
 use Rattle.run.specs.Advanced.{Advanced, advanced, usedUp, turnedAt, advancedFrom, advanceOp}
 use Rattle.run.specs.Left.{Left, leftAs, leaves}
 use Rattle.run.proofs.Ready as ready
 
-pub record Going (p schedule outcomes : List ℕ) (room : ℕ) (w0 t0 : List ℕ) (k : ℕ) (work trace : List ℕ) (t : List (List ℕ)) (lines used : ℕ) (known : Bool) : Type 0 where
+pub record Going (p schedule outcomes : List ℕ) (room : ℕ) (w0 t0 : List ℕ) (k : ℕ) (work trace : List ℕ) (t : List (List ℕ)) (lines used : ℕ) (known : Known) : Type 0 where
   pub kept : Kept p
   pub narrow : (i : ℕ) → argAt p i < 65536
   pub bytes : All (λ o. o < 256) outcomes
@@ -41,35 +43,46 @@ all-bytes [] h = tt
 all-bytes (x ∷ xs) h = (h 0, all-bytes xs (λ i. h (suc i)))
 
 -- a burst does not go back
-burst-past : (p schedule work : List ℕ) (k : ℕ) (known : Bool) (left : ℕ) → k ≤ burstOp p schedule work k known left .burst .at
+burst-past : (p schedule work : List ℕ) (k : ℕ) (known : Known) (left : ℕ) → k ≤ burstOp p schedule work k known left .burst .at
 unfolding burstOp
 burst-past p schedule work k known zero = omega arith
 burst-past p schedule work k known (suc left) =
-    cond-both (λ (b : Stop). k ≤ b .burst .at) (leb 2 (namedOp p work (getD schedule k 0) .code)) (omega arith)
-    (cond-both (λ (b : Stop). k ≤ b .burst .at) (eqb (namedOp p work (getD schedule k 0) .code) 1 && not known) (omega arith)
-    (omega (arith, burst-past p schedule (namedOp p work (getD schedule k 0) .words) (k + 1) (eqb (namedOp p work (getD schedule k 0) .code) 1) left)))
+    cond-both (λ (b : Stop). k ≤ b .burst .at) (leb 2 (idleOr p work (getD schedule k 0) known .code)) (omega arith)
+    (cond-both (λ (b : Stop). k ≤ b .burst .at) (eqb (idleOr p work (getD schedule k 0) known .code) 1 && not (known .some)) (omega arith)
+    (omega (
+      arith,
+      burst-past p schedule (idleOr p work (getD schedule k 0) known .words) (k + 1)
+          (stillKnown p (idleOr p work (getD schedule k 0) known .words) (getD schedule k 0) known (idleOr p work (getD schedule k 0) known .code)) left,
+    )))
 
-advance-past : (p schedule outcomes trace work : List ℕ) (room : ℕ) (t : List (List ℕ)) (k lines used : ℕ) (known : Bool)
+advance-past : (p schedule outcomes trace work : List ℕ) (room : ℕ) (t : List (List ℕ)) (k lines used : ℕ) (known : Known)
     → k ≤ advanceOp p schedule outcomes trace work room t k lines used known .advance .at
 unfolding advanceOp advancedFrom usedUp turnedAt
 advance-past p schedule outcomes trace work room t k lines used known =
     cond-both (λ (a : Advanced). k ≤ a .advance .at) (leb (length schedule) (burstOp p schedule work k known (length schedule - k) .burst .at))
     (burst-past p schedule work k known (length schedule - k)) (burst-past p schedule work k known (length schedule - k))
 
+-- an entry without a line leaves the table of the holders as it was
+pub no-line : {t u : List (List ℕ)} (trace : List ℕ) {lines more : ℕ} → more ≤ lines → u ≡ t → u ≡ notedFrom t trace lines (more - lines)
+unfolding notedFrom
+no-line {t} {u} trace {lines} {more} h e = e ∙ ap (notedFrom t trace lines) {x = 0} {y = more - lines} (omega (arith, h))
+
 module _ {p schedule outcomes : List ℕ} {room : ℕ} {w0 t0 : List ℕ} where
   pub going-start : Kept p → ((i : ℕ) → argAt p i < 65536) → All (λ o. o < 256) outcomes → length schedule ≤ 65535 → 6 * room ≤ length t0
-      → w0 ≡ encode (startConfig p) ++ drop 8192 w0 → {t : List (List ℕ)} → t ≡ nobody → Going p schedule outcomes room w0 t0 0 w0 t0 t 0 0 false
-  going-start kept narrow bytes short holds e i = record {
+      → w0 ≡ encode (startConfig p) ++ drop 8192 w0 → {t : List (List ℕ)} → t ≡ nobody → {known : Known} → known ≡ unknown → Going p schedule outcomes room w0 t0 0 w0 t0 t 0 0 known
+  going-start kept narrow bytes short holds e {t} i j = record {
     kept = kept;
     narrow = narrow;
     bytes = bytes;
     short = short;
     holds = holds;
-    stands = subst (λ (t : List (List ℕ)). ready.Ready p kept narrow outcomes bytes schedule short (drop 8192 w0) t0 room holds 0 w0 t0 t 0 0 false) (sym i)
-        (ready.ready-start p kept narrow outcomes bytes schedule short (drop 8192 w0) t0 room holds w0 e);
+    stands =
+        subst (λ (known : Known). ready.Ready p kept narrow outcomes bytes schedule short (drop 8192 w0) t0 room holds 0 w0 t0 t 0 0 known) (sym j)
+        (subst (λ (t : List (List ℕ)). ready.Ready p kept narrow outcomes bytes schedule short (drop 8192 w0) t0 room holds 0 w0 t0 t 0 0 unknown) (sym i)
+        (ready.ready-start p kept narrow outcomes bytes schedule short (drop 8192 w0) t0 room holds w0 e));
   }
 
-  module _ {k : ℕ} {work trace : List ℕ} {t : List (List ℕ)} {lines used : ℕ} {known : Bool} (g : Going p schedule outcomes room w0 t0 k work trace t lines used known) where
+  module _ {k : ℕ} {work trace : List ℕ} {t : List (List ℕ)} {lines used : ℕ} {known : Known} (g : Going p schedule outcomes room w0 t0 k work trace t lines used known) where
     pub few-lines : lines < 16000000
     few-lines = omega (arith, g .stands .counted, g .stands .fewLines, g .stands .inside, g .short)
 

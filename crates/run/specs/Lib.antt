@@ -1,4 +1,5 @@
 pub mod Begun
+pub mod Knowing
 pub mod Bursts
 pub mod Turned
 pub mod Advanced

@@ -1,13 +1,15 @@
 -- An entry that is no plain step, on the words of trace and store. These definitions follow the code.
 use Prim.Native.Nat.{ℕ}
-use mathlib.Core.Bool.{Bool, true, false, cond}
+use mathlib.Core.Bool.{cond}
 use mathlib.Core.List.{List}
 use lib.Dec.{eqb, leb}
 use Rattle.ability.specs.Ending.{endingOp}
 use Rattle.entries.specs.declared.came.Count.{Count}
 use Rattle.entries.specs.Came.{Came, came, stayedAt}
 use Rattle.entries.specs.Entries.{entryOp}
+use Rattle.run.specs.declared.known.Known.{Known}
 use Rattle.run.specs.declared.turn.Turn.{Turn}
+use Rattle.run.specs.Knowing.{unknown, withIdle}
 
 pub record Turned : Type 0 where
   pub turn : Turn
@@ -22,15 +24,15 @@ cameOp p outcomes trace work room t g n code =
     cond (leb 8 n) (came (stayedAt g) trace work) (entryOp p outcomes trace work room t g n code)
 
 -- what an entry means for the run
-unfoldable pub turnedBy : List ℕ → List (List ℕ) → Bool → Came → Turned
-turnedBy p t known c =
+unfoldable pub turnedBy : List ℕ → List (List ℕ) → ℕ → Known → Came → Turned
+turnedBy p t n known c =
     cond (eqb (c .moved .state) 2)
-    (turned (record { end = 3; lines = c .moved .lines; used = c .moved .used; known = false }) (c .trace) (c .work))
+    (turned (record { end = 3; lines = c .moved .lines; used = c .moved .used; known = unknown }) (c .trace) (c .work))
     (cond (eqb (c .moved .state) 1)
-    (turned (record { end = 0; lines = c .moved .lines; used = c .moved .used; known = false }) (c .trace) (c .work))
-    (cond known
-    (turned (record { end = 0; lines = c .moved .lines; used = c .moved .used; known = true }) (c .trace) (c .work))
-    (turned (record { end = endingOp p (c .work) t 8; lines = c .moved .lines; used = c .moved .used; known = true }) (c .trace) (c .work))))
+    (turned (record { end = 0; lines = c .moved .lines; used = c .moved .used; known = unknown }) (c .trace) (c .work))
+    (cond (known .some)
+    (turned (record { end = 0; lines = c .moved .lines; used = c .moved .used; known = withIdle known n }) (c .trace) (c .work))
+    (turned (record { end = endingOp p (c .work) t 8; lines = c .moved .lines; used = c .moved .used; known = withIdle known n }) (c .trace) (c .work))))
 
-unfoldable pub turnOp : List ℕ → List ℕ → List ℕ → List ℕ → ℕ → List (List ℕ) → Count → ℕ → ℕ → Bool → Turned
-turnOp p outcomes trace work room t g n code known = turnedBy p t known (cameOp p outcomes trace work room t g n code)
+unfoldable pub turnOp : List ℕ → List ℕ → List ℕ → List ℕ → ℕ → List (List ℕ) → Count → ℕ → ℕ → Known → Turned
+turnOp p outcomes trace work room t g n code known = turnedBy p t n known (cameOp p outcomes trace work room t g n code)

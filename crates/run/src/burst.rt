@@ -5,15 +5,19 @@ ghost use Prim.Native.Nat.{_+_, _-_, _*_, _<_, _≤_};
 ghost use lib.ListN.{length};
 ghost use Rattle.table.specs.Table.{methods};
 ghost use Rattle.ops.specs.Did.{did};
-ghost use Rattle.run.specs.Bursts.{stopsAt, namedOp, burstOp};
+ghost use Rattle.run.specs.Knowing.{alone, stillKnown};
+ghost use Rattle.run.specs.Bursts.{stopsAt, namedOp, idleOr, burstOp};
+use super::known::Known;
+use ability::reads::stand_of;
+use names::ProcessNo;
 use parts::part::step_process;
 
-// The first entry that needs more, with the code of its step and whether some process is known to be able to move before
-// it; code 0 where the schedule is used up.
+// The first entry that needs more, with the code of its step and what is known before it; code 0 where the schedule is
+// used up.
 pub struct Burst {
     pub at: usize,
     pub code: u32,
-    pub known: bool,
+    pub known: Known,
 }
 
 // One step of the process that the byte names; 1 where no process can have that number.
@@ -27,41 +31,80 @@ pub fn step_named(p: &[u16], start: usize, work: &mut [u32], n: u8) -> u32
     step_process(p, start, work, n)
 }
 
+// The same, but 1 at once where the process is known not to be able to move.
+fn step_unless_idle(p: &[u16], start: usize, work: &mut [u32], n: u8, known: Known) -> u32
+    requires { ⌜ (start ≡ 2 + 20 * methods (now p)) × (8192 ≤ length (now work)) ⌝ }
+    ensures { λ r. ⌜ did r (now (work .exit)) ≡ idleOr (now (p .entry)) (now (work .entry)) n known ⌝ }
+{
+    if known.is_idle(n) {
+        return 1;
+    }
+    step_named(p, start, work, n)
+}
+
+// The process that the byte names moves by itself.
+fn moves_alone(p: &[u16], start: usize, work: &[u32], n: u8) -> bool
+    requires { ⌜ (start ≡ 2 + 20 * methods (now p)) × (8192 ≤ length (now work)) ⌝ }
+    ensures { λ r. ⌜ r ≡ alone (now (p .entry)) (now (work .entry)) n ⌝ }
+{
+    if 8 <= n {
+        return false;
+    }
+    let a = stand_of(p, start, work, ProcessNo(n as u16));
+    a.kind == 1
+}
+
+// A step may make the offer that others wait for, so after one the process is looked at, where anything is known.
+fn keep_known(p: &[u16], start: usize, work: &[u32], n: u8, mut known: Known, code: u32) -> Known
+    requires { ⌜ (start ≡ 2 + 20 * methods (now p)) × (8192 ≤ length (now work)) ⌝ }
+    ensures { λ r. ⌜ r ≡ stillKnown (now (p .entry)) (now (work .entry)) n known code ⌝ }
+{
+    if !known.some {
+        return known;
+    }
+    if code != 0 {
+        return known;
+    }
+    known.some = moves_alone(p, start, work, n);
+    known
+}
+
 pub fn plain_steps(
     p: &[u16],
     start: usize,
     work: &mut [u32],
     schedule: &[u8],
     from: usize,
-    known: bool,
+    known: Known,
 ) -> Burst
     requires { ⌜ (start ≡ 2 + 20 * methods (now p)) × (8192 ≤ length (now work)) × (from ≤ length (now schedule)) ⌝ }
     ensures { λ r. ⌜ stopsAt r (now (work .exit)) ≡ burstOp (now (p .entry)) (now (schedule .entry)) (now (work .entry)) from known (length (now (schedule .entry)) - from) ⌝ }
 {
     let mut k = from;
-    let mut able = known;
+    let mut sure = known;
     while k < schedule.len() {
-        let code = step_named(p, start, work, schedule[k]);
+        let n = schedule[k];
+        let code = step_unless_idle(p, start, work, n, sure);
         if 2 <= code {
             return Burst {
                 at: k,
                 code: code,
-                known: able,
+                known: sure,
             };
         }
-        if (code == 1) & !able {
+        if (code == 1) & !sure.some {
             return Burst {
                 at: k,
                 code: code,
-                known: able,
+                known: sure,
             };
         }
-        able = code == 1;
+        sure = keep_known(p, start, work, n, sure, code);
         k += 1;
     }
     Burst {
         at: k,
         code: 0,
-        known: able,
+        known: sure,
     }
 }

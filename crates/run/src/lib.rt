@@ -3,5 +3,6 @@ pub mod accepted;
 pub mod answer;
 pub mod begin;
 pub mod burst;
+pub mod known;
 pub mod turn;
 pub mod turns;

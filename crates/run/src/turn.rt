@@ -5,6 +5,8 @@ ghost use lib.ListN.{length};
 ghost use Rattle.table.specs.Table.{methods};
 ghost use Rattle.entries.specs.Came.{came};
 ghost use Rattle.run.specs.Turned.{turned, cameOp, turnOp};
+use super::known::Known;
+use super::known::nothing_known;
 use ability::ending::ending;
 use entries::came::Count;
 use entries::came::Moved;
@@ -12,13 +14,12 @@ use entries::came::stays;
 use entries::entry::entry;
 use names::ProcessNo;
 
-// End 0 is a run that goes on; then the lines written, the outcomes used, and whether some process is known to be able to
-// move.
+// End 0 is a run that goes on; then the lines written, the outcomes used, and what is known of the processes.
 pub struct Turn {
     pub end: u32,
     pub lines: u32,
     pub used: u32,
-    pub known: bool,
+    pub known: Known,
 }
 
 // The entry of the process that the byte names.
@@ -29,13 +30,13 @@ fn named_entry(
     trace: &mut [u16],
     work: &mut [u32],
     room: usize,
-    t: [[u16; 2]; 16],
+    t: &[[u16; 2]; 16],
     g: Count,
     n: u8,
     code: u32,
 ) -> Moved
     requires { ⌜ (start ≡ 2 + 20 * methods (now p)) × (8192 ≤ length (now work)) × (g .lines < 16000000) ⌝ }
-    ensures { λ r. ⌜ came r (now (trace .exit)) (now (work .exit)) ≡ cameOp (now (p .entry)) (now (outcomes .entry)) (now (trace .entry)) (now (work .entry)) room t g n code ⌝ }
+    ensures { λ r. ⌜ came r (now (trace .exit)) (now (work .exit)) ≡ cameOp (now (p .entry)) (now (outcomes .entry)) (now (trace .entry)) (now (work .entry)) room (now (t .entry)) g n code ⌝ }
 {
     if 8 <= n {
         return stays(g);
@@ -62,14 +63,14 @@ pub fn take_turn(
     trace: &mut [u16],
     work: &mut [u32],
     room: usize,
-    t: [[u16; 2]; 16],
+    t: &[[u16; 2]; 16],
     g: Count,
     n: u8,
     code: u32,
-    known: bool,
+    known: Known,
 ) -> Turn
     requires { ⌜ (start ≡ 2 + 20 * methods (now p)) × (8192 ≤ length (now work)) × (g .lines < 16000000) ⌝ }
-    ensures { λ r. ⌜ turned r (now (trace .exit)) (now (work .exit)) ≡ turnOp (now (p .entry)) (now (outcomes .entry)) (now (trace .entry)) (now (work .entry)) room t g n code known ⌝ }
+    ensures { λ r. ⌜ turned r (now (trace .exit)) (now (work .exit)) ≡ turnOp (now (p .entry)) (now (outcomes .entry)) (now (trace .entry)) (now (work .entry)) room (now (t .entry)) g n code known ⌝ }
 {
     let m = named_entry(p, start, outcomes, trace, work, room, t, g, n, code);
     if m.state == 2 {
@@ -77,7 +78,7 @@ pub fn take_turn(
             end: 3,
             lines: m.lines,
             used: m.used,
-            known: false,
+            known: nothing_known(),
         };
     }
     if m.state == 1 {
@@ -85,21 +86,21 @@ pub fn take_turn(
             end: 0,
             lines: m.lines,
             used: m.used,
-            known: false,
+            known: nothing_known(),
         };
     }
-    if known {
+    if known.some {
         return Turn {
             end: 0,
             lines: m.lines,
             used: m.used,
-            known: true,
+            known: known.with_idle(n),
         };
     }
     Turn {
         end: ending(p, start, work, t),
         lines: m.lines,
         used: m.used,
-        known: true,
+        known: known.with_idle(n),
     }
 }

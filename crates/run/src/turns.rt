@@ -12,6 +12,8 @@ ghost use Rattle.run.specs.Advanced.{advanced, advanceOp};
 ghost use Rattle.run.specs.Left.{leftAs, leaves};
 use super::burst::Burst;
 use super::burst::plain_steps;
+use super::known::Known;
+use super::known::nothing_known;
 use super::turn::Turn;
 use super::turn::take_turn;
 use ability::ending::ending;
@@ -34,7 +36,7 @@ pub struct Advance {
     pub at: usize,
     pub lines: u32,
     pub used: u32,
-    pub known: bool,
+    pub known: Known,
 }
 
 // Plain steps from entry k on, and then the entry at which they stop.
@@ -46,17 +48,18 @@ fn go_on(
     trace: &mut [u16],
     work: &mut [u32],
     room: usize,
-    t: [[u16; 2]; 16],
+    t: &[[u16; 2]; 16],
     k: usize,
     lines: u32,
     used: u32,
-    known: bool,
+    known: Known,
 ) -> Advance
     requires { ⌜ (start ≡ 2 + 20 * methods (now p)) × (8192 ≤ length (now work)) × (k ≤ length (now schedule)) × (length (now schedule) ≤ 65535) × (lines < 16000000) ⌝ }
-    ensures { λ r. ⌜ advanced r (now (trace .exit)) (now (work .exit)) ≡ advanceOp (now (p .entry)) (now (schedule .entry)) (now (outcomes .entry)) (now (trace .entry)) (now (work .entry)) room t k lines used known ⌝ }
+    ensures { λ r. ⌜ advanced r (now (trace .exit)) (now (work .exit)) ≡ advanceOp (now (p .entry)) (now (schedule .entry)) (now (outcomes .entry)) (now (trace .entry)) (now (work .entry)) room (now (t .entry)) k lines used known ⌝ }
 {
     let b = plain_steps(p, start, work, schedule, k, known);
     let at = b.at;
+    let sure = b.known;
     if schedule.len() <= at {
         return Advance {
             over: true,
@@ -64,7 +67,7 @@ fn go_on(
             at: at,
             lines: lines,
             used: used,
-            known: true,
+            known: known,
         };
     }
     let g = Count {
@@ -83,15 +86,16 @@ fn go_on(
         g,
         schedule[at],
         b.code,
-        b.known,
+        sure,
     );
+    let next = r.known;
     Advance {
         over: r.end != 0,
         end: r.end,
         at: at,
         lines: r.lines,
         used: r.used,
-        known: r.known,
+        known: next,
     }
 }
 
@@ -112,7 +116,7 @@ pub fn run_entries(
     let mut t = no_holders();
     let mut lines: u32 = 0;
     let mut used: u32 = 0;
-    let mut known = false;
+    let mut known = nothing_known();
     let mut k: usize = 0;
     while k < schedule.len() {
         let a = go_on(
@@ -123,7 +127,7 @@ pub fn run_entries(
             trace,
             work,
             room,
-            t,
+            &t,
             k,
             lines,
             used,
@@ -137,15 +141,18 @@ pub fn run_entries(
                 used: a.used,
             };
         }
-        let u = note_lines(t, trace, lines, a.lines);
-        t = u;
+        if lines < a.lines {
+            let u = note_lines(t, trace, lines, a.lines);
+            t = u;
+        }
         lines = a.lines;
         used = a.used;
-        known = a.known;
+        let next = a.known;
+        known = next;
         k = a.at + 1;
     }
     Over {
-        end: ending(p, start, work, t),
+        end: ending(p, start, work, &t),
         entries: k,
         lines: lines,
         used: used,

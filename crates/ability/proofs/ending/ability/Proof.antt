@@ -10,7 +10,7 @@ stand-of-requires c κs = search needs
 returns : tie.Need-returns
 returns c =
     let args = c .before .before .before .before .before .args in
-    no-offer (args .p .now) (args .work .now) (args .t) (args .n .0)
+    no-offer (args .p .now) (args .work .now) (args .t .now) (args .n .0)
     (c .before .before .stand-of .ensures) (c .if1 .taken)
 
 partner-requires : tie.Need-partner-requires
@@ -19,13 +19,13 @@ partner-requires c κs = search needs
 returns-2 : tie.Need-returns-2
 returns-2 c =
     let args = c .before .before .before .before .before .before .before .before .args in
-    unmet (args .p .now) (args .work .now) (args .t) (args .n .0)
+    unmet (args .p .now) (args .work .now) (args .t .now) (args .n .0)
     (c .before .before .before .before .before .stand-of .ensures) (c .before .before .before .if1 .left) (c .before .before .partner .ensures) (c .if2 .taken)
 
 returns-3 : tie.Need-returns-3
 returns-3 c =
     let args = c .before .before .before .before .before .before .before .before .args in
-    met (args .p .now) (args .work .now) (args .t) (args .n .0)
+    met (args .p .now) (args .work .now) (args .t .now) (args .n .0)
     (c .before .before .before .before .before .stand-of .ensures) (c .before .before .before .if1 .left) (c .before .before .partner .ensures) (c .if2 .left)
 
 pub ability-spec : {M : Type 1} → statement M

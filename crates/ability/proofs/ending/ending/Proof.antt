@@ -27,7 +27,7 @@ ability-requires c κs = search needs
 returns : tie.Need-returns Inv-loop μ-loop
 returns c =
     let args = c .before .before .before .before .before .before .args in
-    goes-on (args .p .now) (args .work .now) (args .t) 8 (c .before .before .before .loop .j) (c .before .before .loop-test .taken) (c .before .ability .ensures) (c .if1 .taken)
+    goes-on (args .p .now) (args .work .now) (args .t .now) 8 (c .before .before .before .loop .j) (c .before .before .loop-test .taken) (c .before .ability .ensures) (c .if1 .taken)
 
 add-j : tie.Need-add-j Inv-loop μ-loop
 add-j c = search needs
@@ -41,10 +41,10 @@ loop-again c =
     let loop = c .before .before .before .before .loop in
     let e = c .before .before .ability .ensures in (
       search needs,
-      not-one (args .p .now) (args .work .now) (args .t) 1 (loop .j) e (c .before .if1 .left) ∙ loop .inv .1,
+      not-one (args .p .now) (args .work .now) (args .t .now) 1 (loop .j) e (c .before .if1 .left) ∙ loop .inv .1,
       ⊎-elim
-          (λ w. w .1 ∙ sym (ap (λ (b : Bool). cond b 2 1) (one-more (args .p .now) (args .work .now) (args .t) 2 (loop .j) e (w .0 .taken))))
-          (λ w. w .1 ∙ loop .inv .2 ∙ sym (ap (λ (b : Bool). cond b 2 1) (not-one (args .p .now) (args .work .now) (args .t) 2 (loop .j) e (w .0 .left))))
+          (λ w. w .1 ∙ sym (ap (λ (b : Bool). cond b 2 1) (one-more (args .p .now) (args .work .now) (args .t .now) 2 (loop .j) e (w .0 .taken))))
+          (λ w. w .1 ∙ loop .inv .2 ∙ sym (ap (λ (b : Bool). cond b 2 1) (not-one (args .p .now) (args .work .now) (args .t .now) 2 (loop .j) e (w .0 .left))))
           (c .if2 .came),
     )
 
@@ -53,8 +53,8 @@ returns-2 c =
     let args = c .before .before .before .before .args in
     let loop = c .before .loop in
     let e : loop .j ≡ 8 = omega arith in
-    subst (λ (n : ℕ). loop .end ≡ endingOp (args .p .now) (args .work .now) (args .t) n) e
-    (over (args .p .now) (args .work .now) (args .t) (loop .j) (loop .inv .1) (loop .inv .2))
+    subst (λ (n : ℕ). loop .end ≡ endingOp (args .p .now) (args .work .now) (args .t .now) n) e
+    (over (args .p .now) (args .work .now) (args .t .now) (loop .j) (loop .inv .1) (loop .inv .2))
 
 pub ending-spec : {M : Type 1} → statement M
 ending-spec =

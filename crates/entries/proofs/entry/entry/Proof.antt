@@ -10,7 +10,7 @@ stays-requires c κs = search needs
 returns : tie.Need-returns
 returns c =
     let args = c .before .before .before .before .before .before .args in
-    entry-stays (args .p .now) (args .outcomes .now) (args .trace .now) (args .work .now) (args .room) (args .t) (args .g) (args .n .0) (args .code) (c .before .if1 .taken) (c .stays .ensures)
+    entry-stays (args .p .now) (args .outcomes .now) (args .trace .now) (args .work .now) (args .room) (args .t .now) (args .g) (args .n .0) (args .code) (c .before .if1 .taken) (c .stays .ensures)
 
 fork-entry-requires : tie.Need-fork-entry-requires
 fork-entry-requires c κs = search needs
@@ -24,7 +24,7 @@ same-length-2 c = search needs
 returns-2 : tie.Need-returns-2
 returns-2 c =
     let args = c .before .before .before .before .before .before .before .before .before .before .before .before .before .args in
-    entry-forks (args .p .now) (args .outcomes .now) (args .trace .now) (args .work .now) (args .room) (args .t) (args .g) (args .n .0) (args .code) (c .before .before .before .before .before .before .before .before .if1 .left) (c .before .before .before .before .before .before .before .if2 .taken) (c .before .before .before .before .fork-entry .ensures)
+    entry-forks (args .p .now) (args .outcomes .now) (args .trace .now) (args .work .now) (args .room) (args .t .now) (args .g) (args .n .0) (args .code) (c .before .before .before .before .before .before .before .before .if1 .left) (c .before .before .before .before .before .before .before .if2 .taken) (c .before .before .before .before .fork-entry .ensures)
 
 meet-entry-requires : tie.Need-meet-entry-requires
 meet-entry-requires c κs = search needs
@@ -38,7 +38,7 @@ same-length-4 c = search needs
 returns-3 : tie.Need-returns-3
 returns-3 c =
     let args = c .before .before .before .before .before .before .before .before .before .before .before .before .before .before .args in
-    entry-sends (args .p .now) (args .outcomes .now) (args .trace .now) (args .work .now) (args .room) (args .t) (args .g) (args .n .0) (args .code) (c .before .before .before .before .before .before .before .before .before .if1 .left) (c .before .before .before .before .before .before .before .before .if2 .left) (c .before .before .before .before .before .before .before .if3 .taken) (c .before .before .before .before .meet-entry .ensures)
+    entry-sends (args .p .now) (args .outcomes .now) (args .trace .now) (args .work .now) (args .room) (args .t .now) (args .g) (args .n .0) (args .code) (c .before .before .before .before .before .before .before .before .before .if1 .left) (c .before .before .before .before .before .before .before .before .if2 .left) (c .before .before .before .before .before .before .before .if3 .taken) (c .before .before .before .before .meet-entry .ensures)
 
 meet-entry-requires-2 : tie.Need-meet-entry-requires-2
 meet-entry-requires-2 c κs = search needs
@@ -52,7 +52,7 @@ same-length-6 c = search needs
 returns-4 : tie.Need-returns-4
 returns-4 c =
     let args = c .before .before .before .before .before .before .before .before .before .before .before .before .before .before .before .args in
-    entry-receives (args .p .now) (args .outcomes .now) (args .trace .now) (args .work .now) (args .room) (args .t) (args .g) (args .n .0) (args .code) (c .before .before .before .before .before .before .before .before .before .before .if1 .left) (c .before .before .before .before .before .before .before .before .before .if2 .left) (c .before .before .before .before .before .before .before .before .if3 .left) (c .before .before .before .before .before .before .before .if4 .taken) (c .before .before .before .before .meet-entry2 .ensures)
+    entry-receives (args .p .now) (args .outcomes .now) (args .trace .now) (args .work .now) (args .room) (args .t .now) (args .g) (args .n .0) (args .code) (c .before .before .before .before .before .before .before .before .before .before .if1 .left) (c .before .before .before .before .before .before .before .before .before .if2 .left) (c .before .before .before .before .before .before .before .before .if3 .left) (c .before .before .before .before .before .before .before .if4 .taken) (c .before .before .before .before .meet-entry2 .ensures)
 
 cast-single : tie.Need-cast-single
 cast-single c = search needs
@@ -69,7 +69,7 @@ same-length-8 c = search needs
 returns-5 : tie.Need-returns-5
 returns-5 c =
     let args = c .before .before .before .before .before .before .before .before .before .before .before .before .before .before .before .args in
-    entry-single (args .p .now) (args .outcomes .now) (args .trace .now) (args .work .now) (args .room) (args .t) (args .g) (args .n .0) (args .code) (c .before .before .before .before .before .before .before .before .before .before .if1 .left) (c .before .before .before .before .before .before .before .before .before .if2 .left) (c .before .before .before .before .before .before .before .before .if3 .left) (c .before .before .before .before .before .before .before .if4 .left) (c .before .before .before .before .single .ensures)
+    entry-single (args .p .now) (args .outcomes .now) (args .trace .now) (args .work .now) (args .room) (args .t .now) (args .g) (args .n .0) (args .code) (c .before .before .before .before .before .before .before .before .before .before .if1 .left) (c .before .before .before .before .before .before .before .before .before .if2 .left) (c .before .before .before .before .before .before .before .before .if3 .left) (c .before .before .before .before .before .before .before .if4 .left) (c .before .before .before .before .single .ensures)
 
 pub entry-spec : {M : Type 1} → statement M
 entry-spec =

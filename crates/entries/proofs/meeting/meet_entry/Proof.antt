@@ -19,7 +19,7 @@ same-length-2 c = search needs
 returns : tie.Need-returns
 returns c =
     let args = c .before .before .before .before .before .before .before .before .before .before .before .before .before .before .before .args in
-    meet-faults (args .p .now) (args .outcomes .now) (args .trace .now) (args .work .now) (args .room) (args .t) (args .g) (args .n .0) (c .before .before .before .before .before .before .before .before .before .stand-of .ensures) (c .before .before .before .before .before .before .before .if1 .taken) (c .before .before .before .before .single .ensures)
+    meet-faults (args .p .now) (args .outcomes .now) (args .trace .now) (args .work .now) (args .room) (args .t .now) (args .g) (args .n .0) (c .before .before .before .before .before .before .before .before .before .stand-of .ensures) (c .before .before .before .before .before .before .before .if1 .taken) (c .before .before .before .before .single .ensures)
 
 offer-requires : tie.Need-offer-requires
 offer-requires c κs = search needs
@@ -33,7 +33,7 @@ same-length-4 c = search needs
 returns-2 : tie.Need-returns-2
 returns-2 c =
     let args = c .before .before .before .before .before .before .before .before .before .before .before .before .before .before .before .args in
-    meet-offers (args .p .now) (args .outcomes .now) (args .trace .now) (args .work .now) (args .room) (args .t) (args .g) (args .n .0) (c .before .before .before .before .before .before .before .before .before .stand-of .ensures) (c .before .before .before .before .before .before .before .if1 .left) (c .before .before .before .before .offer .ensures)
+    meet-offers (args .p .now) (args .outcomes .now) (args .trace .now) (args .work .now) (args .room) (args .t .now) (args .g) (args .n .0) (c .before .before .before .before .before .before .before .before .before .stand-of .ensures) (c .before .before .before .before .before .before .before .if1 .left) (c .before .before .before .before .offer .ensures)
 
 pub meet-entry-spec : {M : Type 1} → statement M
 meet-entry-spec =

@@ -10,7 +10,7 @@ stays-requires c κs = search needs
 returns : tie.Need-returns
 returns c =
     let args = c .before .before .before .before .before .before .args in
-    names-none (args .p .now) (args .outcomes .now) (args .trace .now) (args .work .now) (args .room) (args .t) (args .g) (args .n) (args .code) (c .before .if1 .taken) (c .stays .ensures)
+    names-none (args .p .now) (args .outcomes .now) (args .trace .now) (args .work .now) (args .room) (args .t .now) (args .g) (args .n) (args .code) (c .before .if1 .taken) (c .stays .ensures)
 
 entry-requires : tie.Need-entry-requires
 entry-requires c κs = search needs
@@ -24,7 +24,7 @@ same-length-2 c = search needs
 returns-2 : tie.Need-returns-2
 returns-2 c =
     let args = c .before .before .before .before .before .before .before .before .before .before .before .before .args in
-    names-one (args .p .now) (args .outcomes .now) (args .trace .now) (args .work .now) (args .room) (args .t) (args .g) (args .n) (args .code) (c .before .before .before .before .before .before .before .if1 .left) (c .before .before .before .before .entry .ensures)
+    names-one (args .p .now) (args .outcomes .now) (args .trace .now) (args .work .now) (args .room) (args .t .now) (args .g) (args .n) (args .code) (c .before .before .before .before .before .before .before .if1 .left) (c .before .before .before .before .entry .ensures)
 
 pub named-entry-spec : {M : Type 1} → statement M
 named-entry-spec =

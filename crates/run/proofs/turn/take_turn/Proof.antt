@@ -7,6 +7,9 @@ use Rattle.run.proofs.turn.take_turn.Tie as tie
 named-entry-requires : tie.Need-named-entry-requires
 named-entry-requires c κs = search needs
 
+nothing-known-requires : tie.Need-nothing-known-requires
+nothing-known-requires c κs = search needs
+
 same-length : tie.Need-same-length
 same-length c = search needs
 
@@ -15,9 +18,12 @@ same-length-2 c = search needs
 
 returns : tie.Need-returns
 returns c =
-    let args = c .before .before .before .before .before .before .before .before .before .before .before .before .before .args in
-    turn-full (args .p .now) (args .outcomes .now) (args .trace .now) (args .work .now) (args .room) (args .t) (args .g) (args .n) (args .code) (args .known)
-    (c .before .before .before .before .before .before .named-entry .ensures) (c .if1 .taken)
+    let args = c .before .before .before .before .before .before .before .before .before .before .before .before .before .before .args in
+    turn-full (args .p .now) (args .outcomes .now) (args .trace .now) (args .work .now) (args .room) (args .t .now) (args .g) (args .n) (args .code) (args .known)
+    (c .before .before .before .before .before .before .before .named-entry .ensures) (c .before .if1 .taken) (c .nothing-known .ensures)
+
+nothing-known-requires-2 : tie.Need-nothing-known-requires-2
+nothing-known-requires-2 c κs = search needs
 
 same-length-3 : tie.Need-same-length-3
 same-length-3 c = search needs
@@ -27,9 +33,12 @@ same-length-4 c = search needs
 
 returns-2 : tie.Need-returns-2
 returns-2 c =
-    let args = c .before .before .before .before .before .before .before .before .before .before .before .before .before .before .before .args in
-    turn-moves (args .p .now) (args .outcomes .now) (args .trace .now) (args .work .now) (args .room) (args .t) (args .g) (args .n) (args .code) (args .known)
-    (c .before .before .before .before .before .before .before .before .named-entry .ensures) (c .before .before .if1 .left) (c .if2 .taken)
+    let args = c .before .before .before .before .before .before .before .before .before .before .before .before .before .before .before .before .args in
+    turn-moves (args .p .now) (args .outcomes .now) (args .trace .now) (args .work .now) (args .room) (args .t .now) (args .g) (args .n) (args .code) (args .known)
+    (c .before .before .before .before .before .before .before .before .before .named-entry .ensures) (c .before .before .before .if1 .left) (c .before .if2 .taken) (c .nothing-known2 .ensures)
+
+with-idle-requires : tie.Need-with-idle-requires
+with-idle-requires c κs = search needs
 
 same-length-5 : tie.Need-same-length-5
 same-length-5 c = search needs
@@ -39,12 +48,15 @@ same-length-6 c = search needs
 
 returns-3 : tie.Need-returns-3
 returns-3 c =
-    let args = c .before .before .before .before .before .before .before .before .before .before .before .before .before .before .before .before .args in
-    turn-idles (args .p .now) (args .outcomes .now) (args .trace .now) (args .work .now) (args .room) (args .t) (args .g) (args .n) (args .code) (args .known)
-    (c .before .before .before .before .before .before .before .before .before .named-entry .ensures) (c .before .before .before .if1 .left) (c .before .if2 .left) (c .if3 .taken)
+    let args = c .before .before .before .before .before .before .before .before .before .before .before .before .before .before .before .before .before .args in
+    turn-idles (args .p .now) (args .outcomes .now) (args .trace .now) (args .work .now) (args .room) (args .t .now) (args .g) (args .n) (args .code) (args .known)
+    (c .before .before .before .before .before .before .before .before .before .before .named-entry .ensures) (c .before .before .before .before .if1 .left) (c .before .before .if2 .left) (c .before .if3 .taken) (c .with-idle .ensures)
 
 ending-requires : tie.Need-ending-requires
 ending-requires c κs = search needs
+
+with-idle-requires-2 : tie.Need-with-idle-requires-2
+with-idle-requires-2 c κs = search needs
 
 same-length-7 : tie.Need-same-length-7
 same-length-7 c = search needs
@@ -54,25 +66,29 @@ same-length-8 c = search needs
 
 returns-4 : tie.Need-returns-4
 returns-4 c =
-    let args = c .before .before .before .before .before .before .before .before .before .before .before .before .before .before .before .before .before .before .args in
-    turn-asks (args .p .now) (args .outcomes .now) (args .trace .now) (args .work .now) (args .room) (args .t) (args .g) (args .n) (args .code) (args .known)
-    (c .before .before .before .before .before .before .before .before .before .before .before .named-entry .ensures) (c .before .before .before .before .before .if1 .left) (c .before .before .before .if2 .left) (c .before .before .if3 .left) (c .ending .ensures)
+    let args = c .before .before .before .before .before .before .before .before .before .before .before .before .before .before .before .before .before .before .before .args in
+    turn-asks (args .p .now) (args .outcomes .now) (args .trace .now) (args .work .now) (args .room) (args .t .now) (args .g) (args .n) (args .code) (args .known)
+    (c .before .before .before .before .before .before .before .before .before .before .before .before .named-entry .ensures) (c .before .before .before .before .before .before .if1 .left) (c .before .before .before .before .if2 .left) (c .before .before .before .if3 .left) (c .before .ending .ensures) (c .with-idle2 .ensures)
 
 pub take-turn-spec : {M : Type 1} → statement M
 take-turn-spec =
     tie.close
     (tie.spec
     named-entry-requires
+    nothing-known-requires
     same-length
     same-length-2
     returns
+    nothing-known-requires-2
     same-length-3
     same-length-4
     returns-2
+    with-idle-requires
     same-length-5
     same-length-6
     returns-3
     ending-requires
+    with-idle-requires-2
     same-length-7
     same-length-8
     returns-4)

@@ -15,12 +15,12 @@ same-length c = search needs
 
 returns : tie.Need-returns
 returns c =
-    let args = c .before .before .before .before .before .before .before .before .before .before .before .before .args in
-    advance-ends (args .p .now) (args .schedule .now) (args .outcomes .now) (args .trace .now) (args .work .now) (args .room) (args .t) (args .k) (args .lines) (args .used) (args .known)
-    (c .before .before .before .before .before .plain-steps .ensures) (c .before .before .if1 .taken) (c .ending .ensures)
+    let args = c .before .before .before .before .before .before .before .before .before .before .before .before .before .args in
+    advance-ends (args .p .now) (args .schedule .now) (args .outcomes .now) (args .trace .now) (args .work .now) (args .room) (args .t .now) (args .k) (args .lines) (args .used) (args .known)
+    (c .before .before .before .before .before .before .plain-steps .ensures) (c .before .before .if1 .taken) (c .ending .ensures)
 
-cast-t24 : tie.Need-cast-t24
-cast-t24 c = search needs
+cast-t26 : tie.Need-cast-t26
+cast-t26 c = search needs
 
 shared-slice-read-take-turn : tie.Need-shared-slice-read-take-turn
 shared-slice-read-take-turn c = search needs
@@ -36,9 +36,9 @@ same-length-3 c = search needs
 
 returns-2 : tie.Need-returns-2
 returns-2 c =
-    let args = c .before .before .before .before .before .before .before .before .before .before .before .before .before .before .before .before .before .before .before .args in
-    advance-turns (args .p .now) (args .schedule .now) (args .outcomes .now) (args .trace .now) (args .work .now) (args .room) (args .t) (args .k) (args .lines) (args .used) (args .known)
-    (c .before .before .before .before .before .before .before .before .before .before .before .before .plain-steps .ensures) (c .before .before .before .before .before .before .before .before .before .if1 .left) (c .before .before .before .before .before .take-turn .ensures)
+    let args = c .before .before .before .before .before .before .before .before .before .before .before .before .before .before .before .before .before .before .before .before .before .args in
+    advance-turns (args .p .now) (args .schedule .now) (args .outcomes .now) (args .trace .now) (args .work .now) (args .room) (args .t .now) (args .k) (args .lines) (args .used) (args .known)
+    (c .before .before .before .before .before .before .before .before .before .before .before .before .before .before .plain-steps .ensures) (c .before .before .before .before .before .before .before .before .before .before .if1 .left) (c .before .before .before .before .before .before .take-turn .ensures)
 
 pub go-on-spec : {M : Type 1} → statement M
 go-on-spec =
@@ -48,7 +48,7 @@ go-on-spec =
     ending-requires
     same-length
     returns
-    cast-t24
+    cast-t26
     shared-slice-read-take-turn
     take-turn-requires
     same-length-2

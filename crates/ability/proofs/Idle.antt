@@ -1,0 +1,74 @@
+-- A process that cannot move stays so while others move, as long as none of those comes to stand at an offer; one that
+-- moves by itself can.
+use Prim.Native.Nat.{ℕ, _%_, _≤_, _<_}
+use mathlib.Core.Path.{_≡_, refl, sym, _∙_, ap, subst}
+use mathlib.Core.Logic.{_≢_, _⊎_, inl, inr, ⊎-elim}
+use mathlib.Core.Bool.{Bool, true, false, cond, _&&_, _||_}
+use mathlib.Core.List.{List}
+use native.Mathlib.Omega.{arith}
+use lib.Dec.{eqb, leb, ltb}
+use borrow.Author.Tests.{ne-eqb, leb-false}
+use Rattle.parts.specs.Parts.{partOf}
+use Rattle.holders.specs.Holders.{holderIn}
+use Rattle.offers.specs.declared.stand.Stand.{Stand}
+use Rattle.offers.specs.Stands.{standOp, meetsOp}
+use Rattle.ability.specs.Partner.{oppositeOf, readyOp, partnerOp}
+use Rattle.ability.specs.Ending.{abilityOf, abilityOp}
+
+-- nothing meets a stand that is no offer
+no-offer-meets : (a b : Stand) → b .kind < 2 → meetsOp a b ≡ false
+unfolding meetsOp
+no-offer-meets a b h =
+    rw (ne-eqb (b .kind) 3 (λ e. absurd (omega (arith, e, h))), ne-eqb (b .kind) 2 (λ e. absurd (omega (arith, e, h))))
+    (none (eqb (a .kind) 2) (eqb (a .kind) 3) _ _)
+  where
+    none : (x y v w : Bool) → (((x && false || y && false) && v) && w) ≡ false
+    none true true v w = refl
+    none true false v w = refl
+    none false true v w = refl
+    none false false v w = refl
+
+module _ (p work work′ : List ℕ) (t : List (List ℕ)) (n : ℕ) (own : partOf work′ n ≡ partOf work n)
+    (others : (q : ℕ) → q < 8 → (partOf work′ q ≡ partOf work q) ⊎ (standOp p (partOf work′ q) .kind < 2)) where
+  -- its partner is who it was, or nobody
+  ready-still : (a : Stand) (q : ℕ) → (readyOp p work′ n a q ≡ readyOp p work n a q) ⊎ (readyOp p work′ n a q ≡ 65535)
+  unfolding readyOp
+  ready-still a q = near (eqb q n) (leb 8 q) refl
+    where
+      met : List ℕ → ℕ
+      met w = cond (meetsOp a (standOp p (partOf w q))) q 65535
+
+      near : (x y : Bool) → leb 8 q ≡ y
+          → (cond x 65535 (cond y 65535 (met work′)) ≡ cond x 65535 (cond y 65535 (met work))) ⊎ (cond x 65535 (cond y 65535 (met work′)) ≡ 65535)
+      near true y e = inr refl
+      near false true e = inr refl
+      near false false e =
+          ⊎-elim (λ s. inl (ap (λ (w : List ℕ). cond (meetsOp a (standOp p w)) q 65535) s))
+          (λ s. inr (ap (λ (b : Bool). cond b q 65535) (no-offer-meets a (standOp p (partOf work′ q)) s)))
+          (others q (leb-false 8 q e))
+
+  pub still-unable : abilityOp p work t n ≢ 1 → abilityOp p work′ t n ≢ 1
+  unfolding abilityOp abilityOf partnerOp
+  still-unable h e =
+      ⊎-elim (λ s. h (sym (ap (λ (q : ℕ). by (ltb (a .kind) 2) q) s) ∙ same)) (λ s. waits (ltb (a .kind) 2) (sym (ap (λ (q : ℕ). by (ltb (a .kind) 2) q) s) ∙ same) h)
+      (ready-still a (holderIn t (a .end .number % 65536) (oppositeOf (a .end .tag))))
+    where
+      a : Stand
+      a = standOp p (partOf work n)
+
+      by : Bool → ℕ → ℕ
+      by b q = cond b (a .kind) (cond (eqb q 65535) 2 1)
+
+      same : by (ltb (a .kind) 2) (readyOp p work′ n a (holderIn t (a .end .number % 65536) (oppositeOf (a .end .tag)))) ≡ 1
+      same = ap (λ (w : List ℕ). abilityOf p work′ t n (standOp p w)) (sym own) ∙ e
+
+      waits : (b : Bool) → by b 65535 ≡ 1
+          → by b (readyOp p work n a (holderIn t (a .end .number % 65536) (oppositeOf (a .end .tag)))) ≢ 1 → ⊥
+      waits true i u = u i
+      waits false i u = absurd (omega (arith, i))
+
+-- a process that moves by itself is able to move
+pub alone-able : (p work : List ℕ) (t : List (List ℕ)) (n : ℕ) → standOp p (partOf work n) .kind ≡ 1 → abilityOp p work t n ≡ 1
+unfolding abilityOp abilityOf
+alone-able p work t n e =
+    ap (λ (i : ℕ). cond (ltb i 2) i (cond (eqb (partnerOp p work t n (standOp p (partOf work n))) 65535) 2 1)) e

@@ -1,0 +1,85 @@
+-- What is known of the processes, by what was read and how the tests came out.
+use Prim.Native.Nat.{ℕ, _≤_, _<_}
+use mathlib.Core.Path.{_≡_, refl, sym, _∙_, ap}
+use mathlib.Core.Bool.{Bool, true, false, cond, not}
+use mathlib.Core.List.{List}
+use lib.ListN.{getD, replicate}
+use lib.Dec.{eqb}
+use borrow.Author.Tests.{eq-eqb, ne-eqb, le-leb, lt-leb}
+use Rattle.ops.proofs.Returns.{took, passed-by}
+use Rattle.parts.specs.Parts.{partOf}
+use Rattle.offers.specs.declared.stand.Stand.{Stand}
+use Rattle.offers.specs.Stands.{standOp}
+use Rattle.run.specs.declared.known.Known.{Known}
+use Rattle.run.specs.Knowing.{marked, isIdle, withIdle, alone, stillKnown}
+
+-- a test that was negated
+
+no-longer : (b : Bool) → not b ≡ true → b ≡ false
+no-longer true e = sym e
+no-longer false e = refl
+
+still : (b : Bool) → not b ≡ false → b ≡ true
+still true e = refl
+still false e = sym e
+
+-- the marks
+
+module _ (known : Known) (n : ℕ) where
+  pub none-idle : not (known .some) ≡ true → false ≡ isIdle known n
+  unfolding isIdle
+  none-idle e = passed-by _ _ _ refl (no-longer (known .some) e) refl
+
+  pub beyond-idle : not (known .some) ≡ false → 8 ≤ n → false ≡ isIdle known n
+  unfolding isIdle
+  beyond-idle e h = took _ _ _ refl (still (known .some) e) (took _ _ _ refl (le-leb 8 n h) refl)
+
+  pub mark-read : not (known .some) ≡ false → n < 8 → getD (known .idle) n false ≡ isIdle known n
+  unfolding isIdle
+  mark-read e h = took _ _ _ refl (still (known .some) e) (passed-by _ _ _ refl (lt-leb 8 n h) refl)
+
+  pub marks-on : {idle : List Bool} → known .some ≡ true → idle ≡ marked (known .idle) n → record { some = true; idle = idle } ≡ withIdle known n
+  unfolding withIdle
+  marks-on e h = ap with-marks (h ∙ ap (λ (l : List Bool). marked l n) (took _ _ (replicate 8 false) refl e refl))
+    where
+      with-marks : List Bool → Known
+      with-marks l = record { some = true; idle = l }
+
+  pub marks-anew : {idle : List Bool} → known .some ≡ false → idle ≡ marked (replicate 8 false) n → record { some = true; idle = idle } ≡ withIdle known n
+  unfolding withIdle
+  marks-anew e h = ap with-marks (h ∙ ap (λ (l : List Bool). marked l n) (passed-by _ (known .idle) _ refl e refl))
+    where
+      with-marks : List Bool → Known
+      with-marks l = record { some = true; idle = l }
+
+-- what is known still
+
+module _ (p work : List ℕ) (n : ℕ) (known : Known) (code : ℕ) where
+  pub knew-nothing : not (known .some) ≡ true → known ≡ stillKnown p work n known code
+  unfolding stillKnown
+  knew-nothing e = λ i. record { some = passed-by (known .some) (cond (eqb code 0) (alone p work n) true) false refl (no-longer (known .some) e) (no-longer (known .some) e) i; idle = known .idle }
+
+  pub no-step : not (known .some) ≡ false → (code ≡ 0 → ⊥) → known ≡ stillKnown p work n known code
+  unfolding stillKnown
+  no-step e h = λ i. record {
+    some = took (known .some) (cond (eqb code 0) (alone p work n) true) false refl (still (known .some) e) (passed-by (eqb code 0) (alone p work n) true refl (ne-eqb code 0 h) (still (known .some) e)) i;
+    idle = known .idle;
+  }
+
+  pub looked-at : not (known .some) ≡ false → code ≡ 0 → {b : Bool} → b ≡ alone p work n
+      → record { some = b; idle = known .idle } ≡ stillKnown p work n known code
+  unfolding stillKnown
+  looked-at e h {b} q = λ i. record {
+    some = took (known .some) (cond (eqb code 0) (alone p work n) true) false refl (still (known .some) e) (took (eqb code 0) (alone p work n) true refl (eq-eqb code 0 h) q) i;
+    idle = known .idle;
+  }
+
+-- a process's stand was read
+
+pub beyond-alone : (p work : List ℕ) (n : ℕ) → 8 ≤ n → false ≡ alone p work n
+unfolding alone
+beyond-alone p work n h = took _ _ _ refl (le-leb 8 n h) refl
+
+pub stand-alone : (p work : List ℕ) (n : ℕ) {a : Stand} → n < 8 → a ≡ standOp p (partOf work n) → eqb (a .kind) 1 ≡ alone p work n
+unfolding alone
+stand-alone p work n h e = passed-by _ _ _ refl (lt-leb 8 n h) (ap (λ (b : Stand). eqb (b .kind) 1) e)
