@@ -26,18 +26,6 @@ still false e = sym e
 -- the marks
 
 module _ (known : Known) (n : ℕ) where
-  pub none-idle : not (known .some) ≡ true → false ≡ isIdle known n
-  unfolding isIdle
-  none-idle e = passed-by _ _ _ refl (no-longer (known .some) e) refl
-
-  pub beyond-idle : not (known .some) ≡ false → 8 ≤ n → false ≡ isIdle known n
-  unfolding isIdle
-  beyond-idle e h = took _ _ _ refl (still (known .some) e) (took _ _ _ refl (le-leb 8 n h) refl)
-
-  pub mark-read : not (known .some) ≡ false → n < 8 → getD (known .idle) n false ≡ isIdle known n
-  unfolding isIdle
-  mark-read e h = took _ _ _ refl (still (known .some) e) (passed-by _ _ _ refl (lt-leb 8 n h) refl)
-
   pub marks-on : {idle : List Bool} → known .some ≡ true → idle ≡ marked (known .idle) n → record { some = true; idle = idle } ≡ withIdle known n
   unfolding withIdle
   marks-on e h = ap with-marks (h ∙ ap (λ (l : List Bool). marked l n) (took _ _ (replicate 8 false) refl e refl))

@@ -47,7 +47,7 @@ use Rattle.run.specs.declared.turn.Turn.{Turn}
 use Rattle.run.specs.declared.burst.Burst.{Burst}
 use Rattle.run.specs.declared.known.Known.{Known}
 use Rattle.run.specs.Knowing.{unknown, marked, isIdle, withIdle, alone, stillKnown}
-use Rattle.run.specs.Bursts.{Stop, stopsAt, namedOp, idleOr, burstOp}
+use Rattle.run.specs.Bursts.{Stop, stopsAt, namedOp, burstOp}
 use Rattle.run.specs.Turned.{Turned, turned, cameOp, turnedBy, turnOp}
 use Rattle.run.specs.declared.turns.Advance.{Advance}
 use Rattle.run.specs.Advanced.{Advanced, advanced, usedUp, turnedAt, advancedFrom, advanceOp}
@@ -263,41 +263,39 @@ module _ (p : List ℕ) (kept : Kept p) (narrow : (i : ℕ) → argAt p i < 6553
       pub words : d .words ≡ work₀
       pub came : cameOp p outcomes trace₀ work₀ room t count₀ named (d .code) ≡ comesTo
 
-    named-law : {work trace : List ℕ} {t : List (List ℕ)} {lines used : ℕ} {known : Known} → Ready k work trace t lines used known
-        → Stepped (namedOp p work₀ named) ⊎ Stopped t (namedOp p work₀ named)
-    unfolding namedOp able moves onPart cameOp effectOf
-    named-law {work} {trace} {t} {lines} {used} {known} r = go (leb 8 named) refl
-      where
-        low : at k .used < 4000000000
-        low = omega (arith, r .fewUsed, r .inside, short)
+    module _ {work trace : List ℕ} {t : List (List ℕ)} {lines used : ℕ} {known : Known} (r : Ready k work trace t lines used known) where
+      -- no process can have that number
+      far-law : 8 ≤ named → Stopped t (did 1 work₀)
+      unfolding able moves cameOp effectOf
+      far-law h = record {
+        code = λ e. absurd (omega (arith, e));
+        words = refl;
+        came = ap (λ (b : Bool). cond b (came (stayedAt count₀) trace₀ work₀) (entryOp p outcomes trace₀ work₀ room t count₀ named 1)) (le-leb 8 named h)
+            ∙ sym (ap (λ (b : Bool). comes b (fits room (at k) effect)) unmade);
+      }
+        where
+          unmade : able p outcomes (at k) named ≡ false
+          unmade = ap (moves p outcomes (at k) named) (unmade-idle p outcomes (at k) named (omega (arith, h, sound p kept narrow outcomes bytes (at k) ks typed rest .processCount)))
 
-        far : 8 ≤ named → able p outcomes (at k) named ≡ false
-        far h = ap (moves p outcomes (at k) named) (unmade-idle p outcomes (at k) named (omega (arith, h, sound p kept narrow outcomes bytes (at k) ks typed rest .processCount)))
+      low-used : at k .used < 4000000000
+      low-used = omega (arith, r .fewUsed, r .inside, short)
 
-        near : named < 8 → Stepped (onPart work₀ named (stepOp p (partOf work₀ named))) ⊎ Stopped t (onPart work₀ named (stepOp p (partOf work₀ named)))
-        near h =
-            ⊎-elim
-            (λ (x : Plain p kept narrow outcomes bytes (at k) ks typed rest t0 room holds low k named owned t (r .table) h (stepOp p (partOf work₀ named))).
-            inl (record { code = x .code; can = x .can; words = x .words; lines = x .lines; used = x .used }))
-            (λ (x : Other p kept narrow outcomes bytes (at k) ks typed rest t0 room holds low k named owned t (r .table) h (stepOp p (partOf work₀ named))).
-            inr (record {
-              code = x .code;
-              words = ap (withPart work₀ named) (x .words) ∙ part-same work₀ named;
-              came = ap (λ (b : Bool). cond b (came (stayedAt count₀) trace₀ work₀) (entryOp p outcomes trace₀ work₀ room t count₀ named (stepOp p (partOf work₀ named) .code))) (lt-leb 8 named h) ∙ x .entry;
-            }))
-            (entry-law p kept narrow outcomes bytes (at k) ks typed rest t0 room holds low k named owned t (r .table) h)
+      abbrev step₀ : Did
+      step₀ = stepOp p (partOf work₀ named)
 
-        go : (b : Bool) → leb 8 named ≡ b
-            → Stepped (cond b (did 1 work₀) (onPart work₀ named (stepOp p (partOf work₀ named))))
-            ⊎ Stopped t (cond b (did 1 work₀) (onPart work₀ named (stepOp p (partOf work₀ named))))
-        go true h =
-            inr (record {
-              code = λ e. absurd (omega (arith, e));
-              words = refl;
-              came = ap (λ (b : Bool). cond b (came (stayedAt count₀) trace₀ work₀) (entryOp p outcomes trace₀ work₀ room t count₀ named 1)) h
-                  ∙ sym (ap (λ (b : Bool). comes b (fits room (at k) effect)) (far (leb-true 8 named h)));
-            })
-        go false h = near (leb-false 8 named h)
+      near-law : named < 8 → Stepped (onPart work₀ named step₀) ⊎ Stopped t (onPart work₀ named step₀)
+      unfolding onPart cameOp able moves effectOf applied
+      near-law h =
+          ⊎-elim
+          (λ (x : Plain p kept narrow outcomes bytes (at k) ks typed rest t0 room holds low-used k named owned t (r .table) h step₀).
+          inl (record { code = x .code; can = x .can; words = x .words; lines = x .lines; used = x .used }))
+          (λ (x : Other p kept narrow outcomes bytes (at k) ks typed rest t0 room holds low-used k named owned t (r .table) h step₀).
+          inr (record {
+            code = x .code;
+            words = ap (withPart work₀ named) (x .words) ∙ part-same work₀ named;
+            came = ap (λ (b : Bool). cond b (came (stayedAt count₀) trace₀ work₀) (entryOp p outcomes trace₀ work₀ room t count₀ named (step₀ .code))) (lt-leb 8 named h) ∙ x .entry;
+          }))
+          (entry-law p kept narrow outcomes bytes (at k) ks typed rest t0 room holds low-used k named owned t (r .table) h)
 
     -- the same words and counts, by whatever names
     ready-as : {work work′ trace trace′ : List ℕ} {t : List (List ℕ)} {lines lines′ used used′ : ℕ} {known : Known} → Ready k work trace t lines used known
@@ -358,16 +356,14 @@ module _ (p : List ℕ) (kept : Kept p) (narrow : (i : ℕ) → argAt p i < 6553
       goes-on n h a = able-goes p outcomes (at k) n (ability n h ∙ eq-eqb (abilityOp p work₀ t n) 1 a)
 
     -- a process known not to be able to move is not
-    known-idle : {t : List (List ℕ)} {known : Known} → Ready k work₀ trace₀ t (length (at k .lines)) (at k .used) known → isIdle known named ≡ true
-        → (known .some ≡ true) × (able p outcomes (at k) named ≡ false)
+    known-idle : {t : List (List ℕ)} {known : Known} → Ready k work₀ trace₀ t (length (at k .lines)) (at k .used) known → named < 8
+        → isIdle known named ≡ true → (known .some ≡ true) × (able p outcomes (at k) named ≡ false)
     unfolding isIdle
-    known-idle {t} {known} r e = go (known .some) (leb 8 named) refl refl e
+    known-idle {t} {known} r l e = go (known .some) refl e
       where
-        go : (x y : Bool) → known .some ≡ x → leb 8 named ≡ y → cond x (cond y false (getD (known .idle) named false)) false ≡ true
-            → (x ≡ true) × (able p outcomes (at k) named ≡ false)
-        go true true i j h = absurd (true≢false (sym h))
-        go true false i j h = (refl, not-able (r .table) named (leb-false 8 named j) (r .idle i named (leb-false 8 named j) h))
-        go false y i j h = absurd (true≢false (sym h))
+        go : (b : Bool) → known .some ≡ b → (b && getD (known .idle) named false) ≡ true → (b ≡ true) × (able p outcomes (at k) named ≡ false)
+        go true i h = (refl, not-able (r .table) named l (r .idle i named l h))
+        go false i h = absurd (true≢false (sym h))
 
     -- one more process that is not able to move
     idle-more : {t : List (List ℕ)} {known : Known} → Ready k work₀ trace₀ t (length (at k .lines)) (at k .used) known
@@ -514,8 +510,7 @@ module _ (p : List ℕ) (kept : Kept p) (narrow : (i : ℕ) → argAt p i < 6553
           (r .idle i n h e)
         where
           unmarked : getD (known .idle) (named k) false ≡ false
-          unmarked =
-              sym (ap₂ (λ (x y : Bool). cond x (cond y false (getD (known .idle) (named k) false)) false) i (lt-leb 8 (named k) low)) ∙ free
+          unmarked = sym (ap (λ (b : Bool). b && getD (known .idle) (named k) false) i) ∙ free
 
           ne : n ≢ named k
           ne j = true≢false (sym e ∙ ap (λ (m : ℕ). getD (known .idle) m false) j ∙ unmarked)
@@ -561,39 +556,33 @@ module _ (p : List ℕ) (kept : Kept p) (narrow : (i : ℕ) → argAt p i < 6553
             ready-as (suc k) (ready-idle k r l a (r .sure i) (stillKnown p (d .words) (named k) known (d .code)) (λ j. r .idle i)) w refl refl refl;
       }
 
-      pass-step : (d : Did) → Stepped k d → d ≡ namedOp p (work₀ k) (named k) → isIdle known (named k) ≡ false → Passed t known d
-      unfolding stillKnown alone namedOp onPart
-      pass-step d x e free = record {
+      pass-step : named k < 8 → isIdle known (named k) ≡ false → Stepped k (onPart (work₀ k) (named k) (stepOp p (partOf (work₀ k) (named k))))
+          → Passed t known (onPart (work₀ k) (named k) (stepOp p (partOf (work₀ k) (named k))))
+      unfolding stillKnown alone onPart
+      pass-step low free x = record {
         low = ap (leb 2) (x .code);
         goes = ap (λ (n : ℕ). eqb n 1 && not (known .some)) (x .code);
         ready =
             ready-plain k r l (x .can) (x .lines) (x .used) (d .words) (x .words) (stillKnown p (d .words) (named k) known (d .code))
-            (λ i. stepped-goes r d x (near i) ws (words (near i)) (by-itself i))
-            (λ i. stepped-idle r d x (near i) ws (words (near i)) (by-itself i) (still-some (d .words) (d .code) i) free);
+            (λ i. stepped-goes r d x low ws refl (by-itself i))
+            (λ i. stepped-idle r d x low ws refl (by-itself i) (still-some (d .words) (d .code) i) free);
       }
         where
+          d : Did
+          d = onPart (work₀ k) (named k) (stepOp p (partOf (work₀ k) (named k)))
+
           ws : List ℕ
           ws = stepOp p (partOf (work₀ k) (named k)) .words
 
-          stands : stillKnown p (d .words) (named k) known (d .code) .some ≡ true → (named k < 8) × (standOp p (partOf (d .words) (named k)) .kind ≡ 1)
-          stands i = go (known .some) (leb 8 (named k)) refl (sym (ap (λ (c : ℕ). cond (known .some) (cond (eqb c 0) (alone p (d .words) (named k)) true) false) (x .code)) ∙ i)
-            where
-              go : (x y : Bool) → leb 8 (named k) ≡ y → cond x (cond y false (eqb (standOp p (partOf (d .words) (named k)) .kind) 1)) false ≡ true
-                  → (named k < 8) × (standOp p (partOf (d .words) (named k)) .kind ≡ 1)
-              go true true j h = absurd (true≢false (sym h))
-              go true false j h = (leb-false 8 (named k) j, eqb-true (standOp p (partOf (d .words) (named k)) .kind) 1 h)
-              go false y j h = absurd (true≢false (sym h))
-
-          near : stillKnown p (d .words) (named k) known (d .code) .some ≡ true → named k < 8
-          near i = stands i .0
-
           by-itself : stillKnown p (d .words) (named k) known (d .code) .some ≡ true → standOp p (partOf (d .words) (named k)) .kind ≡ 1
-          by-itself i = stands i .1
-
-          words : named k < 8 → d .words ≡ withPart (work₀ k) (named k) ws
-          words h =
-              ap (λ (c : Did). c .words) e
-              ∙ ap (λ (b : Bool). cond b (did 1 (work₀ k)) (onPart (work₀ k) (named k) (stepOp p (partOf (work₀ k) (named k)))) .words) (lt-leb 8 (named k) h)
+          by-itself i =
+              go (known .some)
+              (sym (ap₂ (λ (c : ℕ) (b : Bool). cond (known .some) (cond (eqb c 0) (cond b false (eqb (standOp p (partOf (d .words) (named k)) .kind) 1)) true) false)
+              (x .code) (lt-leb 8 (named k) low)) ∙ i)
+            where
+              go : (b : Bool) → cond b (eqb (standOp p (partOf (d .words) (named k)) .kind) 1) false ≡ true → standOp p (partOf (d .words) (named k)) .kind ≡ 1
+              go true h = eqb-true (standOp p (partOf (d .words) (named k)) .kind) 1 h
+              go false h = absurd (true≢false (sym h))
 
       hold : (d : Did) → Stopped k t d → Passed t known d ⊎ Held t known d
       hold d x = far (leb 2 (d .code)) refl
@@ -620,14 +609,21 @@ module _ (p : List ℕ) (kept : Kept p) (narrow : (i : ℕ) → argAt p i < 6553
           far true h = inr (record { stops = inl h; words = x .words; came = x .came })
           far false h = near (known .some) refl (one (leb-false 2 (d .code) h))
 
-      plain-law : Passed t known (idleOr p (work₀ k) (named k) known) ⊎ Held t known (idleOr p (work₀ k) (named k) known)
-      unfolding idleOr
-      plain-law = go (isIdle known (named k)) refl
+      plain-law : Passed t known (namedOp p (work₀ k) (named k) known) ⊎ Held t known (namedOp p (work₀ k) (named k) known)
+      unfolding namedOp
+      plain-law = go (leb 8 (named k)) (isIdle known (named k)) refl refl
         where
-          go : (b : Bool) → isIdle known (named k) ≡ b
-              → Passed t known (cond b (did 1 (work₀ k)) (namedOp p (work₀ k) (named k))) ⊎ Held t known (cond b (did 1 (work₀ k)) (namedOp p (work₀ k) (named k)))
-          go true i = inl (pass-idle (did 1 (work₀ k)) refl refl (known-idle k r i .0) (known-idle k r i .1))
-          go false i = ⊎-elim (λ x. inl (pass-step (namedOp p (work₀ k) (named k)) x refl i)) (hold (namedOp p (work₀ k) (named k))) (named-law k r)
+          steps : Did
+          steps = onPart (work₀ k) (named k) (stepOp p (partOf (work₀ k) (named k)))
+
+          go : (a b : Bool) → leb 8 (named k) ≡ a → isIdle known (named k) ≡ b
+              → Passed t known (cond a (did 1 (work₀ k)) (cond b (did 1 (work₀ k)) steps)) ⊎ Held t known (cond a (did 1 (work₀ k)) (cond b (did 1 (work₀ k)) steps))
+          go true b i j = hold (did 1 (work₀ k)) (far-law k r (leb-true 8 (named k) i))
+          go false true i j =
+              let known-so = known-idle k r (leb-false 8 (named k) i) j in
+              inl (pass-idle (did 1 (work₀ k)) refl refl (known-so .0) (known-so .1))
+          go false false i j =
+              ⊎-elim (λ x. inl (pass-step (leb-false 8 (named k) i) j x)) (hold steps) (near-law k r (leb-false 8 (named k) i))
 
   -- plain steps and idle entries, up to the entry at which they stop
 
@@ -649,7 +645,7 @@ module _ (p : List ℕ) (kept : Kept p) (narrow : (i : ℕ) → argAt p i < 6553
       l = omega (arith, e)
 
       d : Did
-      d = idleOr p (work₀ k) (named k) known
+      d = namedOp p (work₀ k) (named k) known
 
       here : Stop
       here = stopsAt (record { at = k; code = d .code; known = known }) (d .words)

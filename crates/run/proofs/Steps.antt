@@ -12,27 +12,23 @@ use Rattle.ops.proofs.Returns.{took, passed-by}
 use Rattle.parts.specs.Parts.{partOf, onPart}
 use Rattle.run.specs.declared.known.Known.{Known}
 use Rattle.run.specs.Knowing.{isIdle, stillKnown}
-use Rattle.run.specs.Bursts.{Stop, stopsAt, namedOp, idleOr, burstOp}
+use Rattle.run.specs.Bursts.{Stop, stopsAt, namedOp, burstOp}
 
--- the byte names no process, or one that steps
+-- the byte names no process, one that is known not to be able to move, or one that steps
 
-pub named-none : (p work : List ℕ) (n : ℕ) → 8 ≤ n → did 1 work ≡ namedOp p work n
-unfolding namedOp
-named-none p work n h = took _ _ _ refl (le-leb 8 n h) refl
+module _ (p work : List ℕ) (n : ℕ) (known : Known) where
+  pub named-none : 8 ≤ n → did 1 work ≡ namedOp p work n known
+  unfolding namedOp
+  named-none h = took _ _ _ refl (le-leb 8 n h) refl
 
-pub named-steps : (p work : List ℕ) (n : ℕ) {d : Did} → n < 8 → d ≡ onPart work n (stepOp p (partOf work n)) → d ≡ namedOp p work n
-unfolding namedOp
-named-steps p work n h e = passed-by _ _ _ refl (lt-leb 8 n h) e
+  pub named-idle : {b : Bool} → n < 8 → b ≡ isIdle known n → b ≡ true → did 1 work ≡ namedOp p work n known
+  unfolding namedOp
+  named-idle h e i = passed-by _ _ _ refl (lt-leb 8 n h) (took _ _ _ e i refl)
 
--- the process is known to be idle, or else it steps
-
-pub idle-known : (p work : List ℕ) (n : ℕ) (known : Known) {b : Bool} → b ≡ isIdle known n → b ≡ true → did 1 work ≡ idleOr p work n known
-unfolding idleOr
-idle-known p work n known e h = took _ _ _ e h refl
-
-pub not-known : (p work : List ℕ) (n : ℕ) (known : Known) {b : Bool} {d : Did} → b ≡ isIdle known n → b ≡ false → d ≡ namedOp p work n → d ≡ idleOr p work n known
-unfolding idleOr
-not-known p work n known e h q = passed-by _ _ _ e h q
+  pub named-steps : {b : Bool} {d : Did} → n < 8 → b ≡ isIdle known n → b ≡ false → d ≡ onPart work n (stepOp p (partOf work n))
+      → d ≡ namedOp p work n known
+  unfolding namedOp
+  named-steps h e i q = passed-by _ _ _ refl (lt-leb 8 n h) (passed-by _ _ _ e i q)
 
 -- a burst whose first entry did this
 abbrev burstBy : List ℕ → List ℕ → ℕ → Known → ℕ → Did → Stop
@@ -52,7 +48,7 @@ module _ (p schedule work : List ℕ) (k : ℕ) (known : Known) where
       none = omega (arith, h)
 
   module _ {code : ℕ} {words : List ℕ} (more : k < length schedule)
-      (told : did code words ≡ idleOr p work (getD schedule k 0) known) where
+      (told : did code words ≡ namedOp p work (getD schedule k 0) known) where
     burst-turn : burstBy p schedule k known (length schedule - (k + 1)) (did code words)
         ≡ burstOp p schedule work k known (length schedule - k)
     unfolding burstOp

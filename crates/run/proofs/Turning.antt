@@ -20,7 +20,7 @@ use Rattle.ability.specs.Ending.{endingOp}
 use Rattle.run.specs.declared.turns.Advance.{Advance}
 use Rattle.run.specs.declared.known.Known.{Known}
 use Rattle.run.specs.Knowing.{unknown, stillKnown}
-use Rattle.run.specs.Bursts.{Stop, idleOr, burstOp}
+use Rattle.run.specs.Bursts.{Stop, namedOp, burstOp}
 use Rattle.run.specs.Advanced.{Advanced, advanced, usedUp, turnedAt, advancedFrom, advanceOp}
 use Rattle.run.specs.Left.{Left, leftAs, leaves}
 use Rattle.run.proofs.Ready as ready
@@ -47,12 +47,12 @@ burst-past : (p schedule work : List ℕ) (k : ℕ) (known : Known) (left : ℕ)
 unfolding burstOp
 burst-past p schedule work k known zero = omega arith
 burst-past p schedule work k known (suc left) =
-    cond-both (λ (b : Stop). k ≤ b .burst .at) (leb 2 (idleOr p work (getD schedule k 0) known .code)) (omega arith)
-    (cond-both (λ (b : Stop). k ≤ b .burst .at) (eqb (idleOr p work (getD schedule k 0) known .code) 1 && not (known .some)) (omega arith)
+    cond-both (λ (b : Stop). k ≤ b .burst .at) (leb 2 (namedOp p work (getD schedule k 0) known .code)) (omega arith)
+    (cond-both (λ (b : Stop). k ≤ b .burst .at) (eqb (namedOp p work (getD schedule k 0) known .code) 1 && not (known .some)) (omega arith)
     (omega (
       arith,
-      burst-past p schedule (idleOr p work (getD schedule k 0) known .words) (k + 1)
-          (stillKnown p (idleOr p work (getD schedule k 0) known .words) (getD schedule k 0) known (idleOr p work (getD schedule k 0) known .code)) left,
+      burst-past p schedule (namedOp p work (getD schedule k 0) known .words) (k + 1)
+          (stillKnown p (namedOp p work (getD schedule k 0) known .words) (getD schedule k 0) known (namedOp p work (getD schedule k 0) known .code)) left,
     )))
 
 advance-past : (p schedule outcomes trace work : List ℕ) (room : ℕ) (t : List (List ℕ)) (k lines used : ℕ) (known : Known)

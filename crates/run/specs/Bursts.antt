@@ -18,18 +18,16 @@ pub record Stop : Type 0 where
 abbrev pub stopsAt : Burst → List ℕ → Stop
 stopsAt b w = record { burst = b; words = w }
 
-unfoldable pub namedOp : List ℕ → List ℕ → ℕ → Did
-namedOp p work n = cond (leb 8 n) (did 1 work) (onPart work n (stepOp p (partOf work n)))
-
--- the same, but idle at once where the process is known not to be able to move
-unfoldable pub idleOr : List ℕ → List ℕ → ℕ → Known → Did
-idleOr p work n known = cond (isIdle known n) (did 1 work) (namedOp p work n)
+-- one step of process n; 1 where no process can have that number, or where it is known not to be able to move
+unfoldable pub namedOp : List ℕ → List ℕ → ℕ → Known → Did
+namedOp p work n known =
+    cond (leb 8 n) (did 1 work) (cond (isIdle known n) (did 1 work) (onPart work n (stepOp p (partOf work n))))
 
 unfoldable pub burstOp : List ℕ → List ℕ → List ℕ → ℕ → Known → ℕ → Stop
 burstOp p schedule work k known zero = stopsAt (record { at = k; code = 0; known = known }) work
 burstOp p schedule work k known (suc left) =
     let n = getD schedule k 0 in
-    let d = idleOr p work n known in
+    let d = namedOp p work n known in
     cond (leb 2 (d .code)) (stopsAt (record { at = k; code = d .code; known = known }) (d .words))
     (cond (eqb (d .code) 1 && not (known .some)) (stopsAt (record { at = k; code = d .code; known = known }) (d .words))
     (burstOp p schedule (d .words) (k + 1) (stillKnown p (d .words) n known (d .code)) left))

@@ -14,7 +14,7 @@ unknown = record { some = false; idle = replicate 8 false }
 
 -- process n is known not to be able to move, while another is
 unfoldable pub isIdle : Known → ℕ → Bool
-isIdle known n = cond (known .some) (cond (leb 8 n) false (getD (known .idle) n false)) false
+isIdle known n = known .some && getD (known .idle) n false
 
 -- one more such process; the others count only where it was known that some process is able to move
 unfoldable pub marked : List Bool → ℕ → List Bool

@@ -6,7 +6,7 @@ ghost use lib.ListN.{length};
 ghost use Rattle.table.specs.Table.{methods};
 ghost use Rattle.ops.specs.Did.{did};
 ghost use Rattle.run.specs.Knowing.{alone, stillKnown};
-ghost use Rattle.run.specs.Bursts.{stopsAt, namedOp, idleOr, burstOp};
+ghost use Rattle.run.specs.Bursts.{stopsAt, namedOp, burstOp};
 use super::known::Known;
 use ability::reads::stand_of;
 use names::ProcessNo;
@@ -20,26 +20,19 @@ pub struct Burst {
     pub known: Known,
 }
 
-// One step of the process that the byte names; 1 where no process can have that number.
-pub fn step_named(p: &[u16], start: usize, work: &mut [u32], n: u8) -> u32
+// One step of the process that the byte names; 1 where no process can have that number, or where it is known not to be
+// able to move.
+fn step_named(p: &[u16], start: usize, work: &mut [u32], n: u8, known: Known) -> u32
     requires { ⌜ (start ≡ 2 + 20 * methods (now p)) × (8192 ≤ length (now work)) ⌝ }
-    ensures { λ r. ⌜ did r (now (work .exit)) ≡ namedOp (now (p .entry)) (now (work .entry)) n ⌝ }
+    ensures { λ r. ⌜ did r (now (work .exit)) ≡ namedOp (now (p .entry)) (now (work .entry)) n known ⌝ }
 {
     if 8 <= n {
         return 1;
     }
-    step_process(p, start, work, n)
-}
-
-// The same, but 1 at once where the process is known not to be able to move.
-fn step_unless_idle(p: &[u16], start: usize, work: &mut [u32], n: u8, known: Known) -> u32
-    requires { ⌜ (start ≡ 2 + 20 * methods (now p)) × (8192 ≤ length (now work)) ⌝ }
-    ensures { λ r. ⌜ did r (now (work .exit)) ≡ idleOr (now (p .entry)) (now (work .entry)) n known ⌝ }
-{
     if known.is_idle(n) {
         return 1;
     }
-    step_named(p, start, work, n)
+    step_process(p, start, work, n)
 }
 
 // The process that the byte names moves by itself.
@@ -84,7 +77,7 @@ pub fn plain_steps(
     let mut sure = known;
     while k < schedule.len() {
         let n = schedule[k];
-        let code = step_unless_idle(p, start, work, n, sure);
+        let code = step_named(p, start, work, n, sure);
         if 2 <= code {
             return Burst {
                 at: k,

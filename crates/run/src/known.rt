@@ -1,5 +1,6 @@
 // What is known of the processes before an entry, so that not every idle entry looks at them anew.
 ghost use mathlib.Core.Path.{_≡_};
+ghost use Prim.Native.Nat.{_<_};
 ghost use Rattle.run.specs.Knowing.{unknown, marked, isIdle, withIdle};
 
 // Some process is able to move; and, where that is known, these are not.
@@ -27,18 +28,13 @@ fn mark(mut idle: [bool; 8], n: u8) -> [bool; 8]
 }
 
 impl Known {
-    // The process that the byte names is known not to be able to move, while another is.
+    // Process n is known not to be able to move, while another is.
     pub fn is_idle(self, n: u8) -> bool
+        requires { ⌜ n < 8 ⌝ }
         ensures { λ r. ⌜ r ≡ isIdle self n ⌝ }
     {
-        if !self.some {
-            return false;
-        }
-        if 8 <= n {
-            return false;
-        }
         let idle = self.idle;
-        idle[n as usize]
+        self.some & idle[n as usize]
     }
 
     // Some process is able to move, but not the one that the byte names.

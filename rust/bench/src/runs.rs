@@ -20,14 +20,27 @@ pub struct Run {
     outcomes: Vec<u8>,
 }
 
-/// The schedule names `processes` numbers in turn.
-fn named(name: &'static str, methods: Vec<Source>, processes: usize) -> Run {
+/// The schedule is `first`, then `turn` again and again.
+fn turns(name: &'static str, methods: Vec<Source>, first: &[u8], turn: &[u8]) -> Run {
+    let schedule = first.iter().chain(turn.iter().cycle()).copied();
     Run {
         name,
         program: table(&methods),
-        schedule: (0..ENTRIES).map(|i| (i % processes) as u8).collect(),
+        schedule: schedule.take(ENTRIES).collect(),
         outcomes: (0..ENTRIES).map(|i| (i % 2) as u8).collect(),
     }
+}
+
+/// The schedule names `processes` numbers in turn.
+fn named(name: &'static str, methods: Vec<Source>, processes: u8) -> Run {
+    turns(name, methods, &[], &(0..processes).collect::<Vec<u8>>())
+}
+
+/// Ping-pong without an idle entry: a process is named only where it can move.
+fn no_waiting() -> Run {
+    let first = [0, 0, 0, 0, 0, 0, 0, 0, 1];
+    let turn = [0, 0, 0, 1, 1, 1, 1, 0, 0, 0, 0, 1, 1];
+    turns("no-waiting", programs::ping_pong(), &first, &turn)
 }
 
 pub fn all() -> Vec<Run> {
@@ -35,6 +48,7 @@ pub fn all() -> Vec<Run> {
         named("arithmetic", programs::arithmetic(), 1),
         named("round-robin", programs::eight(), 8),
         named("ping-pong", programs::ping_pong(), 2),
+        no_waiting(),
         named("relay", programs::relay(), 4),
         named("calls", programs::calls(), 1),
         named("waiting", programs::waiting(), 8),

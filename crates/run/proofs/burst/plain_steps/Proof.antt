@@ -23,8 +23,8 @@ loop-holds c = (search needs, search needs, refl, refl)
 shared-slice-read-n : tie.Need-shared-slice-read-n Inv-loop μ-loop
 shared-slice-read-n c = search needs
 
-step-unless-idle-requires : tie.Need-step-unless-idle-requires Inv-loop μ-loop
-step-unless-idle-requires c κs = search needs
+step-named-requires : tie.Need-step-named-requires Inv-loop μ-loop
+step-named-requires c κs = search needs
 
 same-length : tie.Need-same-length Inv-loop μ-loop
 same-length c = search needs
@@ -33,7 +33,7 @@ returns : tie.Need-returns Inv-loop μ-loop
 returns c =
     let args = c .before .before .before .before .before .before .before .before .before .before .before .args in
     let loop = c .before .before .before .before .before .before .before .loop in
-    burst-stops (args .p .now) (args .schedule .now) (loop .work) (loop .k) (loop .sure) (c .before .before .before .before .before .before .loop-test .taken) (c .before .before .before .step-unless-idle .ensures) (c .if1 .taken)
+    burst-stops (args .p .now) (args .schedule .now) (loop .work) (loop .k) (loop .sure) (c .before .before .before .before .before .before .loop-test .taken) (c .before .before .before .step-named .ensures) (c .if1 .taken)
     ∙ sym (loop .inv .2)
 
 same-length-2 : tie.Need-same-length-2 Inv-loop μ-loop
@@ -43,7 +43,7 @@ returns-2 : tie.Need-returns-2 Inv-loop μ-loop
 returns-2 c =
     let args = c .before .before .before .before .before .before .before .before .before .before .before .before .before .args in
     let loop = c .before .before .before .before .before .before .before .before .before .loop in
-    burst-waits (args .p .now) (args .schedule .now) (loop .work) (loop .k) (loop .sure) (c .before .before .before .before .before .before .before .before .loop-test .taken) (c .before .before .before .before .before .step-unless-idle .ensures) (c .before .before .if1 .left) (c .if2 .taken)
+    burst-waits (args .p .now) (args .schedule .now) (loop .work) (loop .k) (loop .sure) (c .before .before .before .before .before .before .before .before .loop-test .taken) (c .before .before .before .before .before .step-named .ensures) (c .before .before .if1 .left) (c .if2 .taken)
     ∙ sym (loop .inv .2)
 
 keep-known-requires : tie.Need-keep-known-requires Inv-loop μ-loop
@@ -62,8 +62,8 @@ loop-again c =
       search needs,
       search needs,
       loop .inv .2
-          ∙ burst-goes (args .p .now) (args .schedule .now) (loop .work) (loop .k) (loop .sure) (c .before .before .before .before .before .before .before .before .before .before .loop-test .taken) (c .before .before .before .before .before .before .before .step-unless-idle .ensures) (c .before .before .before .before .if1 .left) (c .before .before .if2 .left) (c .keep-known .ensures),
-      c .before .before .before .before .before .before .before .step-unless-idle .kept .1 .1 .0 ∙ loop .inv .3,
+          ∙ burst-goes (args .p .now) (args .schedule .now) (loop .work) (loop .k) (loop .sure) (c .before .before .before .before .before .before .before .before .before .before .loop-test .taken) (c .before .before .before .before .before .before .before .step-named .ensures) (c .before .before .before .before .if1 .left) (c .before .before .if2 .left) (c .keep-known .ensures),
+      c .before .before .before .before .before .before .before .step-named .kept .1 .1 .0 ∙ loop .inv .3,
     )
 
 same-length-3 : tie.Need-same-length-3 Inv-loop μ-loop
@@ -84,7 +84,7 @@ plain-steps-spec =
     μ-loop
     loop-holds
     shared-slice-read-n
-    step-unless-idle-requires
+    step-named-requires
     same-length
     returns
     same-length-2
