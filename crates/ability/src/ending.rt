@@ -18,7 +18,8 @@ pub fn ability(p: &[u16], start: usize, work: &[u32], t: &[[u16; 2]; 16], n: Pro
     if a.kind < 2 {
         return a.kind;
     }
-    let q = partner(p, start, work, t, n, a);
+    let f = partner(p, start, work, t, n, a);
+    let q = f.process;
     if q.0 == 65535 {
         return 2;
     }

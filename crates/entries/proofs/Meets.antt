@@ -42,7 +42,7 @@ use Rattle.ability.specs.Partner.{partnerOp}
 use Rattle.ability.proofs.Able.{process-sound, stand-at, found, partner-law, met-with, found-partner}
 use Rattle.entries.specs.Came.{Came, came, stayedAt}
 use Rattle.entries.specs.Single.{singleOp}
-use Rattle.entries.specs.Meetings.{exchangeOp, pairOp, joinOp, offerOp, standsOp, meetOp}
+use Rattle.entries.specs.Meetings.{exchangeOp, pairBy, pairOp, joinOp, offerOp, standsOp, meetOp}
 use Rattle.entries.proofs.Singly.{sound, count, tried, fault-law}
 use Rattle.entries.proofs.Exchanged.{exchange-law}
 
@@ -114,7 +114,7 @@ module _ (p : List ℕ) (kept : Kept p) (narrow : (i : ℕ) → argAt p i < 6553
   pair-law : (q : ℕ) (o r : Offer) (e : Meeting) (st : Stand) → Running n o → Running q r → q < 8 → q ≢ n → Stands (offers o) st
       → Stands (offers r) (standOp p (partOf store q)) → joins n o q r ≡ some e → Typed p (meeting k s e .config)
       → pairOp p lines store room (count p kept narrow outcomes bytes s ks typed rest t0 room holds small k n) n st q ≡ tries (meeting k s e)
-  unfolding joins pairOp
+  unfolding joins pairOp pairBy
   pair-law q (sends i d v hs) (sends i′ d′ v′ hs′) e st x y near two h h′ j after = absurd (Option·none-ne-some e j)
   pair-law q (sends i d v hs) (receives i′ d′ hs′) e st x y near two h h′ j after =
       let w = cond-some (eqb i i′ && Bool·beq d (not d′)) _ e j in

@@ -28,7 +28,7 @@ use Rattle.entries.specs.Came.{came, movedTo, stayedAt, fullAt}
 use Rattle.entries.specs.Single.{inPart, countedWords, toldLine, noted, concludedAt, singleOp}
 use Rattle.entries.specs.Lines.{forkLine, metLine, passedLine, handedOn, forkWritten, metWritten}
 use Rattle.entries.specs.Forking.{forkDone, startOp, tryOp, forkOp}
-use Rattle.entries.specs.Meetings.{exchangeOp, pairOp, joinOp, offerOp, standsOp, meetOp}
+use Rattle.entries.specs.Meetings.{exchangeOp, pairBy, pairOp, joinOp, offerOp, standsOp, meetOp}
 use Rattle.entries.specs.Entries.{entryOp}
 
 -- the answer, the trace and the store each for itself
@@ -181,31 +181,32 @@ module _ (trace work : List ℕ) (room : ℕ) (g : Count) (sender receiver : ℕ
   exchanged h written met moved =
       passed-by _ _ _ refl (le-ltb room (g .lines + 2) h) (came-to moved written met)
 
-module _ (p trace work : List ℕ) (room : ℕ) (g : Count) (n : ℕ) (a : Stand) where
-  pub pair-sends : (q : ℕ) {x : Moved} {ts ws : List ℕ} → a .kind ≡ 2
+module _ (trace work : List ℕ) (room : ℕ) (g : Count) (n : ℕ) (a : Stand) where
+  pub pair-sends : (q : ℕ) (b : Stand) {x : Moved} {ts ws : List ℕ} → a .kind ≡ 2
       → came x ts ws ≡ exchangeOp trace work room g n q (a .end) (a .value)
-      → came x ts ws ≡ pairOp p trace work room g n a q
-  unfolding pairOp
-  pair-sends q h r = took _ _ _ refl (eq-eqb (a .kind) 2 h) r
+      → came x ts ws ≡ pairBy trace work room g n a q b
+  unfolding pairBy
+  pair-sends q b h r = took _ _ _ refl (eq-eqb (a .kind) 2 h) r
 
-  pub pair-receives : (q : ℕ) {b : Stand} {x : Moved} {ts ws : List ℕ} → (a .kind ≡ 2 → ⊥) → b ≡ standOp p (partOf work q)
+  pub pair-receives : (q : ℕ) (b : Stand) {x : Moved} {ts ws : List ℕ} → (a .kind ≡ 2 → ⊥)
       → came x ts ws ≡ exchangeOp trace work room g q n (b .end) (b .value)
-      → came x ts ws ≡ pairOp p trace work room g n a q
-  unfolding pairOp
-  pair-receives q h e r =
-      passed-by _ _ _ refl (ne-eqb (a .kind) 2 h)
-      (r ∙ ap (λ (s : Stand). exchangeOp trace work room g q n (s .end) (s .value)) e)
+      → came x ts ws ≡ pairBy trace work room g n a q b
+  unfolding pairBy
+  pair-receives q b h r = passed-by _ _ _ refl (ne-eqb (a .kind) 2 h) r
 
+module _ (p trace work : List ℕ) (room : ℕ) (g : Count) (n : ℕ) (a : Stand) where
   pub offer-waits : (t : List (List ℕ)) {q : ℕ} {m : Moved} → q ≡ partnerOp p work t n a → 8 ≤ q → m ≡ stayedAt g
       → came m trace work ≡ offerOp p trace work room t g n a
   unfolding offerOp joinOp
   offer-waits t {q} e h s =
       took _ _ _ refl (le-leb 8 q h) (came-to s refl refl) ∙ ap (joinOp p trace work room g n a) e
 
-  pub offer-meets : (t : List (List ℕ)) {q : ℕ} {x : Moved} {ts ws : List ℕ} → q ≡ partnerOp p work t n a → q < 8
-      → came x ts ws ≡ pairOp p trace work room g n a q → came x ts ws ≡ offerOp p trace work room t g n a
-  unfolding offerOp joinOp
-  offer-meets t {q} e h r = passed-by _ _ _ refl (lt-leb 8 q h) r ∙ ap (joinOp p trace work room g n a) e
+  pub offer-meets : (t : List (List ℕ)) {q : ℕ} {b : Stand} {x : Moved} {ts ws : List ℕ} → q ≡ partnerOp p work t n a → q < 8
+      → b ≡ standOp p (partOf work q) → came x ts ws ≡ pairBy trace work room g n a q b
+      → came x ts ws ≡ offerOp p trace work room t g n a
+  unfolding offerOp joinOp pairOp
+  offer-meets t {q} e h s r =
+      passed-by _ _ _ refl (lt-leb 8 q h) (r ∙ ap (pairBy trace work room g n a q) s) ∙ ap (joinOp p trace work room g n a) e
 
 module _ (p outcomes trace work : List ℕ) (room : ℕ) (t : List (List ℕ)) (g : Count) (n : ℕ) {a : Stand}
     {x : Moved} {ts ws : List ℕ} (e : a ≡ standOp p (partOf work n)) where

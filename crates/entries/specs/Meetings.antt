@@ -20,10 +20,13 @@ exchangeOp trace work room g sender receiver e v =
     cond (ltb room (g .lines + 2)) (came (fullAt g) trace work)
     (came (movedTo (g .lines + 2) (g .used)) (metWritten trace (g .lines) (g .entry) sender receiver e v) (metWords work sender receiver v))
 
-unfoldable pub pairOp : List ℕ → List ℕ → List ℕ → ℕ → Count → ℕ → Stand → ℕ → Came
-pairOp p trace work room g n a q =
+unfoldable pub pairBy : List ℕ → List ℕ → ℕ → Count → ℕ → Stand → ℕ → Stand → Came
+pairBy trace work room g n a q b =
     cond (eqb (a .kind) 2) (exchangeOp trace work room g n q (a .end) (a .value))
-    (exchangeOp trace work room g q n (standOp p (partOf work q) .end) (standOp p (partOf work q) .value))
+    (exchangeOp trace work room g q n (b .end) (b .value))
+
+unfoldable pub pairOp : List ℕ → List ℕ → List ℕ → ℕ → Count → ℕ → Stand → ℕ → Came
+pairOp p trace work room g n a q = pairBy trace work room g n a q (standOp p (partOf work q))
 
 unfoldable pub joinOp : List ℕ → List ℕ → List ℕ → ℕ → Count → ℕ → Stand → ℕ → Came
 joinOp p trace work room g n a q = cond (leb 8 q) (came (stayedAt g) trace work) (pairOp p trace work room g n a q)

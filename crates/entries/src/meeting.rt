@@ -4,7 +4,7 @@ ghost use Prim.Native.Nat.{_+_, _*_, _<_, _≤_};
 ghost use lib.ListN.{length};
 ghost use Rattle.table.specs.Table.{methods};
 ghost use Rattle.entries.specs.Came.{came};
-ghost use Rattle.entries.specs.Meetings.{exchangeOp, pairOp, offerOp, meetOp};
+ghost use Rattle.entries.specs.Meetings.{exchangeOp, pairBy, offerOp, meetOp};
 use super::came::Count;
 use super::came::Moved;
 use super::came::full;
@@ -41,10 +41,8 @@ fn exchange(
     taken(g.lines + 2, g.used)
 }
 
-// Process n, whose stand is a, meets process q: "process the sender" also where the receiver was named.
+// Process n, whose stand is a, meets process q, whose stand is b: "process the sender" also where the receiver was named.
 fn pair(
-    p: &[u16],
-    start: usize,
     trace: &mut [u16],
     work: &mut [u32],
     room: usize,
@@ -52,14 +50,14 @@ fn pair(
     n: ProcessNo,
     a: Stand,
     q: ProcessNo,
+    b: Stand,
 ) -> Moved
-    requires { ⌜ (start ≡ 2 + 20 * methods (now p)) × (8192 ≤ length (now work)) × (n .0 < 8) × (q .0 < 8) × (g .lines < 16000000) ⌝ }
-    ensures { λ r. ⌜ came r (now (trace .exit)) (now (work .exit)) ≡ pairOp (now (p .entry)) (now (trace .entry)) (now (work .entry)) room g (n .0) a (q .0) ⌝ }
+    requires { ⌜ (8192 ≤ length (now work)) × (n .0 < 8) × (q .0 < 8) × (g .lines < 16000000) ⌝ }
+    ensures { λ r. ⌜ came r (now (trace .exit)) (now (work .exit)) ≡ pairBy (now (trace .entry)) (now (work .entry)) room g (n .0) a (q .0) b ⌝ }
 {
     if a.kind == 2 {
         return exchange(trace, work, room, g, n, q, a.end, a.value);
     }
-    let b = stand_of(p, start, work, q);
     exchange(trace, work, room, g, q, n, b.end, b.value)
 }
 
@@ -78,11 +76,13 @@ fn offer(
     requires { ⌜ (start ≡ 2 + 20 * methods (now p)) × (8192 ≤ length (now work)) × (n .0 < 8) × (g .lines < 16000000) ⌝ }
     ensures { λ r. ⌜ came r (now (trace .exit)) (now (work .exit)) ≡ offerOp (now (p .entry)) (now (trace .entry)) (now (work .entry)) room (now (t .entry)) g (n .0) a ⌝ }
 {
-    let q = partner(p, start, work, t, n, a);
+    let f = partner(p, start, work, t, n, a);
+    let q = f.process;
     if 8 <= q.0 {
         return stays(g);
     }
-    pair(p, start, trace, work, room, g, n, a, q)
+    let b = f.stand;
+    pair(trace, work, room, g, n, a, q, b)
 }
 
 // "20 .. before all others, and before waiting".

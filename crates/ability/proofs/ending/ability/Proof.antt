@@ -18,15 +18,15 @@ partner-requires c κs = search needs
 
 returns-2 : tie.Need-returns-2
 returns-2 c =
-    let args = c .before .before .before .before .before .before .before .before .args in
+    let args = c .before .before .before .before .before .before .before .before .before .args in
     unmet (args .p .now) (args .work .now) (args .t .now) (args .n .0)
-    (c .before .before .before .before .before .stand-of .ensures) (c .before .before .before .if1 .left) (c .before .before .partner .ensures) (c .if2 .taken)
+    (c .before .before .before .before .before .before .stand-of .ensures) (c .before .before .before .before .if1 .left) (c .before .before .before .partner .ensures .0) (c .if2 .taken)
 
 returns-3 : tie.Need-returns-3
 returns-3 c =
-    let args = c .before .before .before .before .before .before .before .before .args in
+    let args = c .before .before .before .before .before .before .before .before .before .args in
     met (args .p .now) (args .work .now) (args .t .now) (args .n .0)
-    (c .before .before .before .before .before .stand-of .ensures) (c .before .before .before .if1 .left) (c .before .before .partner .ensures) (c .if2 .left)
+    (c .before .before .before .before .before .before .stand-of .ensures) (c .before .before .before .before .if1 .left) (c .before .before .before .partner .ensures .0) (c .if2 .left)
 
 pub ability-spec : {M : Type 1} → statement M
 ability-spec = tie.close (tie.spec stand-of-requires returns partner-requires returns-2 returns-3)

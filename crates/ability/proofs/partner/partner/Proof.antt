@@ -17,7 +17,7 @@ returns : tie.Need-returns
 returns c =
     let args = c .before .before .before .before .before .args in
     let e = c .before .before .opposite .ensures in
-    partner-asked (args .p .now) (args .work .now) (args .t .now) (args .n .0) (args .a) (e .0) (e .1) (c .before .holder-of .ensures) (c .ready .ensures)
+    (partner-asked (args .p .now) (args .work .now) (args .t .now) (args .n .0) (args .a) (e .0) (e .1) (c .before .holder-of .ensures) (c .ready .ensures .0), c .ready .ensures .1)
 
 pub partner-spec : {M : Type 1} → statement M
 partner-spec = tie.close (tie.spec opposite-requires holder-of-requires ready-requires returns)

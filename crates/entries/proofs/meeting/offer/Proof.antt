@@ -15,8 +15,8 @@ same-length c = search needs
 
 returns : tie.Need-returns
 returns c =
-    let args = c .before .before .before .before .before .before .before .before .args in
-    offer-waits (args .p .now) (args .trace .now) (args .work .now) (args .room) (args .g) (args .n .0) (args .a) (args .t .now) (c .before .before .before .partner .ensures) (c .before .if1 .taken) (c .stays .ensures)
+    let args = c .before .before .before .before .before .before .before .before .before .args in
+    offer-waits (args .p .now) (args .trace .now) (args .work .now) (args .room) (args .g) (args .n .0) (args .a) (args .t .now) (c .before .before .before .before .partner .ensures .0) (c .before .if1 .taken) (c .stays .ensures)
 
 pair-requires : tie.Need-pair-requires
 pair-requires c κs = search needs
@@ -29,8 +29,8 @@ same-length-3 c = search needs
 
 returns-2 : tie.Need-returns-2
 returns-2 c =
-    let args = c .before .before .before .before .before .before .before .before .before .before .before .before .before .before .args in
-    offer-meets (args .p .now) (args .trace .now) (args .work .now) (args .room) (args .g) (args .n .0) (args .a) (args .t .now) (c .before .before .before .before .before .before .before .before .before .partner .ensures) (c .before .before .before .before .before .before .before .if1 .left) (c .before .before .before .before .pair .ensures)
+    let args = c .before .before .before .before .before .before .before .before .before .before .before .before .before .before .before .before .args in
+    offer-meets (args .p .now) (args .trace .now) (args .work .now) (args .room) (args .g) (args .n .0) (args .a) (args .t .now) (c .before .before .before .before .before .before .before .before .before .before .before .partner .ensures .0) (c .before .before .before .before .before .before .before .before .if1 .left) (c .before .before .before .before .before .before .before .before .before .before .before .partner .ensures .1 (c .before .before .before .before .before .before .before .before .if1 .left)) (c .before .before .before .before .pair .ensures)
 
 pub offer-spec : {M : Type 1} → statement M
 offer-spec =

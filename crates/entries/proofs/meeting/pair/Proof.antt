@@ -15,11 +15,8 @@ same-length-2 c = search needs
 
 returns : tie.Need-returns
 returns c =
-    let args = c .before .before .before .before .before .before .before .before .before .before .before .before .args in
-    pair-sends (args .p .now) (args .trace .now) (args .work .now) (args .room) (args .g) (args .n .0) (args .a) (args .q .0) (c .before .before .before .before .before .before .before .if1 .taken) (c .before .before .before .before .exchange .ensures)
-
-stand-of-requires : tie.Need-stand-of-requires
-stand-of-requires c κs = search needs
+    let args = c .before .before .before .before .before .before .before .before .before .before .before .args in
+    pair-sends (args .trace .now) (args .work .now) (args .room) (args .g) (args .n .0) (args .a) (args .q .0) (args .b) (c .before .before .before .before .before .before .before .if1 .taken) (c .before .before .before .before .exchange .ensures)
 
 exchange-requires-2 : tie.Need-exchange-requires-2
 exchange-requires-2 c κs = search needs
@@ -32,8 +29,8 @@ same-length-4 c = search needs
 
 returns-2 : tie.Need-returns-2
 returns-2 c =
-    let args = c .before .before .before .before .before .before .before .before .before .before .before .before .before .before .args in
-    pair-receives (args .p .now) (args .trace .now) (args .work .now) (args .room) (args .g) (args .n .0) (args .a) (args .q .0) (c .before .before .before .before .before .before .before .before .before .if1 .left) (c .before .before .before .before .before .before .before .stand-of .ensures) (c .before .before .before .before .exchange2 .ensures)
+    let args = c .before .before .before .before .before .before .before .before .before .before .before .args in
+    pair-receives (args .trace .now) (args .work .now) (args .room) (args .g) (args .n .0) (args .a) (args .q .0) (args .b) (c .before .before .before .before .before .before .before .if1 .left) (c .before .before .before .before .exchange2 .ensures)
 
 pub pair-spec : {M : Type 1} → statement M
 pair-spec =
@@ -43,7 +40,6 @@ pair-spec =
     same-length
     same-length-2
     returns
-    stand-of-requires
     exchange-requires-2
     same-length-3
     same-length-4

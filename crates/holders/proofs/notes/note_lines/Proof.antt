@@ -1,11 +1,12 @@
 -- `note_lines` goes through the lines: u is the table after those before line i.
 use Prim.Native.Nat.{ℕ, _≤_, _-_}
 use mathlib.Core.Path.{_≡_, _∙_, ap}
+use mathlib.Core.Logic.{⊎-elim}
 use borrow.Author.Needs.{needs}
 use native.Mathlib.Omega.{arith}
 use Rattle.trace.proofs.LinesOf.{linesOf-length, linesOf-at}
 use Rattle.holders.specs.Holders.{notedFrom}
-use Rattle.holders.proofs.Noting.{noted-begins, noted-next}
+use Rattle.holders.proofs.Noting.{noted-begins, noted-next, nothing-told}
 use Rattle.holders.proofs.notes.note_lines.Statement.{statement}
 use Rattle.holders.proofs.notes.note_lines.Tie as tie
 
@@ -24,6 +25,9 @@ cast-line-at c = search needs
 line-at-requires : tie.Need-line-at-requires Inv-loop μ-loop
 line-at-requires c κs = omega (arith, linesOf-length (c .before .before .before .args .trace .now))
 
+tells-requires : tie.Need-tells-requires Inv-loop μ-loop
+tells-requires c κs = search needs
+
 note-requires : tie.Need-note-requires Inv-loop μ-loop
 note-requires c κs = search needs
 
@@ -35,13 +39,13 @@ loop-less c = search needs
 
 loop-again : tie.Need-loop-again Inv-loop μ-loop
 loop-again c =
-    let args = c .before .before .before .before .before .args in
-    let loop = c .before .before .before .loop in (
+    let args = c .before .before .before .before .before .before .args in
+    let loop = c .before .before .before .before .loop in (
       omega arith,
       omega arith,
-      c .note .ensures
+      ⊎-elim (λ x. x .2 ∙ x .1 .ensures) (λ x. x .1 ∙ nothing-told _ (c .before .tells .ensures) (x .0 .left)) (c .if1 .came)
           ∙ noted-next (args .t) (args .trace .now) (args .from) (loop .i) (loop .inv .0) (loop .inv .2)
-          (c .before .line-at .ensures ∙ linesOf-at (args .trace .now) (loop .i) (omega (arith, linesOf-length (args .trace .now)))),
+          (c .before .before .line-at .ensures ∙ linesOf-at (args .trace .now) (loop .i) (omega (arith, linesOf-length (args .trace .now)))),
     )
 
 returns : tie.Need-returns Inv-loop μ-loop
@@ -60,6 +64,7 @@ note-lines-spec =
     loop-holds
     cast-line-at
     line-at-requires
+    tells-requires
     note-requires
     add-i
     loop-less
