@@ -20,6 +20,7 @@ use Rattle.machine.specs.Act.{Act, idle, stuck, faults, goes, ends, makes, fork
 use Rattle.machine.specs.Entry.{Effect, Meeting, nothing, meetingOf, meetingIf, isMeeting, applied, effectOf, moves, able}
 use Rattle.machine.specs.Run.{Result, fits, afterEffect, ended, runFrom, run}
 use Rattle.machine.specs.Answer.{traceWords, traceAfter}
+use Rattle.machine.specs.Sound.{ConfigSound}
 use Rattle.machine.proofs.Typing.{ConfigTyped, Typed}
 use Rattle.machine.proofs.Partner.{unmade-idle}
 use Rattle.machine.proofs.Steps.{stateAt, ending, at-typed, at-kept, at-start, at-next, at-full, at-last, ends-here, able-goes}
@@ -49,8 +50,6 @@ use Rattle.run.specs.declared.known.Known.{Known}
 use Rattle.run.specs.Knowing.{unknown, marked, isIdle, withIdle, alone, stillKnown}
 use Rattle.run.specs.Bursts.{Stop, stopsAt, namedOp, burstOp}
 use Rattle.run.specs.Turned.{Turned, turned, cameOp, turnedBy, turnOp}
-use Rattle.run.specs.declared.turns.Advance.{Advance}
-use Rattle.run.specs.Advanced.{Advanced, advanced, usedUp, turnedAt, advancedFrom, advanceOp}
 use Rattle.run.proofs.Modest.{modest}
 
 -- an entry of a process that cannot move does nothing
@@ -79,8 +78,30 @@ after-nothing s = λ i. record { config = s .config; used = added i; lines = app
     added : s .used + 0 ≡ s .used
     added = omega arith
 
-module _ (p : List ℕ) (kept : Kept p) (narrow : (i : ℕ) → argAt p i < 65536) (outcomes : List ℕ) (bytes : All (λ o. o < 256) outcomes)
-    (schedule : List ℕ) (short : length schedule ≤ 65535) (rest t0 : List ℕ) (room : ℕ) (holds : 6 * room ≤ length t0) where
+-- what is known of the inputs
+pub record Inputs (p schedule outcomes t0 : List ℕ) (room : ℕ) : Type 0 where
+  pub kept : Kept p
+  pub narrow : (i : ℕ) → argAt p i < 65536
+  pub bytes : All (λ o. o < 256) outcomes
+  pub short : length schedule ≤ 65535
+  pub holds : 6 * room ≤ length t0
+
+module _ {p schedule outcomes t0 : List ℕ} {room : ℕ} (given : Inputs p schedule outcomes t0 room) (rest : List ℕ) where
+  abbrev kept : Kept p
+  kept = given .kept
+
+  abbrev narrow : (i : ℕ) → argAt p i < 65536
+  narrow = given .narrow
+
+  abbrev bytes : All (λ o. o < 256) outcomes
+  bytes = given .bytes
+
+  abbrev short : length schedule ≤ 65535
+  short = given .short
+
+  abbrev holds : 6 * room ≤ length t0
+  holds = given .holds
+
   abbrev pub at : ℕ → State
   at k = stateAt p outcomes schedule k
 
@@ -137,10 +158,13 @@ module _ (p : List ℕ) (kept : Kept p) (narrow : (i : ℕ) → argAt p i < 6553
     unfolding ks
     typed = at-typed p outcomes schedule kept bytes k .1
 
+    pub state-sound : ConfigSound p (at k .config)
+    state-sound = sound p kept narrow outcomes bytes (at k) ks typed rest
+
     owned : own.Kept (at k .config) (at k .lines)
     owned = at-kept p outcomes schedule k
 
-    abbrev named : ℕ
+    abbrev pub named : ℕ
     named = getD schedule k 0
 
     abbrev effect : Effect
@@ -247,7 +271,7 @@ module _ (p : List ℕ) (kept : Kept p) (narrow : (i : ℕ) → argAt p i < 6553
     abbrev comes : Bool → Bool → Came
     comes a f = cond a (cond f taken (came (fullAt count₀) trace₀ work₀)) (came (stayedAt count₀) trace₀ work₀)
 
-    abbrev comesTo : Came
+    abbrev pub comesTo : Came
     comesTo = comes (able p outcomes (at k) named) (fits room (at k) effect)
 
     -- the step of the named process: plain, or the rest of the entry does all
@@ -275,7 +299,7 @@ module _ (p : List ℕ) (kept : Kept p) (narrow : (i : ℕ) → argAt p i < 6553
       }
         where
           unmade : able p outcomes (at k) named ≡ false
-          unmade = ap (moves p outcomes (at k) named) (unmade-idle p outcomes (at k) named (omega (arith, h, sound p kept narrow outcomes bytes (at k) ks typed rest .processCount)))
+          unmade = ap (moves p outcomes (at k) named) (unmade-idle p outcomes (at k) named (omega (arith, h, state-sound .processCount)))
 
       low-used : at k .used < 4000000000
       low-used = omega (arith, r .fewUsed, r .inside, short)
@@ -386,7 +410,7 @@ module _ (p : List ℕ) (kept : Kept p) (narrow : (i : ℕ) → argAt p i < 6553
 
     -- the rest of the entry
 
-    abbrev Turns : List (List ℕ) → ℕ → Turned → Type 0
+    abbrev pub Turns : List (List ℕ) → ℕ → Turned → Type 0
     Turns t lines x =
         ((x .turn .end ≡ 0) × (lines ≤ x .turn .lines)
         × Ready (suc k) (x .work) (x .trace) (notedFrom t (x .trace) lines (x .turn .lines - lines)) (x .turn .lines) (x .turn .used) (x .turn .known))
@@ -396,7 +420,7 @@ module _ (p : List ℕ) (kept : Kept p) (narrow : (i : ℕ) → argAt p i < 6553
     unfolding notedFrom
     stay-noted t trace lines = ap (notedFrom t trace lines) {x = lines - lines} {y = 0} (omega arith)
 
-    turn-law : {work trace : List ℕ} {t : List (List ℕ)} {lines used : ℕ} {known : Known} → Ready k work trace t lines used known → k < length schedule → (code : ℕ)
+    pub turn-law : {work trace : List ℕ} {t : List (List ℕ)} {lines used : ℕ} {known : Known} → Ready k work trace t lines used known → k < length schedule → (code : ℕ)
         → cameOp p outcomes trace work room t (record { entry = k; lines = lines; used = used }) named code ≡ comesTo
         → Turns t lines (turnOp p outcomes trace work room t (record { entry = k; lines = lines; used = used }) named code known)
     unfolding turnOp turnedBy unknown
@@ -469,7 +493,7 @@ module _ (p : List ℕ) (kept : Kept p) (narrow : (i : ℕ) → argAt p i < 6553
         (d : Did) (x : Stepped k d) (low : named k < 8) (ws : List ℕ) (words : d .words ≡ withPart (work₀ k) (named k) ws)
         (by-itself : standOp p (partOf (d .words) (named k)) .kind ≡ 1) where
       long : 8192 ≤ length (work₀ k)
-      long = omega (arith, length-append (encode (at k .config)) rest, encode-length p (at k .config) (sound p kept narrow outcomes bytes (at k) (ks k) (typed k) rest))
+      long = omega (arith, length-append (encode (at k .config)) rest, encode-length p (at k .config) (state-sound k))
 
       -- the step leaves as many words as there were
       same-long : length (d .words) ≡ length (work₀ k)
@@ -478,8 +502,8 @@ module _ (p : List ℕ) (kept : Kept p) (narrow : (i : ℕ) → argAt p i < 6553
           ap length (x .words)
           ∙ length-append (encode (at (suc k) .config)) rest
           ∙ ap (λ (i : ℕ). i + length rest)
-          (encode-length p (at (suc k) .config) (sound p kept narrow outcomes bytes (at (suc k)) (ks (suc k)) (typed (suc k)) rest)
-          ∙ sym (encode-length p (at k .config) (sound p kept narrow outcomes bytes (at k) (ks k) (typed k) rest)))
+          (encode-length p (at (suc k) .config) (state-sound (suc k))
+          ∙ sym (encode-length p (at k .config) (state-sound k)))
           ∙ sym (length-append (encode (at k .config)) rest)
 
       part-long : length ws ≡ 512
@@ -627,12 +651,12 @@ module _ (p : List ℕ) (kept : Kept p) (narrow : (i : ℕ) → argAt p i < 6553
 
   -- plain steps and idle entries, up to the entry at which they stop
 
-  record Burst-good (trace : List ℕ) (t : List (List ℕ)) (lines used : ℕ) (b : Stop) : Type 0 where
-    ready : Ready (b .burst .at) (b .words) trace t lines used (b .burst .known)
-    came : b .burst .at < length schedule
+  pub record Burst-good (trace : List ℕ) (t : List (List ℕ)) (lines used : ℕ) (b : Stop) : Type 0 where
+    pub ready : Ready (b .burst .at) (b .words) trace t lines used (b .burst .known)
+    pub came : b .burst .at < length schedule
         → cameOp p outcomes trace (b .words) room t (record { entry = b .burst .at; lines = lines; used = used }) (getD schedule (b .burst .at) 0) (b .burst .code) ≡ comesTo (b .burst .at)
 
-  burst-law : (left k : ℕ) {work trace : List ℕ} {t : List (List ℕ)} {lines used : ℕ} {known : Known} → left ≡ length schedule - k → Ready k work trace t lines used known
+  pub burst-law : (left k : ℕ) {work trace : List ℕ} {t : List (List ℕ)} {lines used : ℕ} {known : Known} → left ≡ length schedule - k → Ready k work trace t lines used known
       → Burst-good trace t lines used (burstOp p schedule work k known left)
   unfolding burstOp
   burst-law zero k e r = record { ready = r; came = λ l. absurd (omega (arith, l, e)) }
@@ -675,13 +699,7 @@ module _ (p : List ℕ) (kept : Kept p) (narrow : (i : ℕ) → argAt p i < 6553
             came = λ i. came-as k there (d .code) (x .came);
           }
 
-  -- plain steps, and the entry at which they stop
-
-  abbrev pub Goes : List (List ℕ) → ℕ → Advanced → Type 0
-  Goes t lines a =
-      ((a .advance .over ≡ true) × Over (a .advance .at) (a .advance .end) (a .work) (a .trace) (a .advance .lines) (a .advance .used))
-      ⊎ ((a .advance .over ≡ false) × (lines ≤ a .advance .lines)
-      × Ready (suc (a .advance .at)) (a .work) (a .trace) (notedFrom t (a .trace) lines (a .advance .lines - lines)) (a .advance .lines) (a .advance .used) (a .advance .known))
+  -- the schedule is used up
 
   pub ready-last : (k : ℕ) {work trace : List ℕ} {t : List (List ℕ)} {lines used : ℕ} {known : Known} → Ready k work trace t lines used known → length schedule ≤ k
       → Over k (endingOp p work t 8) work trace lines used
@@ -695,24 +713,3 @@ module _ (p : List ℕ) (kept : Kept p) (narrow : (i : ℕ) → argAt p i < 6553
     counted = r .counted;
     drawn = r .drawn;
   }
-
-  pub advance-law : (k : ℕ) {work trace : List ℕ} {t : List (List ℕ)} {lines used : ℕ} {known : Known} → Ready k work trace t lines used known
-      → Goes t lines (advanceOp p schedule outcomes trace work room t k lines used known)
-  unfolding advanceOp advancedFrom usedUp turnedAt
-  advance-law k {work} {trace} {t} {lines} {used} {known} r = from (burstOp p schedule work k known (length schedule - k)) (burst-law (length schedule - k) k refl r)
-    where
-      turns : (at : ℕ) (x : Turned) → Turns at t lines x → Goes t lines (turnedAt at x)
-      turns at x (inl y) = inr (ap (λ (e : ℕ). not (eqb e 0)) (y .0), y .1, y .2)
-      turns at x (inr y) = inl (ap not (ne-eqb (x .turn .end) 0 (y .0)), y .1)
-
-      from : (b : Stop) → Burst-good trace t lines used b → Goes t lines (advancedFrom p schedule outcomes trace room t lines used known b)
-      from b g = go (leb (length schedule) (b .burst .at)) refl
-        where
-          go : (x : Bool) → leb (length schedule) (b .burst .at) ≡ x
-              → Goes t lines (cond x (usedUp p trace t lines used known b)
-              (turnedAt (b .burst .at)
-              (turnOp p outcomes trace (b .words) room t (record { entry = b .burst .at; lines = lines; used = used }) (getD schedule (b .burst .at) 0) (b .burst .code) (b .burst .known))))
-          go true h = inl (refl, ready-last (b .burst .at) (g .ready) (leb-true (length schedule) (b .burst .at) h))
-          go false h =
-              turns (b .burst .at) _
-              (turn-law (b .burst .at) (g .ready) (leb-false (length schedule) (b .burst .at) h) (b .burst .code) (g .came (leb-false (length schedule) (b .burst .at) h)))

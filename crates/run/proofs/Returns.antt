@@ -15,14 +15,11 @@ use Rattle.entries.specs.declared.came.Moved.{Moved}
 use Rattle.entries.specs.Came.{Came, came, stayedAt}
 use Rattle.entries.specs.Entries.{entryOp}
 use Rattle.entries.proofs.Returns.{came-to}
-use Rattle.run.specs.declared.burst.Burst.{Burst}
 use Rattle.run.specs.declared.known.Known.{Known}
 use Rattle.run.specs.declared.turn.Turn.{Turn}
 use Rattle.run.specs.declared.answer.Refusal.{Refusal}
 use Rattle.run.specs.Knowing.{unknown, withIdle}
-use Rattle.run.specs.Bursts.{stopsAt, burstOp}
 use Rattle.run.specs.Turned.{Turned, turned, cameOp, turnedBy, turnOp}
-use Rattle.run.specs.Advanced.{Advanced, advanced, usedUp, turnedAt, advancedFrom, advanceOp}
 use Rattle.run.specs.Answers.{refusalOf}
 
 -- the entry of a byte that names no process, or one
@@ -76,42 +73,6 @@ module _ (p outcomes trace work : List ℕ) (room : ℕ) (t : List (List ℕ)) (
         passed-by _ _ _ refl (ne-eqb (m .state) 2 room-left)
         (passed-by _ _ _ refl (ne-eqb (m .state) 1 h) (passed-by _ _ _ refl k (ap₂ (with-end m ts ws) e i)))
         ∙ ap (turnedBy p t n known) told
-
--- plain steps stopped at b
-
-module _ (p schedule outcomes trace work : List ℕ) (room : ℕ) (t : List (List ℕ)) (k lines used : ℕ) (known : Known)
-    {b : Burst} {words : List ℕ} (told : stopsAt b words ≡ burstOp p schedule work k known (length schedule - k)) where
-  pub advance-ends : {end : ℕ} → length schedule ≤ b .at → end ≡ endingOp p words t 8
-      → advanced (record { over = true; end = end; at = b .at; lines = lines; used = used; known = known }) trace words
-      ≡ advanceOp p schedule outcomes trace work room t k lines used known
-  unfolding advanceOp advancedFrom usedUp
-  advance-ends h e =
-      took _ _ _ refl (le-leb (length schedule) (b .at) h)
-      (ap {B = Advanced}
-      (λ (i : ℕ). advanced (record { over = true; end = i; at = b .at; lines = lines; used = used; known = known }) trace words)
-      e)
-      ∙ ap (advancedFrom p schedule outcomes trace room t lines used known) told
-
-  pub advance-turns : {r : Turn} {ts ws : List ℕ} → b .at < length schedule
-      → turned r ts ws
-      ≡ turnOp p outcomes trace words room t (record { entry = b .at; lines = lines; used = used })
-      (getD schedule (b .at) 0) (b .code) (b .known)
-      → advanced
-      (record {
-        over = not (eqb (r .end) 0);
-        end = r .end;
-        at = b .at;
-        lines = r .lines;
-        used = r .used;
-        known = r .known;
-      })
-      ts
-      ws
-      ≡ advanceOp p schedule outcomes trace work room t k lines used known
-  unfolding advanceOp advancedFrom turnedAt
-  advance-turns h e =
-      passed-by _ _ _ refl (lt-leb (length schedule) (b .at) h) (ap (turnedAt (b .at)) e)
-      ∙ ap (advancedFrom p schedule outcomes trace room t lines used known) told
 
 -- the number and place of a case of the check's
 pub refused-as : (a k : Check) {r : Refusal} → a ≡ k → r ≡ refusalOf (verdictOf k) → r ≡ refusalOf (verdictOf a)

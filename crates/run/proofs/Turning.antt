@@ -2,45 +2,56 @@
 -- schedule make of it.
 use Prim.Native.Nat.{ℕ, zero, suc, _+_, _*_, _-_, _/_, _≤_, _<_}
 use mathlib.Core.Path.{_≡_, refl, sym, _∙_, ap, ap₂, subst}
-use mathlib.Core.Logic.{_⊎_, inl, inr, ⊎-elim}
+use mathlib.Core.Logic.{_≢_, ⊎-elim}
 use mathlib.Core.Bool.{Bool, true, false, cond, not, _&&_, true≢false}
 use mathlib.Core.List.{List, [], _∷_, _++_}
 use native.Mathlib.Omega.{arith}
 use lib.ListN.{getD, drop, length}
+use lib.Seq.{drop-at}
 use lib.Dec.{eqb, leb}
 use Rattle.lists.specs.Lists.{All}
 use Rattle.lists.proofs.Tests.{cond-both}
 use Rattle.table.specs.Table.{word, methods, argAt}
 use Rattle.table.proofs.Accepted.{Kept}
-use Rattle.machine.specs.State.{startConfig}
+use Rattle.machine.specs.State.{State, startConfig}
 use Rattle.machine.specs.Run.{Result, run}
+use Rattle.machine.proofs.Steps.{stateAt}
 use Rattle.layout.specs.Layout.{encode, storeAfter}
+use Rattle.layout.proofs.RoundTrip.{encode-length}
 use Rattle.holders.specs.Holders.{notedFrom, nobody}
 use Rattle.ability.specs.Ending.{endingOp}
-use Rattle.run.specs.declared.turns.Advance.{Advance}
+use Rattle.run.specs.declared.burst.Burst.{Burst}
+use Rattle.run.specs.declared.turn.Turn.{Turn}
 use Rattle.run.specs.declared.known.Known.{Known}
 use Rattle.run.specs.Knowing.{unknown, stillKnown}
-use Rattle.run.specs.Bursts.{Stop, namedOp, burstOp}
-use Rattle.run.specs.Advanced.{Advanced, advanced, usedUp, turnedAt, advancedFrom, advanceOp}
+use Rattle.run.specs.Bursts.{Stop, stopsAt, namedOp, burstOp}
+use Rattle.run.specs.Turned.{Turned, turned, turnAt}
 use Rattle.run.specs.Left.{Left, leftAs, leaves}
-use Rattle.run.proofs.Ready as ready
+use Rattle.run.proofs.Ready.{Inputs, Ready, Over, Turns, Burst-good, ready-start, ready-last, state-sound, turn-law, burst-law}
 
-pub record Going (p schedule outcomes : List ℕ) (room : ℕ) (w0 t0 : List ℕ) (k : ℕ) (work trace : List ℕ) (t : List (List ℕ)) (lines used : ℕ) (known : Known) : Type 0 where
-  pub kept : Kept p
-  pub narrow : (i : ℕ) → argAt p i < 65536
-  pub bytes : All (λ o. o < 256) outcomes
-  pub short : length schedule ≤ 65535
-  pub holds : 6 * room ≤ length t0
-  pub stands : ready.Ready p kept narrow outcomes bytes schedule short (drop 8192 w0) t0 room holds k work trace t lines used known
+-- the state before the entry at which plain steps have stopped, or at the schedule's end
+pub record Going (p schedule outcomes : List ℕ) (room : ℕ) (rest t0 work trace : List ℕ) (t : List (List ℕ)) (lines used : ℕ) (b : Burst) : Type 0 where
+  pub given : Inputs p schedule outcomes t0 room
+  pub stands : Burst-good given rest trace t lines used (stopsAt b work)
 
 -- words of 16 bits, and bytes
-pub narrow-words : (p : List ℕ) → ((i : ℕ) → getD p i 0 < 65536) → (i : ℕ) → argAt p i < 65536
+narrow-words : (p : List ℕ) → ((i : ℕ) → getD p i 0 < 65536) → (i : ℕ) → argAt p i < 65536
 unfolding argAt word
 narrow-words p h i = h (3 + 20 * methods p + 2 * i)
 
-pub all-bytes : (xs : List ℕ) → ((i : ℕ) → getD xs i 0 < 256) → All (λ x. x < 256) xs
+all-bytes : (xs : List ℕ) → ((i : ℕ) → getD xs i 0 < 256) → All (λ x. x < 256) xs
 all-bytes [] h = tt
 all-bytes (x ∷ xs) h = (h 0, all-bytes xs (λ i. h (suc i)))
+
+pub inputs : (p schedule outcomes t0 : List ℕ) {room : ℕ} → Kept p → ((i : ℕ) → getD p i 0 < 65536) → ((i : ℕ) → getD outcomes i 0 < 256)
+    → length schedule ≤ 65535 → room ≡ length t0 / 6 → Inputs p schedule outcomes t0 room
+inputs p schedule outcomes t0 kept words bytes short room = record {
+  kept = kept;
+  narrow = narrow-words p words;
+  bytes = all-bytes outcomes bytes;
+  short = short;
+  holds = omega (arith, room);
+}
 
 -- a burst does not go back
 burst-past : (p schedule work : List ℕ) (k : ℕ) (known : Known) (left : ℕ) → k ≤ burstOp p schedule work k known left .burst .at
@@ -55,94 +66,103 @@ burst-past p schedule work k known (suc left) =
           (stillKnown p (namedOp p work (getD schedule k 0) known .words) (getD schedule k 0) known (namedOp p work (getD schedule k 0) known .code)) left,
     )))
 
-advance-past : (p schedule outcomes trace work : List ℕ) (room : ℕ) (t : List (List ℕ)) (k lines used : ℕ) (known : Known)
-    → k ≤ advanceOp p schedule outcomes trace work room t k lines used known .advance .at
-unfolding advanceOp advancedFrom usedUp turnedAt
-advance-past p schedule outcomes trace work room t k lines used known =
-    cond-both (λ (a : Advanced). k ≤ a .advance .at) (leb (length schedule) (burstOp p schedule work k known (length schedule - k) .burst .at))
-    (burst-past p schedule work k known (length schedule - k)) (burst-past p schedule work k known (length schedule - k))
-
 -- an entry without a line leaves the table of the holders as it was
 pub no-line : {t u : List (List ℕ)} (trace : List ℕ) {lines more : ℕ} → more ≤ lines → u ≡ t → u ≡ notedFrom t trace lines (more - lines)
 unfolding notedFrom
 no-line {t} {u} trace {lines} {more} h e = e ∙ ap (notedFrom t trace lines) {x = 0} {y = more - lines} (omega (arith, h))
 
-module _ {p schedule outcomes : List ℕ} {room : ℕ} {w0 t0 : List ℕ} where
-  pub going-start : Kept p → ((i : ℕ) → argAt p i < 65536) → All (λ o. o < 256) outcomes → length schedule ≤ 65535 → 6 * room ≤ length t0
-      → w0 ≡ encode (startConfig p) ++ drop 8192 w0 → {t : List (List ℕ)} → t ≡ nobody → {known : Known} → known ≡ unknown → Going p schedule outcomes room w0 t0 0 w0 t0 t 0 0 known
-  going-start kept narrow bytes short holds e {t} i j = record {
-    kept = kept;
-    narrow = narrow;
-    bytes = bytes;
-    short = short;
-    holds = holds;
+module _ {p schedule outcomes : List ℕ} {room : ℕ} {t0 : List ℕ} where
+  pub going-start : Inputs p schedule outcomes t0 room → (w0 : List ℕ) → w0 ≡ encode (startConfig p) ++ drop 8192 w0
+      → {t : List (List ℕ)} → t ≡ nobody → {known : Known} → known ≡ unknown
+      → {b : Burst} {work : List ℕ} → stopsAt b work ≡ burstOp p schedule w0 0 known (length schedule - 0)
+      → Going p schedule outcomes room (drop 8192 w0) t0 work t0 t 0 0 b
+  going-start given w0 e {t} i {known} j told = record {
+    given = given;
     stands =
-        subst (λ (known : Known). ready.Ready p kept narrow outcomes bytes schedule short (drop 8192 w0) t0 room holds 0 w0 t0 t 0 0 known) (sym j)
-        (subst (λ (t : List (List ℕ)). ready.Ready p kept narrow outcomes bytes schedule short (drop 8192 w0) t0 room holds 0 w0 t0 t 0 0 unknown) (sym i)
-        (ready.ready-start p kept narrow outcomes bytes schedule short (drop 8192 w0) t0 room holds w0 e));
+        subst (Burst-good given (drop 8192 w0) t0 t 0 0) (sym told)
+        (burst-law given (drop 8192 w0) (length schedule - 0) 0 refl
+        (subst (λ (k : Known). Ready given (drop 8192 w0) 0 w0 t0 t 0 0 k) (sym j)
+        (subst (λ (u : List (List ℕ)). Ready given (drop 8192 w0) 0 w0 t0 u 0 0 unknown) (sym i) (ready-start given (drop 8192 w0) w0 e))));
   }
 
-  module _ {k : ℕ} {work trace : List ℕ} {t : List (List ℕ)} {lines used : ℕ} {known : Known} (g : Going p schedule outcomes room w0 t0 k work trace t lines used known) where
-    pub few-lines : lines < 16000000
-    few-lines = omega (arith, g .stands .counted, g .stands .fewLines, g .stands .inside, g .short)
+  module _ {rest work trace : List ℕ} {t : List (List ℕ)} {lines used : ℕ} {b : Burst} (g : Going p schedule outcomes room rest t0 work trace t lines used b) where
+    abbrev there : Ready (g .given) rest (b .at) work trace t lines used (b .known)
+    there = g .stands .ready
 
-    pub inside : k ≤ length schedule
-    inside = g .stands .inside
+    pub few-lines : lines < 16000000
+    few-lines = omega (arith, there .counted, there .fewLines, there .inside, g .given .short)
+
+    -- the words behind the configuration's are as they were
+    pub rest-kept : drop 8192 work ≡ rest
+    rest-kept =
+        ap (drop 8192) (there .store)
+        ∙ drop-at (encode (stateAt p outcomes schedule (b .at) .config)) rest 8192
+        (encode-length p (stateAt p outcomes schedule (b .at) .config) (state-sound (g .given) rest (b .at)))
+
+    pub going-from : Going p schedule outcomes room (drop 8192 work) t0 work trace t lines used b
+    going-from = subst (λ (l : List ℕ). Going p schedule outcomes room l t0 work trace t lines used b) (sym rest-kept) g
 
     -- the words that a run leaves
-    over-leaves : {at end : ℕ} {work′ trace′ : List ℕ} {lines′ used′ : ℕ}
-        → ready.Over p (g .kept) (g .narrow) outcomes (g .bytes) schedule (g .short) (drop 8192 w0) t0 room (g .holds) at end work′ trace′ lines′ used′
+    over-leaves : (w0 : List ℕ) → rest ≡ drop 8192 w0 → {at end : ℕ} {work′ trace′ : List ℕ} {lines′ used′ : ℕ}
+        → Over (g .given) rest at end work′ trace′ lines′ used′
         → leftAs (record { end = end; entries = at; lines = lines′; used = used′ }) trace′ work′ ≡ leaves (run p outcomes room schedule) t0 w0
     unfolding leaves storeAfter
-    over-leaves {at} {end} o =
-        (λ i. leftAs (record { end = end; entries = at; lines = o .counted i; used = o .drawn i }) (o .written i) (o .store i))
+    over-leaves w0 same {at} {end} o =
+        (λ i. leftAs (record { end = end; entries = at; lines = o .counted i; used = o .drawn i }) (o .written i)
+        ((o .store ∙ ap (λ (l : List ℕ). encode (stateAt p outcomes schedule at .config) ++ l) same) i))
         ∙ ap (λ (r : Result). leaves r t0 w0) (sym (o .ends))
 
     -- the schedule is used up
-    pub going-ends : length schedule ≤ k → {end : ℕ} → end ≡ endingOp p work t 8
-        → leftAs (record { end = end; entries = k; lines = lines; used = used }) trace work ≡ leaves (run p outcomes room schedule) t0 w0
-    going-ends h {end} e =
-        ap (λ (x : ℕ). leftAs (record { end = x; entries = k; lines = lines; used = used }) trace work) e
-        ∙ over-leaves (ready.ready-last p (g .kept) (g .narrow) outcomes (g .bytes) schedule (g .short) (drop 8192 w0) t0 room (g .holds) k (g .stands) h)
+    pub going-ends : (w0 : List ℕ) → rest ≡ drop 8192 w0 → length schedule ≤ b .at → {end : ℕ} → end ≡ endingOp p work t 8
+        → leftAs (record { end = end; entries = b .at; lines = lines; used = used }) trace work ≡ leaves (run p outcomes room schedule) t0 w0
+    going-ends w0 same h {end} e =
+        ap (λ (x : ℕ). leftAs (record { end = x; entries = b .at; lines = lines; used = used }) trace work) e
+        ∙ over-leaves w0 same (ready-last (g .given) rest (b .at) there h)
 
-    module _ {a : Advance} {trace′ work′ : List ℕ} (told : advanced a trace′ work′ ≡ advanceOp p schedule outcomes trace work room t k lines used known) where
-      turn : ready.Goes p (g .kept) (g .narrow) outcomes (g .bytes) schedule (g .short) (drop 8192 w0) t0 room (g .holds) t lines (advanced a trace′ work′)
+    module _ (more : b .at < length schedule) {r : Turn} {trace′ work′ : List ℕ}
+        (told : turned r trace′ work′ ≡ turnAt p schedule outcomes trace work room t lines used b) where
+      turn : Turns (g .given) rest (b .at) t lines (turned r trace′ work′)
+      unfolding turnAt
       turn =
-          subst (ready.Goes p (g .kept) (g .narrow) outcomes (g .bytes) schedule (g .short) (drop 8192 w0) t0 room (g .holds) t lines) (sym told)
-          (ready.advance-law p (g .kept) (g .narrow) outcomes (g .bytes) schedule (g .short) (drop 8192 w0) t0 room (g .holds) k (g .stands))
+          subst (Turns (g .given) rest (b .at) t lines) (sym told)
+          (turn-law (g .given) rest (b .at) there more (b .code) (g .stands .came more))
 
       -- the run is over
-      pub going-over : a .over ≡ true
-          → leftAs (record { end = a .end; entries = a .at; lines = a .lines; used = a .used }) trace′ work′ ≡ leaves (run p outcomes room schedule) t0 w0
-      going-over h = ⊎-elim (λ x. over-leaves (x .1)) (λ x. absurd (true≢false (sym h ∙ x .0))) turn
+      pub going-over : (w0 : List ℕ) → rest ≡ drop 8192 w0 → r .end ≢ 0
+          → leftAs (record { end = r .end; entries = b .at; lines = r .lines; used = r .used }) trace′ work′ ≡ leaves (run p outcomes room schedule) t0 w0
+      going-over w0 same h = ⊎-elim (λ x. absurd (h (x .0))) (λ x. over-leaves w0 same (x .1)) turn
 
-      -- it goes on
-      pub going-next : a .over ≡ false → {u : List (List ℕ)} → u ≡ notedFrom t trace′ lines (a .lines - lines) → {i : ℕ} → i ≡ a .at + 1
-          → Going p schedule outcomes room w0 t0 i work′ trace′ u (a .lines) (a .used) (a .known)
-      going-next h {u} e {i} j = ⊎-elim (λ x. absurd (true≢false (sym (x .0) ∙ h))) (λ x. record {
-        kept = g .kept;
-        narrow = g .narrow;
-        bytes = g .bytes;
-        short = g .short;
-        holds = g .holds;
-        stands =
-            subst (λ (n : ℕ). ready.Ready p (g .kept) (g .narrow) outcomes (g .bytes) schedule (g .short) (drop 8192 w0) t0 room (g .holds) n work′ trace′ u (a .lines) (a .used) (a .known))
-            {x = suc (a .at)} {y = i} (omega (arith, j))
-            (subst (λ (v : List (List ℕ)). ready.Ready p (g .kept) (g .narrow) outcomes (g .bytes) schedule (g .short) (drop 8192 w0) t0 room (g .holds) (suc (a .at)) work′ trace′ v (a .lines) (a .used) (a .known))
-            (sym e) (x .2));
-      }) turn
+      module _ (goes : r .end ≡ 0) where
+        next : (lines ≤ r .lines) × Ready (g .given) rest (suc (b .at)) work′ trace′ (notedFrom t trace′ lines (r .lines - lines)) (r .lines) (r .used) (r .known)
+        next = ⊎-elim (λ x. (x .1, x .2)) (λ x. absurd (x .0 goes)) turn
 
-      pub lines-more : a .over ≡ false → lines ≤ a .lines
-      lines-more h = ⊎-elim (λ x. absurd (true≢false (sym (x .0) ∙ h))) (λ x. x .1) turn
+        pub lines-more : lines ≤ r .lines
+        lines-more = next .0
 
-      pub further : k < a .at + 1
-      further = omega (arith, subst (λ (x : Advanced). k ≤ x .advance .at) (sym told) (advance-past p schedule outcomes trace work room t k lines used known))
+        pub lines-fit : (r .lines < 16777216) × (6 * r .lines ≤ length t0)
+        lines-fit = (
+          omega (arith, next .1 .counted, next .1 .fewLines, next .1 .inside, g .given .short),
+          omega (arith, next .1 .counted, next .1 .fit, g .given .holds),
+        )
 
-      pub lines-fit : a .over ≡ false → (a .lines < 16777216) × (6 * a .lines ≤ length t0)
-      lines-fit h = ⊎-elim (λ x. absurd (true≢false (sym (x .0) ∙ h))) (λ x. (
-        omega (arith, x .2 .counted, x .2 .fewLines, x .2 .inside, g .short),
-        omega (arith, x .2 .counted, x .2 .fit, g .holds),
-      )) turn
+        module _ {b′ : Burst} {work″ : List ℕ}
+            (stops : stopsAt b′ work″ ≡ burstOp p schedule work′ (b .at + 1) (r .known) (length schedule - (b .at + 1))) where
+          -- it goes on
+          pub going-next : {u : List (List ℕ)} → u ≡ notedFrom t trace′ lines (r .lines - lines)
+              → Going p schedule outcomes room rest t0 work″ trace′ u (r .lines) (r .used) b′
+          going-next {u} e = record {
+            given = g .given;
+            stands =
+                subst (Burst-good (g .given) rest trace′ u (r .lines) (r .used)) (sym stops)
+                (burst-law (g .given) rest (length schedule - (b .at + 1)) (b .at + 1) refl
+                (subst (λ (n : ℕ). Ready (g .given) rest n work′ trace′ u (r .lines) (r .used) (r .known)) {x = suc (b .at)} {y = b .at + 1} (omega arith)
+                (subst (λ (v : List (List ℕ)). Ready (g .given) rest (suc (b .at)) work′ trace′ v (r .lines) (r .used) (r .known)) (sym e) (next .1))));
+          }
 
-      pub at-inside : a .over ≡ false → a .at + 1 ≤ length schedule
-      at-inside h = ⊎-elim (λ x. absurd (true≢false (sym (x .0) ∙ h))) (λ x. omega (arith, x .2 .inside)) turn
+          pub further : b .at < b′ .at
+          further =
+              omega (
+                arith,
+                subst (λ (x : Stop). b .at + 1 ≤ x .burst .at) (sym stops)
+                    (burst-past p schedule work′ (b .at + 1) (r .known) (length schedule - (b .at + 1))),
+              )

@@ -2,6 +2,5 @@ pub mod Begun
 pub mod Knowing
 pub mod Bursts
 pub mod Turned
-pub mod Advanced
 pub mod Left
 pub mod Answers

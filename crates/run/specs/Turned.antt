@@ -2,12 +2,14 @@
 use Prim.Native.Nat.{ℕ}
 use mathlib.Core.Bool.{cond}
 use mathlib.Core.List.{List}
+use lib.ListN.{getD}
 use lib.Dec.{eqb, leb}
 use Rattle.ability.specs.Ending.{endingOp}
 use Rattle.entries.specs.declared.came.Count.{Count}
 use Rattle.entries.specs.Came.{Came, came, stayedAt}
 use Rattle.entries.specs.Entries.{entryOp}
 use Rattle.run.specs.declared.known.Known.{Known}
+use Rattle.run.specs.declared.burst.Burst.{Burst}
 use Rattle.run.specs.declared.turn.Turn.{Turn}
 use Rattle.run.specs.Knowing.{unknown, withIdle}
 
@@ -36,3 +38,8 @@ turnedBy p t n known c =
 
 unfoldable pub turnOp : List ℕ → List ℕ → List ℕ → List ℕ → ℕ → List (List ℕ) → Count → ℕ → ℕ → Known → Turned
 turnOp p outcomes trace work room t g n code known = turnedBy p t n known (cameOp p outcomes trace work room t g n code)
+
+-- the entry at which plain steps have stopped
+unfoldable pub turnAt : List ℕ → List ℕ → List ℕ → List ℕ → List ℕ → ℕ → List (List ℕ) → ℕ → ℕ → Burst → Turned
+turnAt p schedule outcomes trace work room t lines used b =
+    turnOp p outcomes trace work room t (record { entry = b .at; lines = lines; used = used }) (getD schedule (b .at) 0) (b .code) (b .known)

@@ -8,11 +8,10 @@ ghost use Rattle.table.proofs.Accepted.{Kept};
 ghost use Rattle.machine.specs.State.{startConfig};
 ghost use Rattle.machine.specs.Run.{run};
 ghost use Rattle.layout.specs.Layout.{encode};
-ghost use Rattle.run.specs.Advanced.{advanced, advanceOp};
+ghost use Rattle.run.specs.Turned.{turned, turnAt};
 ghost use Rattle.run.specs.Left.{leftAs, leaves};
 use super::burst::Burst;
 use super::burst::plain_steps;
-use super::known::Known;
 use super::known::nothing_known;
 use super::turn::Turn;
 use super::turn::take_turn;
@@ -29,18 +28,8 @@ pub struct Over {
     pub used: u32,
 }
 
-// How far the run has come after an entry that is no plain step, and whether it is over there.
-pub struct Advance {
-    pub over: bool,
-    pub end: u32,
-    pub at: usize,
-    pub lines: u32,
-    pub used: u32,
-    pub known: Known,
-}
-
-// Plain steps from entry k on, and then the entry at which they stop.
-fn go_on(
+// The entry at which plain steps have stopped.
+fn turn_at(
     p: &[u16],
     start: usize,
     schedule: &[u8],
@@ -49,33 +38,22 @@ fn go_on(
     work: &mut [u32],
     room: usize,
     t: &[[u16; 2]; 16],
-    k: usize,
     lines: u32,
     used: u32,
-    known: Known,
-) -> Advance
-    requires { ⌜ (start ≡ 2 + 20 * methods (now p)) × (8192 ≤ length (now work)) × (k ≤ length (now schedule)) × (length (now schedule) ≤ 65535) × (lines < 16000000) ⌝ }
-    ensures { λ r. ⌜ advanced r (now (trace .exit)) (now (work .exit)) ≡ advanceOp (now (p .entry)) (now (schedule .entry)) (now (outcomes .entry)) (now (trace .entry)) (now (work .entry)) room (now (t .entry)) k lines used known ⌝ }
+    b: Burst,
+) -> Turn
+    requires { ⌜ (start ≡ 2 + 20 * methods (now p)) × (8192 ≤ length (now work)) × (b .at < length (now schedule)) × (length (now schedule) ≤ 65535) × (lines < 16000000) ⌝ }
+    ensures { λ r. ⌜ turned r (now (trace .exit)) (now (work .exit)) ≡ turnAt (now (p .entry)) (now (schedule .entry)) (now (outcomes .entry)) (now (trace .entry)) (now (work .entry)) room (now (t .entry)) lines used b ⌝ }
 {
-    let b = plain_steps(p, start, work, schedule, k, known);
     let at = b.at;
-    let sure = b.known;
-    if schedule.len() <= at {
-        return Advance {
-            over: true,
-            end: ending(p, start, work, t),
-            at: at,
-            lines: lines,
-            used: used,
-            known: known,
-        };
-    }
     let g = Count {
         entry: at as u16,
         lines: lines,
         used: used,
     };
-    let r = take_turn(
+    let n = schedule[at];
+    let known = b.known;
+    take_turn(
         p,
         start,
         outcomes,
@@ -84,22 +62,14 @@ fn go_on(
         room,
         t,
         g,
-        schedule[at],
+        n,
         b.code,
-        sure,
-    );
-    let next = r.known;
-    Advance {
-        over: r.end != 0,
-        end: r.end,
-        at: at,
-        lines: r.lines,
-        used: r.used,
-        known: next,
-    }
+        known,
+    )
 }
 
-// From the start of a run to its end. `room` is how many lines the trace holds.
+// From the start of a run to its end: plain steps, then the entry at which they stop, again and again. `room` is how many
+// lines the trace holds.
 pub fn run_entries(
     p: &[u16],
     start: usize,
@@ -116,10 +86,9 @@ pub fn run_entries(
     let mut t = no_holders();
     let mut lines: u32 = 0;
     let mut used: u32 = 0;
-    let mut known = nothing_known();
-    let mut k: usize = 0;
-    while k < schedule.len() {
-        let a = go_on(
+    let mut b = plain_steps(p, start, work, schedule, 0, nothing_known());
+    while b.at < schedule.len() {
+        let r = turn_at(
             p,
             start,
             schedule,
@@ -128,32 +97,30 @@ pub fn run_entries(
             work,
             room,
             &t,
-            k,
             lines,
             used,
-            known,
+            b,
         );
-        if a.over {
+        if r.end != 0 {
             return Over {
-                end: a.end,
-                entries: a.at,
-                lines: a.lines,
-                used: a.used,
+                end: r.end,
+                entries: b.at,
+                lines: r.lines,
+                used: r.used,
             };
         }
-        if lines < a.lines {
-            let u = note_lines(t, trace, lines, a.lines);
+        if lines < r.lines {
+            let u = note_lines(t, trace, lines, r.lines);
             t = u;
         }
-        lines = a.lines;
-        used = a.used;
-        let next = a.known;
-        known = next;
-        k = a.at + 1;
+        lines = r.lines;
+        used = r.used;
+        let known = r.known;
+        b = plain_steps(p, start, work, schedule, b.at + 1, known);
     }
     Over {
         end: ending(p, start, work, &t),
-        entries: k,
+        entries: b.at,
         lines: lines,
         used: used,
     }
