@@ -1,15 +1,17 @@
 -- What a function has found at its returns, from what its callees found and how its tests came out.
 use Prim.Native.Nat.{ℕ, _+_, _*_, _%_, _≤_, _<_}
 use mathlib.Core.Path.{_≡_, refl, sym, _∙_, ap, ap₂}
+use mathlib.Core.Bool.{Bool, true, false, cond, not}
 use mathlib.Core.List.{List}
 use native.Mathlib.Omega.{arith}
-use borrow.Author.Tests.{eq-eqb, ne-eqb, lt-ltb, le-ltb}
+use lib.Dec.{eqb}
+use borrow.Author.Tests.{eq-eqb, ne-eqb, lt-ltb, le-ltb, le-leb, lt-leb}
 use Rattle.table.specs.Table.{word, methods, argAt}
 use Rattle.store.specs.declared.head.Head.{Head}
 use Rattle.store.specs.Words.{headOf}
 use Rattle.ops.proofs.Returns.{took, passed-by}
 use Rattle.offers.specs.declared.stand.Stand.{Stand}
-use Rattle.offers.specs.Stands.{standOp}
+use Rattle.offers.specs.Stands.{standOp, meetsOp}
 use Rattle.parts.specs.Parts.{partOf}
 use Rattle.holders.specs.Holders.{holderIn}
 use Rattle.ability.specs.Reads.{argumentIn}
@@ -33,22 +35,50 @@ module _ (p work : List ℕ) (t : List (List ℕ)) (n : ℕ) where
   unfolding partnerOp
   partner-asked a e f h g = g ∙ ap (readyOp p work n a) (h ∙ ap₂ (holderIn t) e f)
 
-  -- a process that offers nothing, one whose offer has no partner q, and one whose offer has
+  -- whether there is a partner
+
+  module _ (a : Stand) {c d q : ℕ} (channel : c ≡ a .end .number % 65536) (side : d ≡ oppositeOf (a .end .tag)) (held : q ≡ holderIn t c d) where
+    asked : {b : Bool} {r : ℕ} → b ≡ not (eqb r 65535) → r ≡ readyOp p work n a q → b ≡ not (eqb (partnerOp p work t n a) 65535)
+    asked e g = e ∙ ap (λ (i : ℕ). not (eqb i 65535)) (partner-asked a channel side held g)
+
+    pub itself-asked : q ≡ n → false ≡ not (eqb (partnerOp p work t n a) 65535)
+    unfolding readyOp
+    itself-asked h = asked {r = 65535} refl (took _ _ _ refl (eq-eqb q n h) refl)
+
+    pub beyond-asked : (q ≡ n → ⊥) → 8 ≤ q → false ≡ not (eqb (partnerOp p work t n a) 65535)
+    unfolding readyOp
+    beyond-asked h k = asked {r = 65535} refl (passed-by _ _ _ refl (ne-eqb q n h) (took _ _ _ refl (le-leb 8 q k) refl))
+
+    pub other-asked : (q ≡ n → ⊥) → q < 8 → {s : Stand} → s ≡ standOp p (partOf work q) → {b : Bool} → b ≡ meetsOp a s
+        → b ≡ not (eqb (partnerOp p work t n a) 65535)
+    unfolding readyOp
+    other-asked h k {s} e {b} m =
+        asked {r = cond (meetsOp a (standOp p (partOf work q))) q 65535} (m ∙ ap (meetsOp a) e ∙ found (meetsOp a (standOp p (partOf work q))))
+        (passed-by _ _ _ refl (ne-eqb q n h) (passed-by _ _ _ refl (lt-leb 8 q k) refl))
+      where
+        found : (x : Bool) → x ≡ not (eqb (cond x q 65535) 65535)
+        found true = sym (ap not (ne-eqb q 65535 (λ i. absurd (omega (arith, i, k)))))
+        found false = refl
+
+  -- a process that offers nothing, one whose offer has no partner, and one whose offer has
 
   pub no-offer : {a : Stand} → a ≡ standOp p (partOf work n) → a .kind < 2 → a .kind ≡ abilityOp p work t n
   unfolding abilityOp abilityOf
   no-offer {a} e h = took _ _ _ refl (lt-ltb (a .kind) 2 h) refl ∙ ap (abilityOf p work t n) e
 
-  pub unmet : {a : Stand} {q : ℕ} → a ≡ standOp p (partOf work n) → 2 ≤ a .kind → q ≡ partnerOp p work t n a → q ≡ 65535
-      → 2 ≡ abilityOp p work t n
-  unfolding abilityOp abilityOf
-  unmet {a} e h f u =
-      passed-by _ _ _ refl (le-ltb (a .kind) 2 h) (took _ _ _ refl (eq-eqb (partnerOp p work t n a) 65535 (sym f ∙ u)) refl)
-      ∙ ap (abilityOf p work t n) e
+  module _ {a : Stand} (stands : a ≡ standOp p (partOf work n)) (offer : 2 ≤ a .kind) {b : Bool} (told : b ≡ not (eqb (partnerOp p work t n a) 65535)) where
+    by-partner : (x : Bool) → not x ≡ b → _≡_ {A = ℕ} (cond x 2 1) (cond b 1 2)
+    by-partner true e = ap (λ (y : Bool). cond {A = ℕ} y 1 2) e
+    by-partner false e = ap (λ (y : Bool). cond {A = ℕ} y 1 2) e
 
-  pub met : {a : Stand} {q : ℕ} → a ≡ standOp p (partOf work n) → 2 ≤ a .kind → q ≡ partnerOp p work t n a → (q ≡ 65535 → ⊥)
-      → 1 ≡ abilityOp p work t n
-  unfolding abilityOp abilityOf
-  met {a} e h f u =
-      passed-by _ _ _ refl (le-ltb (a .kind) 2 h) (passed-by _ _ _ refl (ne-eqb (partnerOp p work t n a) 65535 (λ z. u (f ∙ z))) refl)
-      ∙ ap (abilityOf p work t n) e
+    offers-so : cond {A = ℕ} b 1 2 ≡ abilityOp p work t n
+    unfolding abilityOp abilityOf
+    offers-so =
+        passed-by _ _ _ refl (le-ltb (a .kind) 2 offer) (sym (by-partner (eqb (partnerOp p work t n a) 65535) (sym told)))
+        ∙ ap (abilityOf p work t n) stands
+
+    pub met : b ≡ true → 1 ≡ abilityOp p work t n
+    met e = sym (ap (λ (x : Bool). cond {A = ℕ} x 1 2) e) ∙ offers-so
+
+    pub unmet : b ≡ false → 2 ≡ abilityOp p work t n
+    unmet e = sym (ap (λ (x : Bool). cond {A = ℕ} x 1 2) e) ∙ offers-so

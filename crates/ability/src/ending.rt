@@ -5,7 +5,7 @@ ghost use Prim.Native.Nat.{_+_, _*_, _<_, _≤_};
 ghost use lib.ListN.{length};
 ghost use Rattle.table.specs.Table.{methods};
 ghost use Rattle.ability.specs.Ending.{abilityOp, endingOp};
-use super::partner::partner;
+use super::partner::has_partner;
 use super::reads::stand_of;
 use names::ProcessNo;
 
@@ -18,12 +18,10 @@ pub fn ability(p: &[u16], start: usize, work: &[u32], t: &[[u16; 2]; 16], n: Pro
     if a.kind < 2 {
         return a.kind;
     }
-    let f = partner(p, start, work, t, n, a);
-    let q = f.process;
-    if q.0 == 65535 {
-        return 2;
+    if has_partner(p, start, work, t, n, a) {
+        return 1;
     }
-    1
+    2
 }
 
 // 0 where some process is able to move.

@@ -1,7 +1,9 @@
 // The partner of an offer, found through the holder of the opposite end.
 ghost use mathlib.Core.Path.{_≡_};
 ghost use Prim.Native.Nat.{_+_, _*_, _<_, _≤_, _%_};
+ghost use mathlib.Core.Bool.{not};
 ghost use lib.ListN.{length};
+ghost use lib.Dec.{eqb};
 ghost use Rattle.table.specs.Table.{methods};
 ghost use Rattle.parts.specs.Parts.{partOf};
 ghost use Rattle.offers.specs.Stands.{standOp};
@@ -75,4 +77,27 @@ pub fn partner(
 {
     let q = holder_of(t, opposite(a));
     ready(p, start, work, n, a, q)
+}
+
+// Whether there is a partner, for a caller that has no use for who it is.
+pub fn has_partner(
+    p: &[u16],
+    start: usize,
+    work: &[u32],
+    t: &[[u16; 2]; 16],
+    n: ProcessNo,
+    a: Stand,
+) -> bool
+    requires { ⌜ (start ≡ 2 + 20 * methods (now p)) × (8192 ≤ length (now work)) ⌝ }
+    ensures { λ r. ⌜ r ≡ not (eqb (partnerOp (now (p .entry)) (now (work .entry)) (now (t .entry)) (n .0) a) 65535) ⌝ }
+{
+    let q = holder_of(t, opposite(a));
+    if q.0 == n.0 {
+        return false;
+    }
+    if 8 <= q.0 {
+        return false;
+    }
+    let b = stand_of(p, start, work, q);
+    meets(a, b)
 }

@@ -17,19 +17,17 @@ fn tells(l: TraceLine) -> bool
 }
 
 // The table after the lines number `from` up to `to` of the trace, line `to` itself left out.
-pub fn note_lines(t: [[u16; 2]; 16], trace: &[u16], from: u32, to: u32) -> [[u16; 2]; 16]
+pub fn note_lines(t: &mut [[u16; 2]; 16], trace: &[u16], from: u32, to: u32)
     requires { ⌜ (from ≤ to) × (to < 16777216) × (6 * to ≤ length (now trace)) ⌝ }
-    ensures { λ r. ⌜ r ≡ notedFrom t (now (trace .entry)) from (to - from) ⌝ }
+    ensures { λ r. ⌜ now (t .exit) ≡ notedFrom (now (t .entry)) (now (trace .entry)) from (to - from) ⌝ }
 {
-    let mut u = t;
     let mut i = from;
     while i < to {
         let l = line_at(trace, i as usize);
         if tells(l) {
-            let v = note(u, l);
-            u = v;
+            let u = note(*t, l);
+            *t = u;
         }
         i += 1;
     }
-    u
 }

@@ -66,11 +66,6 @@ burst-past p schedule work k known (suc left) =
           (stillKnown p (namedOp p work (getD schedule k 0) known .words) (getD schedule k 0) known (namedOp p work (getD schedule k 0) known .code)) left,
     )))
 
--- an entry without a line leaves the table of the holders as it was
-pub no-line : {t u : List (List ℕ)} (trace : List ℕ) {lines more : ℕ} → more ≤ lines → u ≡ t → u ≡ notedFrom t trace lines (more - lines)
-unfolding notedFrom
-no-line {t} {u} trace {lines} {more} h e = e ∙ ap (notedFrom t trace lines) {x = 0} {y = more - lines} (omega (arith, h))
-
 module _ {p schedule outcomes : List ℕ} {room : ℕ} {t0 : List ℕ} where
   pub going-start : Inputs p schedule outcomes t0 room → (w0 : List ℕ) → w0 ≡ encode (startConfig p) ++ drop 8192 w0
       → {t : List (List ℕ)} → t ≡ nobody → {known : Known} → known ≡ unknown

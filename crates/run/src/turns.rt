@@ -109,10 +109,7 @@ pub fn run_entries(
                 used: r.used,
             };
         }
-        if lines < r.lines {
-            let u = note_lines(t, trace, lines, r.lines);
-            t = u;
-        }
+        note_lines(&mut t, trace, lines, r.lines);
         lines = r.lines;
         used = r.used;
         let known = r.known;

@@ -10,23 +10,21 @@ stand-of-requires c κs = search needs
 returns : tie.Need-returns
 returns c =
     let args = c .before .before .before .before .before .args in
-    no-offer (args .p .now) (args .work .now) (args .t .now) (args .n .0)
-    (c .before .before .stand-of .ensures) (c .if1 .taken)
+    no-offer (args .p .now) (args .work .now) (args .t .now) (args .n .0) (c .before .before .stand-of .ensures) (c .if1 .taken)
 
-partner-requires : tie.Need-partner-requires
-partner-requires c κs = search needs
+has-partner-requires : tie.Need-has-partner-requires
+has-partner-requires c κs = search needs
 
 returns-2 : tie.Need-returns-2
 returns-2 c =
-    let args = c .before .before .before .before .before .before .before .before .before .args in
-    unmet (args .p .now) (args .work .now) (args .t .now) (args .n .0)
-    (c .before .before .before .before .before .before .stand-of .ensures) (c .before .before .before .before .if1 .left) (c .before .before .before .partner .ensures .0) (c .if2 .taken)
+    let args = c .before .before .before .before .before .before .before .args in
+    met (args .p .now) (args .work .now) (args .t .now) (args .n .0) (c .before .before .before .before .stand-of .ensures) (c .before .before .if1 .left) (c .before .has-partner .ensures) (c .if2 .taken)
 
 returns-3 : tie.Need-returns-3
 returns-3 c =
-    let args = c .before .before .before .before .before .before .before .before .before .args in
-    met (args .p .now) (args .work .now) (args .t .now) (args .n .0)
-    (c .before .before .before .before .before .before .stand-of .ensures) (c .before .before .before .before .if1 .left) (c .before .before .before .partner .ensures .0) (c .if2 .left)
+    let args = c .before .before .before .before .before .before .before .args in
+    unmet (args .p .now) (args .work .now) (args .t .now) (args .n .0) (c .before .before .before .before .stand-of .ensures) (c .before .before .if1 .left) (c .before .has-partner .ensures) (c .if2 .left)
 
 pub ability-spec : {M : Type 1} → statement M
-ability-spec = tie.close (tie.spec stand-of-requires returns partner-requires returns-2 returns-3)
+ability-spec =
+    tie.close (tie.spec stand-of-requires returns has-partner-requires returns-2 returns-3)

@@ -1,4 +1,4 @@
--- `note_lines` goes through the lines: u is the table after those before line i.
+-- `note_lines` goes through the lines: the table is what those before line i say.
 use Prim.Native.Nat.{ℕ, _≤_, _-_}
 use mathlib.Core.Path.{_≡_, _∙_, ap}
 use mathlib.Core.Logic.{⊎-elim}
@@ -11,13 +11,13 @@ use Rattle.holders.proofs.notes.note_lines.Statement.{statement}
 use Rattle.holders.proofs.notes.note_lines.Tie as tie
 
 abbrev Inv-loop : tie.InvT-loop
-Inv-loop trace from to u₀ i₀ u i = (from ≤ i) × (i ≤ to) × (u ≡ notedFrom u₀ trace from (i - from))
+Inv-loop t₀ trace from to i₀ t i = (from ≤ i) × (i ≤ to) × (t ≡ notedFrom t₀ trace from (i - from))
 
 abbrev μ-loop : tie.MeasureT-loop
-μ-loop trace from to u₀ i₀ u i = to - i
+μ-loop t₀ trace from to i₀ t i = to - i
 
 loop-holds : tie.Need-loop-holds Inv-loop μ-loop
-loop-holds c = let args = c .before .args in (search needs, omega arith, noted-begins (args .t) (args .trace .now) (args .from))
+loop-holds c = let args = c .before .args in (search needs, omega arith, noted-begins (args .t .now) (args .trace .now) (args .from))
 
 cast-line-at : tie.Need-cast-line-at Inv-loop μ-loop
 cast-line-at c = search needs
@@ -43,8 +43,8 @@ loop-again c =
     let loop = c .before .before .before .before .loop in (
       omega arith,
       omega arith,
-      ⊎-elim (λ x. x .2 ∙ x .1 .ensures) (λ x. x .1 ∙ nothing-told _ (c .before .tells .ensures) (x .0 .left)) (c .if1 .came)
-          ∙ noted-next (args .t) (args .trace .now) (args .from) (loop .i) (loop .inv .0) (loop .inv .2)
+      ⊎-elim (λ x. x .3 ∙ x .2 .ensures) (λ x. x .1 ∙ nothing-told _ (c .before .tells .ensures) (x .0 .left)) (c .if1 .came)
+          ∙ noted-next (args .t .now) (args .trace .now) (args .from) (loop .i) (loop .inv .0) (loop .inv .2)
           (c .before .before .line-at .ensures ∙ linesOf-at (args .trace .now) (loop .i) (omega (arith, linesOf-length (args .trace .now)))),
     )
 
@@ -53,7 +53,7 @@ returns c =
     let args = c .before .before .before .args in
     let loop = c .before .loop in
     let e : loop .i ≡ args .to = omega arith in
-    loop .inv .2 ∙ ap (λ (i : ℕ). notedFrom (args .t) (args .trace .now) (args .from) (i - args .from)) e
+    loop .inv .2 ∙ ap (λ (i : ℕ). notedFrom (args .t .now) (args .trace .now) (args .from) (i - args .from)) e
 
 pub note-lines-spec : {M : Type 1} → statement M
 note-lines-spec =

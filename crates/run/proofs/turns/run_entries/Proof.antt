@@ -1,10 +1,9 @@
 -- `run_entries` goes from one entry that is no plain step to the next: what stands before each is `Going`.
 use Prim.Native.Nat.{ℕ, _-_}
 use mathlib.Core.Path.{_≡_, refl, sym, _∙_, ap}
-use mathlib.Core.Logic.{⊎-elim}
 use native.Mathlib.Omega.{arith}
 use lib.ListN.{length, drop}
-use Rattle.run.proofs.Turning.{Going, inputs, going-start, few-lines, rest-kept, going-from, going-ends, going-over, going-next, lines-more, further, lines-fit, no-line}
+use Rattle.run.proofs.Turning.{Going, inputs, going-start, few-lines, rest-kept, going-from, going-ends, going-over, going-next, lines-more, further, lines-fit}
 use borrow.Author.Needs.{needs}
 use Rattle.run.proofs.turns.run_entries.Statement.{statement}
 use Rattle.run.proofs.turns.run_entries.Tie as tie
@@ -55,11 +54,11 @@ returns c =
 
 note-lines-requires : tie.Need-note-lines-requires Inv-loop μ-loop
 note-lines-requires c κs =
-    let inv = c .before .before .before .before .before .before .before .before .before .before .before .before .before .before .before .loop .inv in
-    let fit = lines-fit (inv .0) (c .before .before .before .before .before .before .before .before .before .before .before .before .before .if1 .taken) (c .before .before .before .before .before .before .before .before .before .turn-at .ensures) (c .before .before .before .if2 .left) in (
-      lines-more (inv .0) (c .before .before .before .before .before .before .before .before .before .before .before .before .before .if1 .taken) (c .before .before .before .before .before .before .before .before .before .turn-at .ensures) (c .before .before .before .if2 .left),
+    let inv = c .before .before .before .before .before .before .before .before .before .before .before .before .before .before .loop .inv in
+    let fit = lines-fit (inv .0) (c .before .before .before .before .before .before .before .before .before .before .before .before .if1 .taken) (c .before .before .before .before .before .before .before .before .turn-at .ensures) (c .before .before .if2 .left) in (
+      lines-more (inv .0) (c .before .before .before .before .before .before .before .before .before .before .before .before .if1 .taken) (c .before .before .before .before .before .before .before .before .turn-at .ensures) (c .before .before .if2 .left),
       fit .0,
-      omega (arith, fit .1, c .before .before .before .before .before .before .before .before .before .turn-at .kept .1 .1 .1 .1 .0, inv .2),
+      omega (arith, fit .1, c .before .before .before .before .before .before .before .before .turn-at .kept .1 .1 .1 .1 .0, inv .2),
     )
 
 add-plain-steps : tie.Need-add-plain-steps Inv-loop μ-loop
@@ -67,18 +66,18 @@ add-plain-steps c = search needs
 
 plain-steps-requires-2 : tie.Need-plain-steps-requires-2 Inv-loop μ-loop
 plain-steps-requires-2 c κs =
-    let pre = c .before .before .before .before .before .before .before .before .before .before .before .before .before .before .before .before .before .before .before .before .before .before .before .before .before .before .before .before .before .pre in
-    (pre .0, omega (arith, pre .1, c .before .before .before .before .before .before .before .before .before .before .before .before .before .before .before .before .before .loop .inv .1, c .before .before .before .before .before .before .before .before .before .before .before .before .before .before .before .before .before .before .before .before .plain-steps .kept .1 .1 .0, c .before .before .before .before .before .before .before .before .before .before .before .turn-at .kept .1 .1 .1 .1 .1 .0), omega (arith, c .before .before .before .before .before .before .before .before .before .before .before .before .before .before .before .if1 .taken))
+    let pre = c .before .before .before .before .before .before .before .before .before .before .before .before .before .before .before .before .before .before .before .before .before .before .before .before .before .before .before .before .before .before .pre in
+    (pre .0, omega (arith, pre .1, c .before .before .before .before .before .before .before .before .before .before .before .before .before .before .before .before .before .before .loop .inv .1, c .before .before .before .before .before .before .before .before .before .before .before .before .before .before .before .before .before .before .before .before .before .plain-steps .kept .1 .1 .0, c .before .before .before .before .before .before .before .before .before .before .before .before .turn-at .kept .1 .1 .1 .1 .1 .0), omega (arith, c .before .before .before .before .before .before .before .before .before .before .before .before .before .before .before .before .if1 .taken))
 
 loop-less : tie.Need-loop-less Inv-loop μ-loop
-loop-less c = omega (arith, c .before .before .before .before .before .before .before .before .before .before .before .before .before .before .before .before .before .before .if1 .taken, further (c .before .before .before .before .before .before .before .before .before .before .before .before .before .before .before .before .before .before .before .before .loop .inv .0) (c .before .before .before .before .before .before .before .before .before .before .before .before .before .before .before .before .before .before .if1 .taken) (c .before .before .before .before .before .before .before .before .before .before .before .before .before .before .turn-at .ensures) (c .before .before .before .before .before .before .before .before .if2 .left) (c .before .before .plain-steps2 .ensures))
+loop-less c = omega (arith, c .before .before .before .before .before .before .before .before .before .before .before .before .before .before .before .before .before .before .before .if1 .taken, further (c .before .before .before .before .before .before .before .before .before .before .before .before .before .before .before .before .before .before .before .before .before .loop .inv .0) (c .before .before .before .before .before .before .before .before .before .before .before .before .before .before .before .before .before .before .before .if1 .taken) (c .before .before .before .before .before .before .before .before .before .before .before .before .before .before .before .turn-at .ensures) (c .before .before .before .before .before .before .before .before .before .if2 .left) (c .before .before .plain-steps2 .ensures))
 
 loop-again : tie.Need-loop-again Inv-loop μ-loop
 loop-again c =
-    let inv = c .before .before .before .before .before .before .before .before .before .before .before .before .before .before .before .before .before .before .before .before .loop .inv in
-    let kept = c .before .before .before .before .before .before .before .before .before .before .before .before .before .before .turn-at .kept in (
-      going-next (inv .0) (c .before .before .before .before .before .before .before .before .before .before .before .before .before .before .before .before .before .before .if1 .taken) (c .before .before .before .before .before .before .before .before .before .before .before .before .before .before .turn-at .ensures) (c .before .before .before .before .before .before .before .before .if2 .left) (c .before .before .plain-steps2 .ensures)
-          (⊎-elim (λ x. x .3 ∙ x .2 .ensures) (λ x. no-line _ (omega (arith, x .0 .left)) (x .1)) (c .before .before .before .before .before .before .if3 .came)),
+    let inv = c .before .before .before .before .before .before .before .before .before .before .before .before .before .before .before .before .before .before .before .before .before .loop .inv in
+    let kept = c .before .before .before .before .before .before .before .before .before .before .before .before .before .before .before .turn-at .kept in (
+      going-next (inv .0) (c .before .before .before .before .before .before .before .before .before .before .before .before .before .before .before .before .before .before .before .if1 .taken) (c .before .before .before .before .before .before .before .before .before .before .before .before .before .before .before .turn-at .ensures) (c .before .before .before .before .before .before .before .before .before .if2 .left) (c .before .before .plain-steps2 .ensures)
+          (c .before .before .before .before .before .before .note-lines .ensures),
       c .before .before .plain-steps2 .kept .1 .1 .0 ∙ kept .1 .1 .1 .1 .1 .0 ∙ inv .1,
       kept .1 .1 .1 .1 .0 ∙ inv .2,
     )
