@@ -2,7 +2,7 @@
 use Prim.Native.Nat.{ℕ, zero, suc, _+_, _*_, _-_, _≤_, _<_}
 use mathlib.Core.Path.{_≡_, refl, sym, _∙_, ap, ap₂}
 use mathlib.Core.Logic.{_⊎_, inl, inr, ⊎-elim}
-use mathlib.Core.Bool.{Bool, true, false, cond, _||_}
+use mathlib.Core.Bool.{Bool, true, false, cond, _&&_, _||_}
 use mathlib.Core.List.{List}
 use native.Mathlib.Nat.{le-of-suc-le-suc, not-suc-le-zero, eq-or-lt-of-le}
 use native.Mathlib.Numerals.{add-one}
@@ -12,7 +12,7 @@ use native.Mathlib.Omega.{arith}
 use lib.ListN.{getD, set, length, List·getD-eq-default}
 use lib.Seq.{set-out}
 use Rattle.store.specs.declared.values.Val.{Val}
-use Rattle.store.specs.Words.{valueAt, putValue, emptyDown, moveOne, movedDown, clearedFrom, lostVal, emptiedOne, emptiedBy}
+use Rattle.store.specs.Words.{valueAt, putValue, emptyDown, moveOne, movedDown, clearedFrom, tagsMeet, lostVal, emptiedOne, emptiedBy}
 
 pub value-beyond : (w : List ℕ) (i : ℕ) → length w ≤ i → record { tag = 0; number = 0 } ≡ valueAt w i
 unfolding valueAt
@@ -69,6 +69,28 @@ unfolding clearedFrom
 cleared-more w from i e q = q ∙ ap (λ (l : List ℕ). set l (from + i) 0) e ∙ sym (ap (clearedFrom w from) (add-one i))
 
 -- values emptied
+
+pub or-none : (b : Bool) → b ≡ (b || false)
+or-none true = refl
+or-none false = refl
+
+-- the numbers count only where the tags meet
+
+pub lost-by-number : (t v : Val) {b : Bool} → b ≡ tagsMeet (t .tag) (v .tag) → b ≡ true → eqb (v .number) (t .number) ≡ lostVal t v
+unfolding lostVal
+lost-by-number t v e h = both (eqb (v .number) (t .number)) ∙ ap (λ (x : Bool). eqb (v .number) (t .number) && x) (sym h ∙ e)
+  where
+    both : (x : Bool) → x ≡ (x && true)
+    both true = refl
+    both false = refl
+
+pub lost-by-tag : (t v : Val) {b : Bool} → b ≡ tagsMeet (t .tag) (v .tag) → b ≡ false → false ≡ lostVal t v
+unfolding lostVal
+lost-by-tag t v e h = neither (eqb (v .number) (t .number)) ∙ ap (λ (x : Bool). eqb (v .number) (t .number) && x) (sym h ∙ e)
+  where
+    neither : (x : Bool) → false ≡ (x && false)
+    neither true = refl
+    neither false = refl
 
 pub one-emptied : (w : List ℕ) (t : Val) (i : ℕ) {v u : Val} {b : Bool} {w′ : List ℕ} → v ≡ valueAt w i → b ≡ lostVal t v → b ≡ true
     → u ≡ record { tag = 0; number = 0 } → w′ ≡ putValue w i u → w′ ≡ emptiedOne w t i

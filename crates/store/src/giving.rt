@@ -11,13 +11,25 @@ use super::values::value;
 pub fn tags_meet(a: u32, b: u32) -> bool
     ensures { λ r. ⌜ r ≡ tagsMeet a b ⌝ }
 {
-    (a == b) | (((a == 4) & ((5 <= b) & (b <= 6))) | ((b == 4) & ((5 <= a) & (a <= 6))))
+    if a == b {
+        return true;
+    }
+    if a == 4 {
+        return (5 <= b) & (b <= 6);
+    }
+    if b == 4 {
+        return (5 <= a) & (a <= 6);
+    }
+    false
 }
 
 pub fn is_lost(t: Val, v: Val) -> bool
     ensures { λ r. ⌜ r ≡ lostVal t v ⌝ }
 {
-    (v.number == t.number) & tags_meet(t.tag, v.tag)
+    if tags_meet(t.tag, v.tag) {
+        return v.number == t.number;
+    }
+    false
 }
 
 // The value at i emptied where it is lost with t.

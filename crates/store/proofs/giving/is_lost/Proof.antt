@@ -1,7 +1,6 @@
+-- `is_lost` compares the numbers only where the tags meet.
 use Rattle.store.specs.Words.{lostVal}
-use lib.Dec.{eqb}
-use mathlib.Core.Bool.{Bool, _&&_}
-use mathlib.Core.Path.{ap}
+use Rattle.store.proofs.Laws.{lost-by-number, lost-by-tag}
 use borrow.Author.Needs.{needs}
 use Rattle.store.proofs.giving.is_lost.Statement.{statement}
 use Rattle.store.proofs.giving.is_lost.Tie as tie
@@ -10,8 +9,10 @@ tags-meet-requires : tie.Need-tags-meet-requires
 tags-meet-requires c κs = search needs
 
 returns : tie.Need-returns
-unfolding lostVal
-returns c = ap (λ (b : Bool). eqb (c .before .before .before .args .v .number) (c .before .before .before .args .t .number) && b) (c .tags-meet .ensures)
+returns c = lost-by-number (c .before .before .before .before .args .t) (c .before .before .before .before .args .v) (c .before .before .before .tags-meet .ensures) (c .before .before .if1 .taken)
+
+returns-2 : tie.Need-returns-2
+returns-2 c = lost-by-tag (c .before .before .args .t) (c .before .before .args .v) (c .before .tags-meet .ensures) (c .if1 .left)
 
 pub is-lost-spec : {M : Type 1} → statement M
-is-lost-spec = tie.close (tie.spec tags-meet-requires returns)
+is-lost-spec = tie.close (tie.spec tags-meet-requires returns returns-2)
