@@ -4,3 +4,4 @@ pub mod Forked
 pub mod Exchanged
 pub mod Meets
 pub mod Stepped
+pub mod Beside

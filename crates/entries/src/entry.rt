@@ -4,7 +4,7 @@ ghost use Prim.Native.Nat.{_+_, _*_, _<_, _≤_};
 ghost use lib.ListN.{length};
 ghost use Rattle.table.specs.Table.{methods};
 ghost use Rattle.entries.specs.Came.{came};
-ghost use Rattle.entries.specs.Entries.{entryOp};
+ghost use Rattle.entries.specs.Entries.{entryOp, oneLine};
 use super::came::Count;
 use super::came::Moved;
 use super::came::stays;
@@ -52,4 +52,11 @@ pub fn entry(
         n,
         (code % 65536) as u16,
     )
+}
+
+// The entry of this code has one line, and changes its process's part alone.
+pub fn one_line(code: u32) -> bool
+    ensures { λ r. ⌜ r ≡ oneLine code ⌝ }
+{
+    (code != 1) & ((code != 114) & ((code != 115) & (code != 116)))
 }

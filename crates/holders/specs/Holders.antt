@@ -1,7 +1,7 @@
 -- The holders of the channel ends as a table. These definitions follow the code; that the table says what the lines
 -- say is proved in proofs/.
 use Prim.Native.Nat.{ℕ, zero, suc, _+_, _*_}
-use mathlib.Core.Bool.{cond}
+use mathlib.Core.Bool.{Bool, false, cond, _||_}
 use mathlib.Core.List.{List, [], _∷_}
 use lib.ListN.{getD, set, replicate}
 use lib.Dec.{eqb, ltb}
@@ -34,3 +34,11 @@ noted t l =
 unfoldable pub notedFrom : List (List ℕ) → List ℕ → ℕ → ℕ → List (List ℕ)
 notedFrom t trace from zero = t
 notedFrom t trace from (suc j) = noted (notedFrom t trace from j) (lineFrom trace (6 * (from + j)))
+
+-- one of these lines tells a holder
+unfoldable pub tellsHolder : Line → Bool
+tellsHolder l = eqb (l .kind) 2 || eqb (l .kind) 6
+
+unfoldable pub toldFrom : List ℕ → ℕ → ℕ → Bool
+toldFrom trace from zero = false
+toldFrom trace from (suc j) = toldFrom trace from j || tellsHolder (lineFrom trace (6 * (from + j)))

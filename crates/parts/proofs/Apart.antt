@@ -1,11 +1,12 @@
--- A part put back changes nothing, and other words in one part leave the other parts as they are.
+-- A part put back changes nothing, and other words in one part, or in front of the parts, leave the other parts as they
+-- are.
 use Prim.Native.Nat.{ℕ, _+_, _*_, _-_, _≤_, _<_}
 use mathlib.Core.Path.{_≡_, sym, _∙_, ap}
 use mathlib.Core.Logic.{_≢_, _⊎_, inl, inr, ⊎-elim}
 use mathlib.Core.List.{List, _++_}
 use native.Mathlib.Omega.{arith}
-use lib.ListN.{take, drop, length, length-drop, take-append-drop}
-use lib.Seq.{length-take-le, take-append-le, drop-append-le, drop-append-add}
+use lib.ListN.{take, drop, set, length, length-append, length-drop, take-append-drop}
+use lib.Seq.{length-take-le, take-append-le, drop-append-le, drop-append-add, drop-set-lt}
 use lib.Dec.{ltb}
 use borrow.Author.Tests.{ltb-true, ltb-false}
 use Rattle.lists.proofs.Tests.{decide}
@@ -44,6 +45,22 @@ module _ (w : List ℕ) (long : 8192 ≤ length w) where
   unfolding partOf
   part-long n h = length-take-le 512 (drop (partAt n) w) (omega (arith, h, long, length-drop (partAt n) w))
 
+  -- a store as long as before has 512 words in each part
+  pub part-kept : (n : ℕ) (ws : List ℕ) → n < 8 → length (withPart w n ws) ≡ length w → length ws ≡ 512
+  unfolding withPart
+  part-kept n ws h e =
+      omega (
+        arith,
+        long,
+        h,
+        e,
+        length-append (take (partAt n) w) (ws ++ drop 512 (drop (partAt n) w)),
+        length-append ws (drop 512 (drop (partAt n) w)),
+        up-to (partAt n) (omega (arith, h)),
+        length-drop 512 (drop (partAt n) w),
+        length-drop (partAt n) w,
+      )
+
   pub part-other : (n q : ℕ) (ws : List ℕ) → n < 8 → q < 8 → q ≢ n → length ws ≡ 512 → partOf (withPart w n ws) q ≡ partOf w q
   unfolding withPart partOf
   part-other n q ws h k ne l =
@@ -55,3 +72,8 @@ module _ (w : List ℕ) (long : 8192 ≤ length w) where
     where
       front : length (take (partAt n) w) ≡ partAt n
       front = up-to (partAt n) (omega (arith, h))
+
+-- a word in front of the parts is in none of them
+pub part-front : (w : List ℕ) (i x q : ℕ) → i < 512 → partOf (set w i x) q ≡ partOf w q
+unfolding partOf
+part-front w i x q h = ap (take 512) (drop-set-lt (partAt q) w i x (omega (arith, h)))

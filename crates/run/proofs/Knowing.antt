@@ -1,7 +1,7 @@
 -- What is known of the processes, by what was read and how the tests came out.
 use Prim.Native.Nat.{ℕ, _≤_, _<_}
 use mathlib.Core.Path.{_≡_, refl, sym, _∙_, ap}
-use mathlib.Core.Bool.{Bool, true, false, cond, not}
+use mathlib.Core.Bool.{Bool, true, false, cond, not, true≢false}
 use mathlib.Core.List.{List}
 use lib.ListN.{getD, replicate}
 use lib.Dec.{eqb}
@@ -10,8 +10,9 @@ use Rattle.ops.proofs.Returns.{took, passed-by}
 use Rattle.parts.specs.Parts.{partOf}
 use Rattle.offers.specs.declared.stand.Stand.{Stand}
 use Rattle.offers.specs.Stands.{standOp}
+use Rattle.entries.specs.Entries.{oneLine}
 use Rattle.run.specs.declared.known.Known.{Known}
-use Rattle.run.specs.Knowing.{marked, isIdle, withIdle, alone, stillKnown}
+use Rattle.run.specs.Knowing.{unknown, marked, isIdle, withIdle, alone, stillKnown, enteredKnown, unlessTold}
 
 -- a test that was negated
 
@@ -71,3 +72,35 @@ beyond-alone p work n h = took _ _ _ refl (le-leb 8 n h) refl
 pub stand-alone : (p work : List ℕ) (n : ℕ) {a : Stand} → n < 8 → a ≡ standOp p (partOf work n) → eqb (a .kind) 1 ≡ alone p work n
 unfolding alone
 stand-alone p work n h e = passed-by _ _ _ refl (lt-leb 8 n h) (ap (λ (b : Stand). eqb (b .kind) 1) e)
+
+-- after an entry with lines
+
+module _ (p work : List ℕ) (n : ℕ) (known : Known) (code : ℕ) {b : Bool} (e : b ≡ oneLine code) where
+  pub one-entered : b ≡ true → {k : Known} → k ≡ stillKnown p work n known 0 → k ≡ enteredKnown p work n known code
+  unfolding enteredKnown
+  one-entered h q = took _ _ _ e h q
+
+  pub more-entered : b ≡ false → {k : Known} → k ≡ unknown → k ≡ enteredKnown p work n known code
+  unfolding enteredKnown
+  more-entered h q = passed-by _ _ _ e h q
+
+pub forgotten : (known : Known) {told : Bool} → told ≡ true → {k : Known} → k ≡ unknown → k ≡ unlessTold known told
+unfolding unlessTold
+forgotten known h q = took _ _ _ refl h q
+
+pub not-forgotten : (known : Known) {told : Bool} → told ≡ false → known ≡ unlessTold known told
+unfolding unlessTold
+not-forgotten known h = passed-by _ _ _ refl h refl
+
+-- what is known after an entry with lines was known before it
+pub entered-so : (p work : List ℕ) (n : ℕ) (known : Known) (code : ℕ) (told : Bool) → unlessTold (enteredKnown p work n known code) told .some ≡ true
+    → (told ≡ false) × (oneLine code ≡ true) × (known .some ≡ true) × (alone p work n ≡ true)
+unfolding unlessTold enteredKnown stillKnown unknown
+entered-so p work n known code told z = go told (oneLine code) (known .some) z
+  where
+    go : (a b c : Bool) → cond a unknown (cond b (record { some = cond c (alone p work n) false; idle = known .idle }) unknown) .some ≡ true
+        → (a ≡ false) × (b ≡ true) × (c ≡ true) × (alone p work n ≡ true)
+    go true b c z = absurd (true≢false (sym z))
+    go false true true z = (refl, refl, refl, z)
+    go false true false z = absurd (true≢false (sym z))
+    go false false c z = absurd (true≢false (sym z))

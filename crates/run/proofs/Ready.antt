@@ -7,8 +7,8 @@ use mathlib.Core.Bool.{Bool, true, false, cond, not, _&&_, true≢false}
 use mathlib.Core.List.{List, [], _∷_, _++_, append-nil, append-assoc}
 use mathlib.Core.Option.{Option, none, some}
 use native.Mathlib.Omega.{arith}
-use lib.ListN.{getD, set, replicate, take, drop, length, length-append, length-drop, getD-replicate}
-use lib.Seq.{length-take-le, getD-set-other}
+use lib.ListN.{getD, set, replicate, take, drop, length, length-append, getD-replicate}
+use lib.Seq.{getD-set-other}
 use lib.Dec.{T, eqb, leb, ltb}
 use borrow.Author.Tests.{eqb-true, eqb-false, eq-eqb, ne-eqb, le-leb, lt-leb, leb-true, leb-false, ltb-true, ltb-false, lt-ltb}
 use Rattle.lists.specs.Lists.{All}
@@ -29,10 +29,11 @@ use Rattle.layout.specs.Layout.{encode}
 use Rattle.layout.proofs.RoundTrip.{encode-length}
 use Rattle.ops.specs.Did.{Did, did, stepOp}
 use Rattle.parts.specs.Parts.{partAt, partOf, withPart, onPart}
-use Rattle.parts.proofs.Apart.{part-same, part-other}
+use Rattle.parts.proofs.Apart.{part-same, part-kept, part-other}
 use Rattle.offers.specs.declared.stand.Stand.{Stand}
 use Rattle.offers.specs.Stands.{standOp}
-use Rattle.holders.specs.Holders.{notedFrom, nobody}
+use Rattle.holders.specs.Holders.{notedFrom, toldFrom, nobody}
+use Rattle.holders.proofs.Noting.{untold}
 use Rattle.holders.proofs.Holding.{Holding, holding-none, holding-lines}
 use Rattle.ability.specs.Ending.{abilityOp, endingOp}
 use Rattle.ability.proofs.Able.{sound, able-is, ending-is}
@@ -40,16 +41,18 @@ use Rattle.ability.proofs.Idle.{still-unable, alone-able}
 use Rattle.entries.specs.declared.came.Count.{Count}
 use Rattle.entries.specs.declared.came.Moved.{Moved}
 use Rattle.entries.specs.Came.{Came, came, movedTo, stayedAt, fullAt}
-use Rattle.entries.specs.Entries.{entryOp}
+use Rattle.entries.specs.Entries.{oneLine, entryOp}
 use Rattle.entries.proofs.Singly.{took, tried}
 use Rattle.entries.proofs.Meets.{went}
 use Rattle.entries.proofs.Stepped.{Plain, Other, Law, entry-law}
+use Rattle.entries.proofs.Beside.{beside}
 use Rattle.run.specs.declared.turn.Turn.{Turn}
 use Rattle.run.specs.declared.burst.Burst.{Burst}
 use Rattle.run.specs.declared.known.Known.{Known}
-use Rattle.run.specs.Knowing.{unknown, marked, isIdle, withIdle, alone, stillKnown}
+use Rattle.run.specs.Knowing.{unknown, marked, isIdle, withIdle, alone, stillKnown, enteredKnown, unlessTold}
 use Rattle.run.specs.Bursts.{Stop, stopsAt, namedOp, burstOp}
 use Rattle.run.specs.Turned.{Turned, turned, cameOp, turnedBy, turnOp}
+use Rattle.run.proofs.Knowing.{entered-so}
 use Rattle.run.proofs.Modest.{modest}
 
 -- an entry of a process that cannot move does nothing
@@ -287,19 +290,20 @@ module _ {p schedule outcomes t0 : List ℕ} {room : ℕ} (given : Inputs p sche
       pub words : d .words ≡ work₀
       pub came : cameOp p outcomes trace₀ work₀ room t count₀ named (d .code) ≡ comesTo
 
+    unmade : 8 ≤ named → able p outcomes (at k) named ≡ false
+    unfolding able moves
+    unmade h = ap (moves p outcomes (at k) named) (unmade-idle p outcomes (at k) named (omega (arith, h, state-sound .processCount)))
+
     module _ {work trace : List ℕ} {t : List (List ℕ)} {lines used : ℕ} {known : Known} (r : Ready k work trace t lines used known) where
       -- no process can have that number
       far-law : 8 ≤ named → Stopped t (did 1 work₀)
-      unfolding able moves cameOp effectOf
+      unfolding cameOp
       far-law h = record {
         code = λ e. absurd (omega (arith, e));
         words = refl;
         came = ap (λ (b : Bool). cond b (came (stayedAt count₀) trace₀ work₀) (entryOp p outcomes trace₀ work₀ room t count₀ named 1)) (le-leb 8 named h)
-            ∙ sym (ap (λ (b : Bool). comes b (fits room (at k) effect)) unmade);
+            ∙ sym (ap (λ (b : Bool). comes b (fits room (at k) effect)) (unmade h));
       }
-        where
-          unmade : able p outcomes (at k) named ≡ false
-          unmade = ap (moves p outcomes (at k) named) (unmade-idle p outcomes (at k) named (omega (arith, h, state-sound .processCount)))
 
       low-used : at k .used < 4000000000
       low-used = omega (arith, r .fewUsed, r .inside, short)
@@ -408,76 +412,161 @@ module _ {p schedule outcomes t0 : List ℕ} {room : ℕ} (given : Inputs p sche
             (λ i. old n h (sym (getD-set-other base named n true false (eqb-false n named i)) ∙ e))
             (decide (eqb n named))
 
+  module _ (k : ℕ) where
+    long : 8192 ≤ length (work₀ k)
+    long = omega (arith, length-append (encode (at k .config)) rest, encode-length p (at k .config) (state-sound k))
+
+    -- an entry leaves as many words as there were
+    same-long : length (encode (effect k .config) ++ rest) ≡ length (work₀ k)
+    unfolding stateAt afterEffect
+    same-long =
+        length-append (encode (at (suc k) .config)) rest
+        ∙ ap (λ (i : ℕ). i + length rest)
+        (encode-length p (at (suc k) .config) (state-sound (suc k)) ∙ sym (encode-length p (at k .config) (state-sound k)))
+        ∙ sym (length-append (encode (at k .config)) rest)
+
+    -- where the named process moved alone and comes to stand at no offer, the idle processes stay so and it can go on
+
+    module _ {t : List (List ℕ)} {known : Known} (r : Ready k (work₀ k) (trace₀ k) t (length (at k .lines)) (at k .used) known) (low : named k < 8)
+        (work′ : List ℕ) (others : (q : ℕ) → q < 8 → q ≢ named k → partOf work′ q ≡ partOf (work₀ k) q)
+        (by-itself : standOp p (partOf work′ (named k)) .kind ≡ 1) where
+      moved-idle : known .some ≡ true → getD (known .idle) (named k) false ≡ false → Idle work′ t (known .idle)
+      moved-idle i free n h e =
+          still-unable p (work₀ k) work′ t n (others n h ne)
+          (λ q l. ⊎-elim (λ j. inr (subst (λ (m : ℕ). standOp p (partOf work′ m) .kind < 2) (sym (eqb-true q (named k) j)) (omega (arith, by-itself))))
+          (λ j. inl (others q l (eqb-false q (named k) j)))
+          (decide (eqb q (named k))))
+          (r .idle i n h e)
+        where
+          ne : n ≢ named k
+          ne j = true≢false (sym e ∙ ap (λ (m : ℕ). getD (known .idle) m false) j ∙ free)
+
+      moved-goes : {t′ : List (List ℕ)} → Holding t′ (at k .lines ++ effect k .lines) → work′ ≡ encode (effect k .config) ++ rest → ending p outcomes (at (suc k)) ≡ 0
+      unfolding stateAt afterEffect
+      moved-goes {t′} holding e =
+          goes-on (suc k) holding (named k) low
+          (ap (λ (w : List ℕ). abilityOp p w t′ (named k)) (sym e) ∙ alone-able p work′ t′ (named k) by-itself)
+
     -- the rest of the entry
 
     abbrev pub Turns : List (List ℕ) → ℕ → Turned → Type 0
     Turns t lines x =
         ((x .turn .end ≡ 0) × (lines ≤ x .turn .lines)
-        × Ready (suc k) (x .work) (x .trace) (notedFrom t (x .trace) lines (x .turn .lines - lines)) (x .turn .lines) (x .turn .used) (x .turn .known))
+        × Ready (suc k) (x .work) (x .trace) (notedFrom t (x .trace) lines (x .turn .lines - lines)) (x .turn .lines) (x .turn .used)
+        (unlessTold (x .turn .known) (toldFrom (x .trace) lines (x .turn .lines - lines))))
         ⊎ ((x .turn .end ≢ 0) × Over k (x .turn .end) (x .work) (x .trace) (x .turn .lines) (x .turn .used))
 
-    stay-noted : (t : List (List ℕ)) (trace : List ℕ) (lines : ℕ) → notedFrom t trace lines (lines - lines) ≡ t
-    unfolding notedFrom
-    stay-noted t trace lines = ap (notedFrom t trace lines) {x = lines - lines} {y = 0} (omega arith)
-
     pub turn-law : {work trace : List ℕ} {t : List (List ℕ)} {lines used : ℕ} {known : Known} → Ready k work trace t lines used known → k < length schedule → (code : ℕ)
-        → cameOp p outcomes trace work room t (record { entry = k; lines = lines; used = used }) named code ≡ comesTo
-        → Turns t lines (turnOp p outcomes trace work room t (record { entry = k; lines = lines; used = used }) named code known)
-    unfolding turnOp turnedBy unknown
+        → cameOp p outcomes trace work room t (record { entry = k; lines = lines; used = used }) (named k) code ≡ (comesTo k)
+        → Turns t lines (turnOp p outcomes trace work room t (record { entry = k; lines = lines; used = used }) (named k) code known)
+    unfolding turnOp turnedBy cameOp notedFrom toldFrom unknown alone stillKnown enteredKnown unlessTold
     turn-law {work} {trace} {t} {lines} {used} {known} r l code e =
-        subst (λ (c : Came). Turns t lines (turnedBy p t named known c)) (sym e) (go (able p outcomes (at k) named) (fits room (at k) effect) refl refl)
+        subst (λ (c : Came). Turns t lines (turnedBy p t (named k) code known c)) (sym e) (go (able p outcomes (at k) (named k)) (fits room (at k) (effect k)) refl refl)
       where
-        there : Ready k work₀ trace₀ t (length (at k .lines)) (at k .used) known
-        there = ready-there r
+        there : Ready k (work₀ k) (trace₀ k) t (length (at k .lines)) (at k .used) known
+        there = ready-there k r
 
-        idles : able p outcomes (at k) named ≡ false → ending p outcomes (at k) ≡ 0
-            → Turns t lines (turned (record { end = 0; lines = length (at k .lines); used = at k .used; known = withIdle known named }) trace₀ work₀)
+        idles : able p outcomes (at k) (named k) ≡ false → ending p outcomes (at k) ≡ 0
+            → Turns t lines (turned (record { end = 0; lines = length (at k .lines); used = at k .used; known = withIdle known (named k) }) (trace₀ k) (work₀ k))
         idles a e = inl (
           refl,
           omega (arith, r .counted),
-          subst (λ (x : List (List ℕ)). Ready (suc k) work₀ trace₀ x (length (at k .lines)) (at k .used) (withIdle known named))
-              (sym (ap (λ (j : ℕ). notedFrom t trace₀ j (length (at k .lines) - j)) (r .counted) ∙ stay-noted t trace₀ (length (at k .lines))))
-              (ready-idle there l a e (withIdle known named) (λ i. idle-more there a)),
+          subst (λ (n : ℕ). Ready (suc k) (work₀ k) (trace₀ k) (notedFrom t (trace₀ k) lines n) (length (at k .lines)) (at k .used) (unlessTold (withIdle known (named k)) (toldFrom (trace₀ k) lines n)))
+              {x = 0} {y = length (at k .lines) - lines} (omega (arith, r .counted))
+              (ready-idle k there l a e (withIdle known (named k)) (λ i. idle-more k there a)),
         )
 
-        stay : (b : Bool) → known .some ≡ b → able p outcomes (at k) named ≡ false
+        stay : (b : Bool) → known .some ≡ b → able p outcomes (at k) (named k) ≡ false
             → Turns t lines (cond b
-            (turned (record { end = 0; lines = length (at k .lines); used = at k .used; known = withIdle known named }) trace₀ work₀)
-            (turned (record { end = endingOp p work₀ t 8; lines = length (at k .lines); used = at k .used; known = withIdle known named }) trace₀ work₀))
+            (turned (record { end = 0; lines = length (at k .lines); used = at k .used; known = withIdle known (named k) }) (trace₀ k) (work₀ k))
+            (turned (record { end = endingOp p (work₀ k) t 8; lines = length (at k .lines); used = at k .used; known = withIdle known (named k) }) (trace₀ k) (work₀ k)))
         stay true i a = idles a (r .sure i)
-        stay false i a = ends (endingOp p work₀ t 8) refl
+        stay false i a = ends (endingOp p (work₀ k) t 8) refl
           where
-            is : endingOp p work₀ t 8 ≡ ending p outcomes (at k)
-            is = ending-is p kept narrow outcomes bytes (at k) ks typed rest owned t (r .table)
+            is : endingOp p (work₀ k) t 8 ≡ ending p outcomes (at k)
+            is = ending-is p kept narrow outcomes bytes (at k) (ks k) (typed k) rest (owned k) t (r .table)
 
-            ends : (x : ℕ) → endingOp p work₀ t 8 ≡ x
-                → Turns t lines (turned (record { end = x; lines = length (at k .lines); used = at k .used; known = withIdle known named }) trace₀ work₀)
+            ends : (x : ℕ) → endingOp p (work₀ k) t 8 ≡ x
+                → Turns t lines (turned (record { end = x; lines = length (at k .lines); used = at k .used; known = withIdle known (named k) }) (trace₀ k) (work₀ k))
             ends zero j = idles a (sym is ∙ j)
             ends (suc x) j = inr (
               λ z. absurd (omega (arith, z)),
               record { ends = r .runs ∙ ends-here p outcomes room (at k) k x (drop k schedule) (sym is ∙ j); store = refl; written = refl; counted = refl; drawn = refl },
             )
 
-        go : (a f : Bool) → able p outcomes (at k) named ≡ a → fits room (at k) effect ≡ f → Turns t lines (turnedBy p t named known (comes a f))
+        go : (a f : Bool) → able p outcomes (at k) (named k) ≡ a → fits room (at k) (effect k) ≡ f → Turns t lines (turnedBy p t (named k) code known (comes k a f))
         go true true i j = inl (
           refl,
-          omega (arith, r .counted, length-append (at k .lines) (effect .lines)),
-          ready-next r l (able-goes p outcomes (at k) named i) j (encode (effect .config) ++ rest) (traceAfter (at k .lines ++ effect .lines) t0)
-              (notedFrom t (traceAfter (at k .lines ++ effect .lines) t0) lines (length (at k .lines ++ effect .lines) - lines))
-              (length (at k .lines ++ effect .lines)) (at k .used + effect .used) unknown refl refl refl refl
-              (subst (λ (x : List (List ℕ)). Holding x (at k .lines ++ effect .lines))
-              (ap₂ (notedFrom t (traceAfter (at k .lines ++ effect .lines) t0)) (sym (r .counted)) (sym count-more))
-              (holding-lines t (at k .lines) (effect .lines) t0 (r .table)))
-              (λ z. absurd (true≢false (sym z)))
-              (λ z. absurd (true≢false (sym z))),
+          omega (arith, r .counted, length-append (at k .lines) (effect k .lines)),
+          ready-next k r l (able-goes p outcomes (at k) (named k) i) j work′ trace′ t′ (length (at k .lines ++ effect k .lines)) (at k .used + effect k .used) known′
+              refl refl refl refl holding
+              (λ z. moved-goes there low work′ (others z) (by-itself z) holding refl)
+              (λ z.
+              subst (λ (marks : List Bool). Idle work′ t′ marks) (sym (marks-same z))
+              (subst (λ (u : List (List ℕ)). Idle work′ u (known .idle)) (sym (untold t trace′ lines (length (at k .lines ++ effect k .lines) - lines) (so z .0)))
+              (moved-idle there low work′ (others z) (by-itself z) (so z .2) (unmarked (so z .2))))),
         )
           where
-            count-more : length (at k .lines ++ effect .lines) - lines ≡ length (effect .lines)
-            count-more = omega (arith, r .counted, length-append (at k .lines) (effect .lines))
+            work′ : List ℕ
+            work′ = encode (effect k .config) ++ rest
+
+            trace′ : List ℕ
+            trace′ = traceAfter (at k .lines ++ effect k .lines) t0
+
+            t′ : List (List ℕ)
+            t′ = notedFrom t trace′ lines (length (at k .lines ++ effect k .lines) - lines)
+
+            told : Bool
+            told = toldFrom trace′ lines (length (at k .lines ++ effect k .lines) - lines)
+
+            known′ : Known
+            known′ = unlessTold (enteredKnown p work′ (named k) known code) told
+
+            count-more : length (at k .lines ++ effect k .lines) - lines ≡ length (effect k .lines)
+            count-more = omega (arith, r .counted, length-append (at k .lines) (effect k .lines))
+
+            holding : Holding t′ (at k .lines ++ effect k .lines)
+            holding =
+                subst (λ (x : List (List ℕ)). Holding x (at k .lines ++ effect k .lines)) (ap₂ (notedFrom t trace′) (sym (r .counted)) (sym count-more))
+                (holding-lines t (at k .lines) (effect k .lines) t0 (r .table))
+
+            low : named k < 8
+            low = ⊎-elim (λ h. absurd (true≢false (sym i ∙ unmade k (leb-true 8 (named k) h)))) (λ h. leb-false 8 (named k) h) (decide (leb 8 (named k)))
+
+            unmarked : known .some ≡ true → getD (known .idle) (named k) false ≡ false
+            unmarked z =
+                ⊎-elim (λ m. absurd (true≢false (sym i ∙ not-able k (r .table) (named k) low (there .idle z (named k) low m)))) (λ m. m)
+                (decide (getD (known .idle) (named k) false))
+
+            so : known′ .some ≡ true → (told ≡ false) × (oneLine code ≡ true) × (known .some ≡ true) × (alone p work′ (named k) ≡ true)
+            so z = entered-so p work′ (named k) known code told z
+
+            by-itself : known′ .some ≡ true → standOp p (partOf work′ (named k)) .kind ≡ 1
+            by-itself z =
+                eqb-true (standOp p (partOf work′ (named k)) .kind) 1
+                (sym (ap (λ (b : Bool). cond b false (eqb (standOp p (partOf work′ (named k)) .kind) 1)) (lt-leb 8 (named k) low)) ∙ so z .3)
+
+            marks-same : known′ .some ≡ true → known′ .idle ≡ known .idle
+            marks-same z =
+                ap₂ (λ (x y : Bool). cond x unknown (cond y (stillKnown p work′ (named k) known 0) unknown) .idle) (so z .0) (so z .1)
+
+            came-so : entryOp p outcomes (trace₀ k) (work₀ k) room t (count₀ k) (named k) code .work ≡ work′
+            came-so =
+                sym (ap (λ (b : Bool). cond b (came (stayedAt (count₀ k)) (trace₀ k) (work₀ k)) (entryOp p outcomes (trace₀ k) (work₀ k) room t (count₀ k) (named k) code) .work)
+                (lt-leb 8 (named k) low))
+                ∙ ap (λ (c : Came). c .work)
+                ((λ x. cameOp p outcomes (sym (r .written) x) (sym (r .store) x) room t (record { entry = k; lines = sym (r .counted) x; used = sym (r .drawn) x }) (named k) code)
+                ∙ e)
+                ∙ ap₂ (λ (a f : Bool). comes k a f .work) i j
+
+            others : known′ .some ≡ true → (q : ℕ) → q < 8 → q ≢ named k → partOf work′ q ≡ partOf (work₀ k) q
+            others z q h ne =
+                ap (λ (w : List ℕ). partOf w q) (sym came-so)
+                ∙ beside p outcomes (trace₀ k) (work₀ k) room t (count₀ k) (named k) code long low (so z .1) (ap length came-so ∙ same-long) q h ne
         go true false i j = inr (
           λ z. absurd (omega (arith, z)),
           record {
-            ends = r .runs ∙ at-full p outcomes room schedule k l (able-goes p outcomes (at k) named i) j;
+            ends = r .runs ∙ at-full p outcomes room schedule k l (able-goes p outcomes (at k) (named k) i) j;
             store = refl;
             written = refl;
             counted = refl;
@@ -487,66 +576,26 @@ module _ {p schedule outcomes t0 : List ℕ} {room : ℕ} (given : Inputs p sche
         go false f i j = stay (known .some) refl i
 
   module _ (k : ℕ) where
-    -- a step of the named process that comes to stand at no offer leaves the idle processes idle
+    -- a step leaves the idle processes idle
 
     module _ {t : List (List ℕ)} {known : Known} (r : Ready k (work₀ k) (trace₀ k) t (length (at k .lines)) (at k .used) known)
         (d : Did) (x : Stepped k d) (low : named k < 8) (ws : List ℕ) (words : d .words ≡ withPart (work₀ k) (named k) ws)
         (by-itself : standOp p (partOf (d .words) (named k)) .kind ≡ 1) where
-      long : 8192 ≤ length (work₀ k)
-      long = omega (arith, length-append (encode (at k .config)) rest, encode-length p (at k .config) (state-sound k))
-
-      -- the step leaves as many words as there were
-      same-long : length (d .words) ≡ length (work₀ k)
-      unfolding stateAt afterEffect
-      same-long =
-          ap length (x .words)
-          ∙ length-append (encode (at (suc k) .config)) rest
-          ∙ ap (λ (i : ℕ). i + length rest)
-          (encode-length p (at (suc k) .config) (state-sound (suc k))
-          ∙ sym (encode-length p (at k .config) (state-sound k)))
-          ∙ sym (length-append (encode (at k .config)) rest)
-
-      part-long : length ws ≡ 512
-      unfolding withPart
-      part-long =
-          omega (
-            arith,
-            long,
-            low,
-            sym same-long ∙ ap length words,
-            length-append (take (partAt (named k)) (work₀ k)) (ws ++ drop 512 (drop (partAt (named k)) (work₀ k))),
-            length-append ws (drop 512 (drop (partAt (named k)) (work₀ k))),
-            length-take-le (partAt (named k)) (work₀ k) (omega (arith, long, low)),
-            length-drop 512 (drop (partAt (named k)) (work₀ k)),
-            length-drop (partAt (named k)) (work₀ k),
-          )
-
       other : (q : ℕ) → q < 8 → q ≢ named k → partOf (d .words) q ≡ partOf (work₀ k) q
-      other q h ne = ap (λ (w : List ℕ). partOf w q) words ∙ part-other (work₀ k) long (named k) q ws low h ne part-long
+      other q h ne =
+          ap (λ (w : List ℕ). partOf w q) words
+          ∙ part-other (work₀ k) (long k) (named k) q ws low h ne
+          (part-kept (work₀ k) (long k) (named k) ws low (sym (ap length words) ∙ ap length (x .words) ∙ same-long k))
 
       stepped-idle : known .some ≡ true → isIdle known (named k) ≡ false → Idle (d .words) t (known .idle)
       unfolding isIdle
-      stepped-idle i free n h e =
-          still-unable p (work₀ k) (d .words) t n (other n h ne)
-          (λ q l. ⊎-elim (λ j. inr (subst (λ (m : ℕ). standOp p (partOf (d .words) m) .kind < 2) (sym (eqb-true q (named k) j)) (omega (arith, by-itself))))
-          (λ j. inl (other q l (eqb-false q (named k) j)))
-          (decide (eqb q (named k))))
-          (r .idle i n h e)
-        where
-          unmarked : getD (known .idle) (named k) false ≡ false
-          unmarked = sym (ap (λ (b : Bool). b && getD (known .idle) (named k) false) i) ∙ free
-
-          ne : n ≢ named k
-          ne j = true≢false (sym e ∙ ap (λ (m : ℕ). getD (known .idle) m false) j ∙ unmarked)
+      stepped-idle i free =
+          moved-idle k r low (d .words) other by-itself i (sym (ap (λ (b : Bool). b && getD (known .idle) (named k) false) i) ∙ free)
 
       stepped-goes : ending p outcomes (at (suc k)) ≡ 0
-      unfolding stateAt afterEffect
       stepped-goes =
-          goes-on (suc k) (subst (Holding t) same (r .table)) (named k) low
-          (ap (λ (w : List ℕ). abilityOp p w t (named k)) (sym (x .words)) ∙ alone-able p (d .words) t (named k) by-itself)
-        where
-          same : at k .lines ≡ at (suc k) .lines
-          same = sym (ap (λ (ls : List Line). at k .lines ++ ls) (x .lines) ∙ append-nil (at k .lines))
+          moved-goes k r low (d .words) other by-itself
+          (subst (Holding t) (sym (ap (λ (ls : List Line). at k .lines ++ ls) (x .lines) ∙ append-nil (at k .lines))) (r .table)) (x .words)
 
     -- an entry of a burst: it is passed, or the rest of the entry does all
 

@@ -18,7 +18,7 @@ use Rattle.entries.proofs.Returns.{came-to}
 use Rattle.run.specs.declared.known.Known.{Known}
 use Rattle.run.specs.declared.turn.Turn.{Turn}
 use Rattle.run.specs.declared.answer.Refusal.{Refusal}
-use Rattle.run.specs.Knowing.{unknown, withIdle}
+use Rattle.run.specs.Knowing.{unknown, withIdle, enteredKnown}
 use Rattle.run.specs.Turned.{Turned, turned, cameOp, turnedBy, turnOp}
 use Rattle.run.specs.Answers.{refusalOf}
 
@@ -45,16 +45,16 @@ module _ (p outcomes trace work : List ℕ) (room : ℕ) (t : List (List ℕ)) (
       → turned (record { end = 3; lines = m .lines; used = m .used; known = q }) ts ws
       ≡ turnOp p outcomes trace work room t g n code known
   unfolding turnOp turnedBy
-  turn-full h e = took _ _ _ refl (eq-eqb (m .state) 2 h) (ap (with-end m ts ws 3) e) ∙ ap (turnedBy p t n known) told
+  turn-full h e = took _ _ _ refl (eq-eqb (m .state) 2 h) (ap (with-end m ts ws 3) e) ∙ ap (turnedBy p t n code known) told
 
   module _ (room-left : m .state ≡ 2 → ⊥) where
-    pub turn-moves : m .state ≡ 1 → q ≡ unknown
+    pub turn-moves : m .state ≡ 1 → q ≡ enteredKnown p ws n known code
         → turned (record { end = 0; lines = m .lines; used = m .used; known = q }) ts ws
         ≡ turnOp p outcomes trace work room t g n code known
     unfolding turnOp turnedBy
     turn-moves h e =
         passed-by _ _ _ refl (ne-eqb (m .state) 2 room-left) (took _ _ _ refl (eq-eqb (m .state) 1 h) (ap (with-end m ts ws 0) e))
-        ∙ ap (turnedBy p t n known) told
+        ∙ ap (turnedBy p t n code known) told
 
     pub turn-idles : (m .state ≡ 1 → ⊥) → known .some ≡ true → q ≡ withIdle known n
         → turned (record { end = 0; lines = m .lines; used = m .used; known = q }) ts ws
@@ -63,7 +63,7 @@ module _ (p outcomes trace work : List ℕ) (room : ℕ) (t : List (List ℕ)) (
     turn-idles h k e =
         passed-by _ _ _ refl (ne-eqb (m .state) 2 room-left)
         (passed-by _ _ _ refl (ne-eqb (m .state) 1 h) (took _ _ _ refl k (ap (with-end m ts ws 0) e)))
-        ∙ ap (turnedBy p t n known) told
+        ∙ ap (turnedBy p t n code known) told
 
     pub turn-asks : {end : ℕ} → (m .state ≡ 1 → ⊥) → known .some ≡ false → end ≡ endingOp p ws t 8 → q ≡ withIdle known n
         → turned (record { end = end; lines = m .lines; used = m .used; known = q }) ts ws
@@ -72,7 +72,7 @@ module _ (p outcomes trace work : List ℕ) (room : ℕ) (t : List (List ℕ)) (
     turn-asks h k e i =
         passed-by _ _ _ refl (ne-eqb (m .state) 2 room-left)
         (passed-by _ _ _ refl (ne-eqb (m .state) 1 h) (passed-by _ _ _ refl k (ap₂ (with-end m ts ws) e i)))
-        ∙ ap (turnedBy p t n known) told
+        ∙ ap (turnedBy p t n code known) told
 
 -- the number and place of a case of the check's
 pub refused-as : (a k : Check) {r : Refusal} → a ≡ k → r ≡ refusalOf (verdictOf k) → r ≡ refusalOf (verdictOf a)

@@ -18,12 +18,12 @@ use Rattle.machine.specs.Run.{Result, run}
 use Rattle.machine.proofs.Steps.{stateAt}
 use Rattle.layout.specs.Layout.{encode, storeAfter}
 use Rattle.layout.proofs.RoundTrip.{encode-length}
-use Rattle.holders.specs.Holders.{notedFrom, nobody}
+use Rattle.holders.specs.Holders.{notedFrom, toldFrom, nobody}
 use Rattle.ability.specs.Ending.{endingOp}
 use Rattle.run.specs.declared.burst.Burst.{Burst}
 use Rattle.run.specs.declared.turn.Turn.{Turn}
 use Rattle.run.specs.declared.known.Known.{Known}
-use Rattle.run.specs.Knowing.{unknown, stillKnown}
+use Rattle.run.specs.Knowing.{unknown, stillKnown, unlessTold}
 use Rattle.run.specs.Bursts.{Stop, stopsAt, namedOp, burstOp}
 use Rattle.run.specs.Turned.{Turned, turned, turnAt}
 use Rattle.run.specs.Left.{Left, leftAs, leaves}
@@ -128,7 +128,8 @@ module _ {p schedule outcomes : List ℕ} {room : ℕ} {t0 : List ℕ} where
       going-over w0 same h = ⊎-elim (λ x. absurd (h (x .0))) (λ x. over-leaves w0 same (x .1)) turn
 
       module _ (goes : r .end ≡ 0) where
-        next : (lines ≤ r .lines) × Ready (g .given) rest (suc (b .at)) work′ trace′ (notedFrom t trace′ lines (r .lines - lines)) (r .lines) (r .used) (r .known)
+        next : (lines ≤ r .lines) × Ready (g .given) rest (suc (b .at)) work′ trace′ (notedFrom t trace′ lines (r .lines - lines)) (r .lines) (r .used)
+            (unlessTold (r .known) (toldFrom trace′ lines (r .lines - lines)))
         next = ⊎-elim (λ x. (x .1, x .2)) (λ x. absurd (x .0 goes)) turn
 
         pub lines-more : lines ≤ r .lines
@@ -140,8 +141,8 @@ module _ {p schedule outcomes : List ℕ} {room : ℕ} {t0 : List ℕ} where
           omega (arith, next .1 .counted, next .1 .fit, g .given .holds),
         )
 
-        module _ {b′ : Burst} {work″ : List ℕ}
-            (stops : stopsAt b′ work″ ≡ burstOp p schedule work′ (b .at + 1) (r .known) (length schedule - (b .at + 1))) where
+        module _ {tells : Bool} (says : tells ≡ toldFrom trace′ lines (r .lines - lines)) {known : Known} (knows : known ≡ unlessTold (r .known) tells)
+            {b′ : Burst} {work″ : List ℕ} (stops : stopsAt b′ work″ ≡ burstOp p schedule work′ (b .at + 1) known (length schedule - (b .at + 1))) where
           -- it goes on
           pub going-next : {u : List (List ℕ)} → u ≡ notedFrom t trace′ lines (r .lines - lines)
               → Going p schedule outcomes room rest t0 work″ trace′ u (r .lines) (r .used) b′
@@ -150,8 +151,10 @@ module _ {p schedule outcomes : List ℕ} {room : ℕ} {t0 : List ℕ} where
             stands =
                 subst (Burst-good (g .given) rest trace′ u (r .lines) (r .used)) (sym stops)
                 (burst-law (g .given) rest (length schedule - (b .at + 1)) (b .at + 1) refl
-                (subst (λ (n : ℕ). Ready (g .given) rest n work′ trace′ u (r .lines) (r .used) (r .known)) {x = suc (b .at)} {y = b .at + 1} (omega arith)
-                (subst (λ (v : List (List ℕ)). Ready (g .given) rest (suc (b .at)) work′ trace′ v (r .lines) (r .used) (r .known)) (sym e) (next .1))));
+                (subst (λ (n : ℕ). Ready (g .given) rest n work′ trace′ u (r .lines) (r .used) known) {x = suc (b .at)} {y = b .at + 1} (omega arith)
+                (subst (λ (x : Known). Ready (g .given) rest (suc (b .at)) work′ trace′ u (r .lines) (r .used) x) (sym (knows ∙ ap (unlessTold (r .known)) says))
+                (subst (λ (v : List (List ℕ)). Ready (g .given) rest (suc (b .at)) work′ trace′ v (r .lines) (r .used) (unlessTold (r .known) (toldFrom trace′ lines (r .lines - lines))))
+                (sym e) (next .1)))));
           }
 
           pub further : b .at < b′ .at
@@ -159,5 +162,5 @@ module _ {p schedule outcomes : List ℕ} {room : ℕ} {t0 : List ℕ} where
               omega (
                 arith,
                 subst (λ (x : Stop). b .at + 1 ≤ x .burst .at) (sym stops)
-                    (burst-past p schedule work′ (b .at + 1) (r .known) (length schedule - (b .at + 1))),
+                    (burst-past p schedule work′ (b .at + 1) known (length schedule - (b .at + 1))),
               )

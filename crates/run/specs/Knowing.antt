@@ -7,6 +7,7 @@ use lib.Dec.{eqb, leb, ltb}
 use Rattle.parts.specs.Parts.{partOf}
 use Rattle.offers.specs.declared.stand.Stand.{Stand}
 use Rattle.offers.specs.Stands.{standOp}
+use Rattle.entries.specs.Entries.{oneLine}
 use Rattle.run.specs.declared.known.Known.{Known}
 
 unfoldable pub unknown : Known
@@ -31,3 +32,11 @@ alone p work n = cond (leb 8 n) false (eqb (standOp p (partOf work n) .kind) 1)
 unfoldable pub stillKnown : List ℕ → List ℕ → ℕ → Known → ℕ → Known
 stillKnown p work n known code =
     record { some = cond (known .some) (cond (eqb code 0) (alone p work n) true) false; idle = known .idle }
+
+-- an entry with one line is like a step in this; after any other nothing is known
+unfoldable pub enteredKnown : List ℕ → List ℕ → ℕ → Known → ℕ → Known
+enteredKnown p work n known code = cond (oneLine code) (stillKnown p work n known 0) unknown
+
+-- nor where a line told a holder
+unfoldable pub unlessTold : Known → Bool → Known
+unlessTold known told = cond told unknown known

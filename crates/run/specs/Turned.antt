@@ -11,7 +11,7 @@ use Rattle.entries.specs.Entries.{entryOp}
 use Rattle.run.specs.declared.known.Known.{Known}
 use Rattle.run.specs.declared.burst.Burst.{Burst}
 use Rattle.run.specs.declared.turn.Turn.{Turn}
-use Rattle.run.specs.Knowing.{unknown, withIdle}
+use Rattle.run.specs.Knowing.{unknown, withIdle, enteredKnown}
 
 pub record Turned : Type 0 where
   pub turn : Turn
@@ -26,18 +26,18 @@ cameOp p outcomes trace work room t g n code =
     cond (leb 8 n) (came (stayedAt g) trace work) (entryOp p outcomes trace work room t g n code)
 
 -- what an entry means for the run
-unfoldable pub turnedBy : List ℕ → List (List ℕ) → ℕ → Known → Came → Turned
-turnedBy p t n known c =
+unfoldable pub turnedBy : List ℕ → List (List ℕ) → ℕ → ℕ → Known → Came → Turned
+turnedBy p t n code known c =
     cond (eqb (c .moved .state) 2)
     (turned (record { end = 3; lines = c .moved .lines; used = c .moved .used; known = unknown }) (c .trace) (c .work))
     (cond (eqb (c .moved .state) 1)
-    (turned (record { end = 0; lines = c .moved .lines; used = c .moved .used; known = unknown }) (c .trace) (c .work))
+    (turned (record { end = 0; lines = c .moved .lines; used = c .moved .used; known = enteredKnown p (c .work) n known code }) (c .trace) (c .work))
     (cond (known .some)
     (turned (record { end = 0; lines = c .moved .lines; used = c .moved .used; known = withIdle known n }) (c .trace) (c .work))
     (turned (record { end = endingOp p (c .work) t 8; lines = c .moved .lines; used = c .moved .used; known = withIdle known n }) (c .trace) (c .work))))
 
 unfoldable pub turnOp : List ℕ → List ℕ → List ℕ → List ℕ → ℕ → List (List ℕ) → Count → ℕ → ℕ → Known → Turned
-turnOp p outcomes trace work room t g n code known = turnedBy p t n known (cameOp p outcomes trace work room t g n code)
+turnOp p outcomes trace work room t g n code known = turnedBy p t n code known (cameOp p outcomes trace work room t g n code)
 
 -- the entry at which plain steps have stopped
 unfoldable pub turnAt : List ℕ → List ℕ → List ℕ → List ℕ → List ℕ → ℕ → List (List ℕ) → ℕ → ℕ → Burst → Turned

@@ -48,7 +48,14 @@ fn moves_alone(p: &[u16], start: usize, work: &[u32], n: u8) -> bool
 }
 
 // A step may make the offer that others wait for, so after one the process is looked at, where anything is known.
-fn keep_known(p: &[u16], start: usize, work: &[u32], n: u8, mut known: Known, code: u32) -> Known
+pub fn keep_known(
+    p: &[u16],
+    start: usize,
+    work: &[u32],
+    n: u8,
+    mut known: Known,
+    code: u32,
+) -> Known
     requires { ⌜ (start ≡ 2 + 20 * methods (now p)) × (8192 ≤ length (now work)) ⌝ }
     ensures { λ r. ⌜ r ≡ stillKnown (now (p .entry)) (now (work .entry)) n known code ⌝ }
 {

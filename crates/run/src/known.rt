@@ -1,7 +1,7 @@
 // What is known of the processes before an entry, so that not every idle entry looks at them anew.
 ghost use mathlib.Core.Path.{_≡_};
 ghost use Prim.Native.Nat.{_<_};
-ghost use Rattle.run.specs.Knowing.{unknown, marked, isIdle, withIdle};
+ghost use Rattle.run.specs.Knowing.{unknown, marked, isIdle, withIdle, unlessTold};
 
 // Some process is able to move; and, where that is known, these are not.
 pub struct Known {
@@ -54,5 +54,15 @@ impl Known {
             some: true,
             idle: idle,
         }
+    }
+
+    // Nothing, where a line has told a holder.
+    pub fn unless(self, told: bool) -> Known
+        ensures { λ r. ⌜ r ≡ unlessTold self told ⌝ }
+    {
+        if told {
+            return nothing_known();
+        }
+        self
     }
 }

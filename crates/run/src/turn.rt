@@ -4,7 +4,9 @@ ghost use Prim.Native.Nat.{_+_, _*_, _<_, _≤_};
 ghost use lib.ListN.{length};
 ghost use Rattle.table.specs.Table.{methods};
 ghost use Rattle.entries.specs.Came.{came};
+ghost use Rattle.run.specs.Knowing.{enteredKnown};
 ghost use Rattle.run.specs.Turned.{turned, cameOp, turnOp};
+use super::burst::keep_known;
 use super::known::Known;
 use super::known::nothing_known;
 use ability::ending::ending;
@@ -12,6 +14,7 @@ use entries::came::Count;
 use entries::came::Moved;
 use entries::came::stays;
 use entries::entry::entry;
+use entries::entry::one_line;
 use names::ProcessNo;
 
 // End 0 is a run that goes on; then the lines written, the outcomes used, and what is known of the processes.
@@ -55,6 +58,17 @@ fn named_entry(
     )
 }
 
+// An entry with one line may leave its process where others wait for it, like a step; after any other, nothing is known.
+fn entered_known(p: &[u16], start: usize, work: &[u32], n: u8, known: Known, code: u32) -> Known
+    requires { ⌜ (start ≡ 2 + 20 * methods (now p)) × (8192 ≤ length (now work)) ⌝ }
+    ensures { λ r. ⌜ r ≡ enteredKnown (now (p .entry)) (now (work .entry)) n known code ⌝ }
+{
+    if one_line(code) {
+        return keep_known(p, start, work, n, known, 0);
+    }
+    nothing_known()
+}
+
 // "none able to move .. end 2" is worked out only where the named process cannot move and it is not known that another can.
 pub fn take_turn(
     p: &[u16],
@@ -86,7 +100,7 @@ pub fn take_turn(
             end: 0,
             lines: m.lines,
             used: m.used,
-            known: nothing_known(),
+            known: entered_known(p, start, work, n, known, code),
         };
     }
     if known.some {

@@ -109,11 +109,11 @@ pub fn run_entries(
                 used: r.used,
             };
         }
-        note_lines(&mut t, trace, lines, r.lines);
+        let told = note_lines(&mut t, trace, lines, r.lines);
         lines = r.lines;
         used = r.used;
         let known = r.known;
-        b = plain_steps(p, start, work, schedule, b.at + 1, known);
+        b = plain_steps(p, start, work, schedule, b.at + 1, known.unless(told));
     }
     Over {
         end: ending(p, start, work, &t),

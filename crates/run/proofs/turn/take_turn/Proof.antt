@@ -22,8 +22,8 @@ returns c =
     turn-full (args .p .now) (args .outcomes .now) (args .trace .now) (args .work .now) (args .room) (args .t .now) (args .g) (args .n) (args .code) (args .known)
     (c .before .before .before .before .before .before .before .named-entry .ensures) (c .before .if1 .taken) (c .nothing-known .ensures)
 
-nothing-known-requires-2 : tie.Need-nothing-known-requires-2
-nothing-known-requires-2 c κs = search needs
+entered-known-requires : tie.Need-entered-known-requires
+entered-known-requires c κs = search needs
 
 same-length-3 : tie.Need-same-length-3
 same-length-3 c = search needs
@@ -33,9 +33,9 @@ same-length-4 c = search needs
 
 returns-2 : tie.Need-returns-2
 returns-2 c =
-    let args = c .before .before .before .before .before .before .before .before .before .before .before .before .before .before .before .before .args in
+    let args = c .before .before .before .before .before .before .before .before .before .before .before .before .before .before .before .before .before .args in
     turn-moves (args .p .now) (args .outcomes .now) (args .trace .now) (args .work .now) (args .room) (args .t .now) (args .g) (args .n) (args .code) (args .known)
-    (c .before .before .before .before .before .before .before .before .before .named-entry .ensures) (c .before .before .before .if1 .left) (c .before .if2 .taken) (c .nothing-known2 .ensures)
+    (c .before .before .before .before .before .before .before .before .before .before .named-entry .ensures) (c .before .before .before .before .if1 .left) (c .before .before .if2 .taken) (c .entered-known .ensures)
 
 with-idle-requires : tie.Need-with-idle-requires
 with-idle-requires c κs = search needs
@@ -79,7 +79,7 @@ take-turn-spec =
     same-length
     same-length-2
     returns
-    nothing-known-requires-2
+    entered-known-requires
     same-length-3
     same-length-4
     returns-2

@@ -61,23 +61,26 @@ note-lines-requires c κs =
       omega (arith, fit .1, c .before .before .before .before .before .before .before .before .turn-at .kept .1 .1 .1 .1 .0, inv .2),
     )
 
+unless-requires : tie.Need-unless-requires Inv-loop μ-loop
+unless-requires c κs = search needs
+
 add-plain-steps : tie.Need-add-plain-steps Inv-loop μ-loop
 add-plain-steps c = search needs
 
 plain-steps-requires-2 : tie.Need-plain-steps-requires-2 Inv-loop μ-loop
 plain-steps-requires-2 c κs =
-    let pre = c .before .before .before .before .before .before .before .before .before .before .before .before .before .before .before .before .before .before .before .before .before .before .before .before .before .before .before .before .before .before .pre in
-    (pre .0, omega (arith, pre .1, c .before .before .before .before .before .before .before .before .before .before .before .before .before .before .before .before .before .before .loop .inv .1, c .before .before .before .before .before .before .before .before .before .before .before .before .before .before .before .before .before .before .before .before .before .plain-steps .kept .1 .1 .0, c .before .before .before .before .before .before .before .before .before .before .before .before .turn-at .kept .1 .1 .1 .1 .1 .0), omega (arith, c .before .before .before .before .before .before .before .before .before .before .before .before .before .before .before .before .if1 .taken))
+    let pre = c .before .before .before .before .before .before .before .before .before .before .before .before .before .before .before .before .before .before .before .before .before .before .before .before .before .before .before .before .before .before .before .pre in
+    (pre .0, omega (arith, pre .1, c .before .before .before .before .before .before .before .before .before .before .before .before .before .before .before .before .before .before .before .loop .inv .1, c .before .before .before .before .before .before .before .before .before .before .before .before .before .before .before .before .before .before .before .before .before .before .plain-steps .kept .1 .1 .0, c .before .before .before .before .before .before .before .before .before .before .before .before .before .turn-at .kept .1 .1 .1 .1 .1 .0), omega (arith, c .before .before .before .before .before .before .before .before .before .before .before .before .before .before .before .before .before .if1 .taken))
 
 loop-less : tie.Need-loop-less Inv-loop μ-loop
-loop-less c = omega (arith, c .before .before .before .before .before .before .before .before .before .before .before .before .before .before .before .before .before .before .before .if1 .taken, further (c .before .before .before .before .before .before .before .before .before .before .before .before .before .before .before .before .before .before .before .before .before .loop .inv .0) (c .before .before .before .before .before .before .before .before .before .before .before .before .before .before .before .before .before .before .before .if1 .taken) (c .before .before .before .before .before .before .before .before .before .before .before .before .before .before .before .turn-at .ensures) (c .before .before .before .before .before .before .before .before .before .if2 .left) (c .before .before .plain-steps2 .ensures))
+loop-less c = omega (arith, c .before .before .before .before .before .before .before .before .before .before .before .before .before .before .before .before .before .before .before .before .if1 .taken, further (c .before .before .before .before .before .before .before .before .before .before .before .before .before .before .before .before .before .before .before .before .before .before .loop .inv .0) (c .before .before .before .before .before .before .before .before .before .before .before .before .before .before .before .before .before .before .before .before .if1 .taken) (c .before .before .before .before .before .before .before .before .before .before .before .before .before .before .before .before .turn-at .ensures) (c .before .before .before .before .before .before .before .before .before .before .if2 .left) (c .before .before .before .before .before .before .before .note-lines .ensures .1) (c .before .before .before .unless .ensures) (c .before .before .plain-steps2 .ensures))
 
 loop-again : tie.Need-loop-again Inv-loop μ-loop
 loop-again c =
-    let inv = c .before .before .before .before .before .before .before .before .before .before .before .before .before .before .before .before .before .before .before .before .before .loop .inv in
-    let kept = c .before .before .before .before .before .before .before .before .before .before .before .before .before .before .before .turn-at .kept in (
-      going-next (inv .0) (c .before .before .before .before .before .before .before .before .before .before .before .before .before .before .before .before .before .before .before .if1 .taken) (c .before .before .before .before .before .before .before .before .before .before .before .before .before .before .before .turn-at .ensures) (c .before .before .before .before .before .before .before .before .before .if2 .left) (c .before .before .plain-steps2 .ensures)
-          (c .before .before .before .before .before .before .note-lines .ensures),
+    let inv = c .before .before .before .before .before .before .before .before .before .before .before .before .before .before .before .before .before .before .before .before .before .before .loop .inv in
+    let kept = c .before .before .before .before .before .before .before .before .before .before .before .before .before .before .before .before .turn-at .kept in (
+      going-next (inv .0) (c .before .before .before .before .before .before .before .before .before .before .before .before .before .before .before .before .before .before .before .before .if1 .taken) (c .before .before .before .before .before .before .before .before .before .before .before .before .before .before .before .before .turn-at .ensures) (c .before .before .before .before .before .before .before .before .before .before .if2 .left) (c .before .before .before .before .before .before .before .note-lines .ensures .1) (c .before .before .before .unless .ensures) (c .before .before .plain-steps2 .ensures)
+          (c .before .before .before .before .before .before .before .note-lines .ensures .0),
       c .before .before .plain-steps2 .kept .1 .1 .0 ∙ kept .1 .1 .1 .1 .1 .0 ∙ inv .1,
       kept .1 .1 .1 .1 .0 ∙ inv .2,
     )
@@ -115,6 +118,7 @@ run-entries-spec =
     returns
     note-lines-requires
     add-plain-steps
+    unless-requires
     plain-steps-requires-2
     loop-less
     loop-again
