@@ -13,7 +13,8 @@ use Rattle.holders.specs.Holders.{holderIn}
 use Rattle.offers.specs.declared.stand.Stand.{Stand}
 use Rattle.offers.specs.Stands.{standOp, meetsOp}
 use Rattle.ability.specs.Partner.{oppositeOf, readyOp, partnerOp}
-use Rattle.ability.specs.Ending.{abilityOf, abilityOp}
+use Rattle.ability.specs.Ending.{abilityOf, abilityOp, endingOp}
+use Rattle.ability.proofs.Scans.{goes-on}
 
 -- nothing meets a stand that is no offer
 no-offer-meets : (a b : Stand) → b .kind < 2 → meetsOp a b ≡ false
@@ -72,3 +73,8 @@ pub alone-able : (p work : List ℕ) (t : List (List ℕ)) (n : ℕ) → standOp
 unfolding abilityOp abilityOf
 alone-able p work t n e =
     ap (λ (i : ℕ). cond (ltb i 2) i (cond (eqb (partnerOp p work t n (standOp p (partOf work n))) 65535) 2 1)) e
+
+-- so the run goes on
+pub alone-goes : (p work : List ℕ) (t : List (List ℕ)) (n : ℕ) {a : Stand} → n < 8 → a ≡ standOp p (partOf work n) → a .kind ≡ 1
+    → 0 ≡ endingOp p work t 8
+alone-goes p work t n h e k = goes-on p work t 8 n h (sym (alone-able p work t n (ap (λ (s : Stand). s .kind) (sym e) ∙ k))) refl

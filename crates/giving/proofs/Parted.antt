@@ -28,7 +28,7 @@ use Rattle.ops.specs.Did.{onTop, dropTo}
 use Rattle.ops.proofs.Places.{head, head-is, place-small, slot-read, slot-put, drop-to-words, top-words, move-words}
 use Rattle.events.specs.Told.{dropTwo}
 use Rattle.events.proofs.Answers.{dropped-two}
-use Rattle.giving.specs.Given.{givenWords, sentWords, takenWords, startedWords, beganWords, droppedOnce, retiredBy, stayed, retiredWords}
+use Rattle.giving.specs.Given.{thingGiven, givenWords, sentWords, takenWords, startedWords, beganWords, droppedOnce, retiredBy, stayed, retiredWords}
 
 -- giving nothing, and giving one thing after others
 
@@ -122,7 +122,7 @@ module _ (p : List ℕ) (kept : Kept p) (c : Config) (f : Frame) (fs : List Fram
       ∙ given-words t (f ∷ fs) (All-implies (FrameSound p c) Sized (sized p c) (f ∷ fs) sound) (omega arith)
 
   pub value-given : (v : Value) → givenWords words (valOf v) ≡ processWords (runs (framesWithout (thingsOf (v ∷ [])) (f ∷ fs)))
-  unfolding givenWords valOf tagOf valueWords thingsOf
+  unfolding givenWords thingGiven valOf tagOf valueWords thingsOf
   value-given empty = ap (λ (l : List Frame). processWords (runs l)) (sym (frames-without-none (f ∷ fs)))
   value-given (int z) = ap (λ (l : List Frame). processWords (runs l)) (sym (frames-without-none (f ∷ fs)))
   value-given (bool b) = ap (λ (l : List Frame). processWords (runs l)) (sym (frames-without-none (f ∷ fs)))

@@ -15,8 +15,11 @@ use Rattle.parts.specs.Parts.{partOf, withPart}
 
 -- within one part
 
+unfoldable pub thingGiven : List ℕ → Val → List ℕ
+thingGiven w v = emptiedBy w v ((24 * headOf w .frames) % 65536)
+
 unfoldable pub givenWords : List ℕ → Val → List ℕ
-givenWords w v = cond (ltb (v .tag) 3) w (emptiedBy w v ((24 * headOf w .frames) % 65536))
+givenWords w v = cond (ltb (v .tag) 3) w (thingGiven w v)
 
 unfoldable pub sentWords : List ℕ → Val → List ℕ
 sentWords w v = givenWords (dropTwo w (headOf w)) v

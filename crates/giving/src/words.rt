@@ -1,7 +1,7 @@
 // What a giving does within one process's part.
 ghost use mathlib.Core.Path.{_≡_};
 ghost use Prim.Native.Nat.{_+_, _*_};
-ghost use Rattle.giving.specs.Given.{givenWords, sentWords, takenWords, beganWords, droppedOnce, retiredBy, retiredWords};
+ghost use Rattle.giving.specs.Given.{thingGiven, givenWords, sentWords, takenWords, beganWords, droppedOnce, retiredBy, retiredWords};
 use events::gates::discard_two;
 use ops::jumps::discard_to;
 use ops::moves::replace;
@@ -14,16 +14,22 @@ use store::values::Val;
 use store::values::put;
 use table::words::word_at;
 
-// "Every slot and every pending value of the giver, in all frames, that holds the thing is emptied." An int or a boolean
-// is no thing.
+// "Every slot and every pending value of the giver, in all frames, that holds the thing is emptied."
+fn give_thing(w: &mut [u32], v: Val)
+    ensures { λ r. ⌜ now (w .exit) ≡ thingGiven (now (w .entry)) v ⌝ }
+{
+    let h = read_head(w);
+    give_away(w, v, ((24 * (h.frames as usize)) % 65536) as u16);
+}
+
+// An int or a boolean is no thing.
 pub fn give(w: &mut [u32], v: Val)
     ensures { λ r. ⌜ now (w .exit) ≡ givenWords (now (w .entry)) v ⌝ }
 {
     if v.tag < 3 {
         return;
     }
-    let h = read_head(w);
-    give_away(w, v, ((24 * (h.frames as usize)) % 65536) as u16);
+    give_thing(w, v);
 }
 
 // The sender's part: its two operands off, and what was sent given away.

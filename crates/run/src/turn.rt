@@ -9,7 +9,7 @@ ghost use Rattle.run.specs.Turned.{turned, cameOp, turnOp};
 use super::burst::keep_known;
 use super::known::Known;
 use super::known::nothing_known;
-use ability::ending::ending;
+use ability::ending::ending_after;
 use entries::came::Count;
 use entries::came::Moved;
 use entries::came::stays;
@@ -69,6 +69,17 @@ fn entered_known(p: &[u16], start: usize, work: &[u32], n: u8, known: Known, cod
     nothing_known()
 }
 
+// The process that the entry before names; 0 before the first.
+fn named_before(schedule: &[u8], entry: u16) -> u8
+    requires { ⌜ entry < length (now schedule) ⌝ }
+{
+    if entry == 0 {
+        return 0;
+    }
+    let before = entry as usize - 1;
+    schedule[before]
+}
+
 // "none able to move .. end 2" is worked out only where the named process cannot move and it is not known that another can.
 pub fn take_turn(
     p: &[u16],
@@ -82,8 +93,9 @@ pub fn take_turn(
     n: u8,
     code: u32,
     known: Known,
+    schedule: &[u8],
 ) -> Turn
-    requires { ⌜ (start ≡ 2 + 20 * methods (now p)) × (8192 ≤ length (now work)) × (g .lines < 16000000) ⌝ }
+    requires { ⌜ (start ≡ 2 + 20 * methods (now p)) × (8192 ≤ length (now work)) × (g .lines < 16000000) × (g .entry < length (now schedule)) ⌝ }
     ensures { λ r. ⌜ turned r (now (trace .exit)) (now (work .exit)) ≡ turnOp (now (p .entry)) (now (outcomes .entry)) (now (trace .entry)) (now (work .entry)) room (now (t .entry)) g n code known ⌝ }
 {
     let m = named_entry(p, start, outcomes, trace, work, room, t, g, n, code);
@@ -112,7 +124,7 @@ pub fn take_turn(
         };
     }
     Turn {
-        end: ending(p, start, work, t),
+        end: ending_after(p, start, work, t, named_before(schedule, g.entry)),
         lines: m.lines,
         used: m.used,
         known: known.with_idle(n),

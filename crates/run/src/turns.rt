@@ -65,6 +65,7 @@ fn turn_at(
         n,
         b.code,
         known,
+        schedule,
     )
 }
 

@@ -18,7 +18,7 @@ same-length-2 c = search needs
 
 returns : tie.Need-returns
 returns c =
-    let args = c .before .before .before .before .before .before .before .before .before .before .before .before .before .before .args in
+    let args = c .before .before .before .before .before .before .before .before .before .before .before .before .before .before .before .args in
     turn-full (args .p .now) (args .outcomes .now) (args .trace .now) (args .work .now) (args .room) (args .t .now) (args .g) (args .n) (args .code) (args .known)
     (c .before .before .before .before .before .before .before .named-entry .ensures) (c .before .if1 .taken) (c .nothing-known .ensures)
 
@@ -33,7 +33,7 @@ same-length-4 c = search needs
 
 returns-2 : tie.Need-returns-2
 returns-2 c =
-    let args = c .before .before .before .before .before .before .before .before .before .before .before .before .before .before .before .before .before .args in
+    let args = c .before .before .before .before .before .before .before .before .before .before .before .before .before .before .before .before .before .before .args in
     turn-moves (args .p .now) (args .outcomes .now) (args .trace .now) (args .work .now) (args .room) (args .t .now) (args .g) (args .n) (args .code) (args .known)
     (c .before .before .before .before .before .before .before .before .before .before .named-entry .ensures) (c .before .before .before .before .if1 .left) (c .before .before .if2 .taken) (c .entered-known .ensures)
 
@@ -48,12 +48,15 @@ same-length-6 c = search needs
 
 returns-3 : tie.Need-returns-3
 returns-3 c =
-    let args = c .before .before .before .before .before .before .before .before .before .before .before .before .before .before .before .before .before .args in
+    let args = c .before .before .before .before .before .before .before .before .before .before .before .before .before .before .before .before .before .before .args in
     turn-idles (args .p .now) (args .outcomes .now) (args .trace .now) (args .work .now) (args .room) (args .t .now) (args .g) (args .n) (args .code) (args .known)
     (c .before .before .before .before .before .before .before .before .before .before .named-entry .ensures) (c .before .before .before .before .if1 .left) (c .before .before .if2 .left) (c .before .if3 .taken) (c .with-idle .ensures)
 
-ending-requires : tie.Need-ending-requires
-ending-requires c κs = search needs
+named-before-requires : tie.Need-named-before-requires
+named-before-requires c κs = search needs
+
+ending-after-requires : tie.Need-ending-after-requires
+ending-after-requires c κs = search needs
 
 with-idle-requires-2 : tie.Need-with-idle-requires-2
 with-idle-requires-2 c κs = search needs
@@ -66,9 +69,9 @@ same-length-8 c = search needs
 
 returns-4 : tie.Need-returns-4
 returns-4 c =
-    let args = c .before .before .before .before .before .before .before .before .before .before .before .before .before .before .before .before .before .before .before .args in
+    let args = c .before .before .before .before .before .before .before .before .before .before .before .before .before .before .before .before .before .before .before .before .before .args in
     turn-asks (args .p .now) (args .outcomes .now) (args .trace .now) (args .work .now) (args .room) (args .t .now) (args .g) (args .n) (args .code) (args .known)
-    (c .before .before .before .before .before .before .before .before .before .before .before .before .named-entry .ensures) (c .before .before .before .before .before .before .if1 .left) (c .before .before .before .before .if2 .left) (c .before .before .before .if3 .left) (c .before .ending .ensures) (c .with-idle2 .ensures)
+    (c .before .before .before .before .before .before .before .before .before .before .before .before .before .named-entry .ensures) (c .before .before .before .before .before .before .before .if1 .left) (c .before .before .before .before .before .if2 .left) (c .before .before .before .before .if3 .left) (c .before .ending-after .ensures) (c .with-idle2 .ensures)
 
 pub take-turn-spec : {M : Type 1} → statement M
 take-turn-spec =
@@ -87,7 +90,8 @@ take-turn-spec =
     same-length-5
     same-length-6
     returns-3
-    ending-requires
+    named-before-requires
+    ending-after-requires
     with-idle-requires-2
     same-length-7
     same-length-8

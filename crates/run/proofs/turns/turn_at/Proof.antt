@@ -26,4 +26,10 @@ returns c = c .before .before .before .before .take-turn .ensures
 pub turn-at-spec : {M : Type 1} → statement M
 turn-at-spec =
     tie.close
-    (tie.spec cast-t16 shared-slice-read-n take-turn-requires same-length same-length-2 returns)
+    (tie.spec
+    cast-t16
+    shared-slice-read-n
+    take-turn-requires
+    same-length
+    same-length-2
+    returns)
