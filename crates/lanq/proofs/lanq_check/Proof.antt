@@ -1,3 +1,4 @@
+-- `lanq_check` gives each case of the check its numbers.
 use Rattle.questions.specs.declared.Check.the-variants.{Accepted, Sizes, Pairs, Rows, Instruction, Reading, Outcome, Schedule, Work}
 use Rattle.table.specs.Questions.{questions}
 use Rattle.lanq.proofs.Answered.{answered}

@@ -1,3 +1,4 @@
+-- `lanq_run` gives each case of the run its numbers.
 use Rattle.lanq.proofs.Answered.{ran}
 use Rattle.lanq.specs.Answers.{runAnswer}
 use Rattle.run.specs.declared.answer.Answer.the-variants.{Refused, Ran}

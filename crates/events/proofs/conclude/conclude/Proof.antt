@@ -1,3 +1,4 @@
+-- `conclude` reads the head, tells and settles.
 use Rattle.events.specs.Told.{left}
 use Rattle.events.specs.Concluded.{settled, concludeOp}
 use mathlib.Core.Path.{refl, _∙_, ap, ap₂}

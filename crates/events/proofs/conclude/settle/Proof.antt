@@ -1,3 +1,4 @@
+-- `settle` goes by the fault, and by whether the process has finished.
 use Rattle.events.proofs.Telling.{settles-stopped, settles-finished, settles-as-left}
 use mathlib.Core.Path.{_∙_, sym}
 use borrow.Author.Needs.{needs}

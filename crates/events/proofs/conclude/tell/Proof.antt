@@ -1,3 +1,4 @@
+-- `tell` is the op's own function, code by code.
 use Rattle.events.specs.Told.{left}
 use Rattle.events.proofs.Telling.{tells-newq, tells-newc, tells-gate, tells-meas, tells-end, tells-fault}
 use Rattle.table.specs.Table.{methods, word}

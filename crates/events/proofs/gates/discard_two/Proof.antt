@@ -1,3 +1,4 @@
+-- `discard_two` takes the top value off twice; the frame moves on once.
 use Rattle.events.specs.Told.{dropTwo}
 use borrow.Author.Needs.{needs}
 use Rattle.events.proofs.gates.discard_two.Statement.{statement}

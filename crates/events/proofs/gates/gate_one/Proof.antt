@@ -1,3 +1,4 @@
+-- `gate_one` goes by whether the qubit is emptied.
 use Rattle.events.specs.Told.{gateOne, left, lineTold}
 use Rattle.ops.proofs.Returns.{took, passed-by}
 use Rattle.store.specs.declared.values.Val.{Val}

@@ -1,3 +1,4 @@
+-- `gate_two` goes by whether a qubit is emptied, and whether the two are one.
 use Rattle.events.specs.Told.{gateTwo, left, lineTold}
 use Rattle.ops.proofs.Returns.{took, passed-by}
 use mathlib.Core.Path.{refl, _∙_, ap, ap₂}

@@ -1,3 +1,4 @@
+-- `op_gate` goes by the gate's number.
 use Rattle.events.specs.Told.{gateOp, left}
 use Rattle.ops.proofs.Returns.{took, passed-by}
 use mathlib.Core.Path.{refl}

@@ -1,3 +1,4 @@
+-- `op_newc` goes by the count of channels.
 use Rattle.events.specs.Told.{newcOp, left}
 use Rattle.ops.proofs.Returns.{took, passed-by}
 use mathlib.Core.Path.{refl, _∙_, ap₂}

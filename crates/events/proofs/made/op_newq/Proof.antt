@@ -1,3 +1,4 @@
+-- `op_newq` goes by the count of qubits.
 use Rattle.events.specs.Told.{newqOp, left}
 use Rattle.ops.proofs.Returns.{took, passed-by}
 use mathlib.Core.Path.{refl, _∙_, ap₂}

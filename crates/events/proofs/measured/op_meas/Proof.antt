@@ -1,3 +1,4 @@
+-- `op_meas` goes by whether the qubit is emptied, and whether an outcome is left.
 use Rattle.events.specs.Told.{measOp, left, measuredTold}
 use Rattle.ops.proofs.Returns.{took, passed-by}
 use native.Mathlib.Omega.{arith}

@@ -1,3 +1,4 @@
+-- `finish` clears the part and writes the status.
 use Rattle.events.specs.Ended.{finishedWords}
 use borrow.Author.Needs.{needs}
 use Rattle.events.proofs.over.finish.Statement.{statement}

@@ -1,3 +1,4 @@
+-- `stop` writes the status alone.
 use Rattle.events.specs.Ended.{stoppedWords}
 use borrow.Author.Needs.{needs}
 use Rattle.events.proofs.over.stop.Statement.{statement}

@@ -1,3 +1,4 @@
+-- `begin_at` lends the child's part on.
 use Rattle.giving.specs.Given.{beganWords}
 use Rattle.parts.proofs.Lifted.{lifted-words}
 use mathlib.Core.List.{List}

@@ -1,3 +1,4 @@
+-- `fork` begins the child, hands the arguments over, takes them off and gives the things away, in this order.
 use Rattle.giving.specs.Given.{argsGiven, argsHanded, beganAt, forkedWords, retiredAt}
 use mathlib.Core.Path.{_∙_, ap}
 use mathlib.Core.List.{List}

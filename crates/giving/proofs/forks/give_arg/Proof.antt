@@ -1,3 +1,4 @@
+-- `give_arg` gives away what stands in the child's slot.
 use Rattle.giving.specs.Given.{argGiven}
 use borrow.Author.Needs.{needs}
 use Rattle.giving.proofs.forks.give_arg.Statement.{statement}

@@ -1,3 +1,4 @@
+-- `give_args` goes through the slots: what stands in those before number j is given away.
 use Rattle.giving.proofs.Laws.{given-more}
 use Rattle.giving.specs.Given.{argsGiven}
 use lib.ListN.{length}

@@ -1,3 +1,4 @@
+-- `give_at` lends the giver's part on.
 use Rattle.giving.specs.Given.{givenWords}
 use Rattle.parts.proofs.Lifted.{lifted-words}
 use mathlib.Core.List.{List}

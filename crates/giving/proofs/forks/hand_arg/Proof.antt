@@ -1,3 +1,4 @@
+-- `hand_arg` writes one operand into one slot of the child.
 use Rattle.giving.specs.Given.{argHanded}
 use Rattle.parts.proofs.Lifted.{lifted-words}
 use Rattle.parts.specs.Parts.{partOf, withPart}

@@ -1,3 +1,4 @@
+-- `hand_args` goes through the arguments: those before number j are handed over.
 use Rattle.giving.proofs.Laws.{handed-more}
 use Rattle.giving.specs.Given.{argsHanded}
 use lib.ListN.{length}

@@ -1,3 +1,4 @@
+-- `operand` reads below the next free place.
 use borrow.Author.Needs.{needs}
 use Rattle.giving.proofs.forks.operand.Statement.{statement}
 use Rattle.giving.proofs.forks.operand.Tie as tie

@@ -1,3 +1,4 @@
+-- `operand_of` lends the process's part for reading.
 use Rattle.giving.specs.Given.{operandOf}
 use Rattle.parts.proofs.Lifted.{part-read}
 use Rattle.store.specs.Words.{valueAt, headOf, topAt}

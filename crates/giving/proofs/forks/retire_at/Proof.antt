@@ -1,3 +1,4 @@
+-- `retire_at` lends the forking process's part on.
 use Rattle.giving.specs.Given.{retiredWords}
 use Rattle.parts.proofs.Lifted.{lifted-words}
 use mathlib.Core.List.{List}

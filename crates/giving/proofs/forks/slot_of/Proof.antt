@@ -1,3 +1,4 @@
+-- `slot_of` lends the child's part for reading.
 use Rattle.parts.proofs.Lifted.{part-read}
 use Rattle.store.specs.Words.{valueAt}
 use mathlib.Core.Path.{_∙_, ap}

@@ -1,3 +1,4 @@
+-- `count_things` goes through the operands: `count` has the things among those before number j.
 use Rattle.giving.proofs.Laws.{thing-more, thing-passed}
 use Rattle.giving.specs.Gifts.{thingsIn}
 use native.Mathlib.Omega.{arith}

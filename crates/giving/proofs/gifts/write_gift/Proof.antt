@@ -1,3 +1,4 @@
+-- `write_gift` writes a line for a thing, and none else.
 use Rattle.giving.specs.Gifts.{gifts, giftAdded}
 use Rattle.ops.proofs.Returns.{took, passed-by}
 use mathlib.Core.Path.{refl, ap}

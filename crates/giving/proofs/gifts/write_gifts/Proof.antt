@@ -1,3 +1,4 @@
+-- `write_gifts` goes through the arguments: the lines of those before number j are written.
 use Rattle.giving.proofs.Laws.{gift-more}
 use Rattle.giving.specs.Gifts.{gifts, giftsAdded}
 use lib.ListN.{length}

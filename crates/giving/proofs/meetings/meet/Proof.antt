@@ -1,3 +1,4 @@
+-- `meet` changes the sender's part, then the receiver's.
 use Rattle.giving.specs.Given.{metWords}
 use borrow.Author.Needs.{needs}
 use Rattle.giving.proofs.meetings.meet.Statement.{statement}

@@ -1,3 +1,4 @@
+-- `receive_at` lends the receiver's part on.
 use Rattle.giving.specs.Given.{takenWords}
 use Rattle.parts.proofs.Lifted.{lifted-words}
 use mathlib.Core.List.{List}

@@ -1,3 +1,4 @@
+-- `send_from` lends the sender's part on.
 use Rattle.giving.specs.Given.{sentWords}
 use Rattle.parts.proofs.Lifted.{lifted-words}
 use mathlib.Core.List.{List}

@@ -1,3 +1,4 @@
+-- `begin` writes the status and the head of one frame.
 use Rattle.giving.proofs.Laws.{begins}
 use borrow.Author.Needs.{needs}
 use Rattle.giving.proofs.words.begin.Statement.{statement}

@@ -1,3 +1,4 @@
+-- `drop_all` goes on n times: j values are off.
 use Rattle.giving.proofs.Laws.{dropped-more}
 use Rattle.giving.specs.Given.{retiredBy}
 use lib.ListN.{length}

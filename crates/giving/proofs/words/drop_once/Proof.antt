@@ -1,3 +1,4 @@
+-- `drop_once` takes the top value off; the frame stays where it stands.
 use Rattle.giving.specs.Given.{droppedOnce}
 use borrow.Author.Needs.{needs}
 use Rattle.giving.proofs.words.drop_once.Statement.{statement}

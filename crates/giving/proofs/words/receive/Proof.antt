@@ -1,3 +1,4 @@
+-- `receive` puts the value in place of the end.
 use Rattle.giving.specs.Given.{takenWords}
 use borrow.Author.Needs.{needs}
 use Rattle.giving.proofs.words.receive.Statement.{statement}

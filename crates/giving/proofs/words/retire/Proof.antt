@@ -1,3 +1,4 @@
+-- `retire` takes the arguments off, and then the frame moves on.
 use Rattle.giving.specs.Given.{retiredWords, stayed}
 use borrow.Author.Needs.{needs}
 use Rattle.giving.proofs.words.retire.Statement.{statement}

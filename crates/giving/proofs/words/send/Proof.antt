@@ -1,3 +1,4 @@
+-- `send` takes the two operands off, and then gives.
 use Rattle.giving.specs.Given.{sentWords}
 use borrow.Author.Needs.{needs}
 use Rattle.giving.proofs.words.send.Statement.{statement}

@@ -1,3 +1,4 @@
+-- `bare` is a stand without an offer.
 use borrow.Author.Needs.{needs}
 use Rattle.offers.proofs.stand.bare.Statement.{statement}
 use Rattle.offers.proofs.stand.bare.Tie as tie

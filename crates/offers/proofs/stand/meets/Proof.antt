@@ -1,3 +1,4 @@
+-- `meets` is the definition's test, term by term.
 use Rattle.offers.specs.Stands.{meetsOp}
 use mathlib.Core.Path.{refl}
 use Rattle.offers.proofs.stand.meets.Statement.{statement}

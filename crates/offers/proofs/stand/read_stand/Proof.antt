@@ -1,3 +1,4 @@
+-- `read_stand` goes by the status, and then by the op.
 use Rattle.offers.specs.Stands.{standOp, sendOf, receiveOf}
 use Rattle.offers.proofs.Returns.{stands-at, waits-to-send, waits-to-receive}
 use Rattle.ops.proofs.Returns.{took, passed-by}

@@ -1,3 +1,4 @@
+-- `receiving` goes by whether the end is emptied.
 use Rattle.offers.specs.Stands.{receiveOf}
 use Rattle.ops.proofs.Returns.{took, passed-by}
 use Rattle.store.specs.declared.values.Val.{Val}

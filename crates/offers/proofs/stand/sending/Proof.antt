@@ -1,3 +1,4 @@
+-- `sending` goes by whether an operand is emptied.
 use Rattle.offers.specs.Stands.{sendOf}
 use Rattle.ops.proofs.Returns.{took, passed-by}
 use borrow.Author.Needs.{needs}

@@ -1,3 +1,4 @@
+-- `begin_frame` writes method and first instruction of the new frame, and the number of frames.
 use Rattle.table.specs.Table.{offsetOf}
 use Rattle.store.specs.Words.{headAt}
 use Rattle.ops.specs.Did.{begun}

@@ -1,3 +1,4 @@
+-- `close_frame` clears the frame's values and its head, and counts one frame fewer.
 use Rattle.store.specs.Words.{headAt}
 use Rattle.ops.specs.Did.{closed, frameAt}
 use borrow.Author.Needs.{needs}

@@ -1,3 +1,4 @@
+-- `hand_back` puts the value on the frame that is at work now.
 use Rattle.ops.specs.Did.{handed}
 use borrow.Author.Needs.{needs}
 use Rattle.ops.proofs.calls.hand_back.Statement.{statement}

@@ -1,3 +1,4 @@
+-- `op_call` tests the arguments, then the number of frames.
 use Rattle.ops.proofs.Returns.{took, passed-by}
 use Rattle.ops.specs.Did.{callOp, did, opened}
 use Rattle.store.specs.Words.{emptyDown}

@@ -1,3 +1,4 @@
+-- `op_ret` goes by whether the method is void, whether the value is emptied, and whether it is the root frame.
 use Rattle.ops.proofs.Returns.{took, passed-by, empty-stops, full-goes}
 use Rattle.ops.specs.Did.{retOp, did, handed}
 use Rattle.store.specs.Words.{valueAt}

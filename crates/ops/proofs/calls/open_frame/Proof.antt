@@ -1,3 +1,4 @@
+-- `open_frame` moves the arguments, puts the caller's head back and begins the frame, in this order.
 use Rattle.ops.specs.Did.{opened, frameAt}
 use borrow.Author.Needs.{needs}
 use Rattle.ops.proofs.calls.open_frame.Statement.{statement}

@@ -1,3 +1,4 @@
+-- `params` reads the second word of the method's row.
 use Rattle.table.specs.Table.{paramsOf, row, methods, word}
 use mathlib.Core.Path.{_∙_, ap}
 use Prim.Native.Nat.{ℕ, _+_, _*_}

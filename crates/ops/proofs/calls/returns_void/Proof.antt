@@ -1,3 +1,4 @@
+-- `returns_void` reads the first word of the method's row.
 use Rattle.table.specs.Table.{returnOf, row, methods, word}
 use lib.Dec.{eqb}
 use mathlib.Core.Path.{_∙_, ap}

@@ -1,3 +1,4 @@
+-- `discard_to` empties the top value and writes the head.
 use Rattle.ops.specs.Did.{dropTo}
 use borrow.Author.Needs.{needs}
 use Rattle.ops.proofs.jumps.discard_to.Statement.{statement}

@@ -1,3 +1,4 @@
+-- `op_jfalse` goes by whether the value is emptied, and whether it is false.
 use Rattle.ops.specs.Did.{jfalseOp, did, dropTo}
 use Rattle.ops.proofs.Returns.{empty-stops, full-goes, jfalse-jumps, jfalse-goes}
 use Rattle.store.specs.Words.{valueAt}

@@ -1,3 +1,4 @@
+-- `op_jump` writes the new place alone.
 use Rattle.ops.specs.Did.{jumpOp, did}
 use Rattle.store.specs.Words.{putTop, movedTo}
 use mathlib.Core.Path.{_∙_, ap}

@@ -1,3 +1,4 @@
+-- `target` adds the argument to the method's offset.
 use Rattle.ops.specs.Did.{targetOf}
 use Rattle.table.specs.Table.{offsetOf}
 use mathlib.Core.Path.{ap}

@@ -1,3 +1,4 @@
+-- `discard` empties the top value, and writes the head.
 use Rattle.ops.specs.Did.{dropTop}
 use borrow.Author.Needs.{needs}
 use Rattle.ops.proofs.moves.discard.Statement.{statement}

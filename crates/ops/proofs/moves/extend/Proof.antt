@@ -1,3 +1,4 @@
+-- `extend` goes by the sign.
 use Rattle.ops.specs.Did.{signExtended}
 use borrow.Author.Tests.{lt-ltb, le-ltb}
 use borrow.Author.Needs.{needs}

@@ -1,3 +1,4 @@
+-- `op_bool` pushes the argument as a boolean.
 use Rattle.ops.specs.Did.{boolOp, did}
 use mathlib.Core.Path.{ap}
 use borrow.Author.Needs.{needs}

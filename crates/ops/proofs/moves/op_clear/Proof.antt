@@ -1,3 +1,4 @@
+-- `op_clear` stores the empty value.
 use Rattle.ops.specs.Did.{clearOp, did, inSlot}
 use mathlib.Core.Path.{_∙_, ap}
 use borrow.Author.Needs.{needs}

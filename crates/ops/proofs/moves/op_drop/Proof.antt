@@ -1,3 +1,4 @@
+-- `op_drop` goes by whether the top value is emptied.
 use Rattle.ops.specs.Did.{dropOp, did}
 use Rattle.ops.proofs.Returns.{empty-stops, full-goes}
 use Rattle.store.specs.Words.{valueAt}

@@ -1,3 +1,4 @@
+-- `op_end` goes by whether the channel is emptied, and makes the end by its side.
 use Rattle.ops.specs.Did.{endOp, did, onTop}
 use Prim.Native.Nat.{_+_}
 use Rattle.store.specs.declared.values.Val.{Val}

@@ -1,3 +1,4 @@
+-- `op_get` goes by whether the slot is emptied.
 use Rattle.ops.specs.Did.{getOp, did, pushOn}
 use Rattle.ops.proofs.Returns.{empty-stops, full-goes}
 use Rattle.store.specs.Words.{valueAt}

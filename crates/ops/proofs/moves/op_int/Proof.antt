@@ -1,3 +1,4 @@
+-- `op_int` pushes the extended argument.
 use Rattle.ops.specs.Did.{intOp, did, pushOn, intVal}
 use mathlib.Core.Path.{_∙_, ap}
 use Prim.Native.Nat.{ℕ}

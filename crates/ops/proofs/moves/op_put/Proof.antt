@@ -1,3 +1,4 @@
+-- `op_put` goes by whether the top value is emptied.
 use Rattle.ops.specs.Did.{putOp, did, inSlot}
 use Rattle.ops.proofs.Returns.{empty-stops, full-goes}
 use Rattle.store.specs.Words.{valueAt}

@@ -1,3 +1,4 @@
+-- `push` writes the value at the free place, and the head.
 use Rattle.ops.specs.Did.{pushOn}
 use borrow.Author.Needs.{needs}
 use Rattle.ops.proofs.moves.push.Statement.{statement}

@@ -1,3 +1,4 @@
+-- `replace` writes the value in place of the top one, and the head.
 use Rattle.ops.specs.Did.{onTop}
 use borrow.Author.Needs.{needs}
 use Rattle.ops.proofs.moves.replace.Statement.{statement}

@@ -1,3 +1,4 @@
+-- `replace_two` empties the top value and writes over the one below.
 use Rattle.ops.specs.Did.{overTwo}
 use borrow.Author.Needs.{needs}
 use Rattle.ops.proofs.moves.replace_two.Statement.{statement}

@@ -1,3 +1,4 @@
+-- `store_slot` writes the slot, and the head.
 use Rattle.ops.specs.Did.{inSlot}
 use borrow.Author.Needs.{needs}
 use Rattle.ops.proofs.moves.store_slot.Statement.{statement}

@@ -1,3 +1,4 @@
+-- `bias` moves a word up by 2^31, modulo 2^32.
 use Rattle.ops.specs.Did.{biased}
 use native.Mathlib.Omega.{arith}
 use mathlib.Core.Path.{refl}

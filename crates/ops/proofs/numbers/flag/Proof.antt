@@ -1,3 +1,4 @@
+-- `flag` makes a boolean of a test.
 use Rattle.ops.proofs.numbers.flag.Statement.{statement}
 use Rattle.ops.proofs.numbers.flag.Tie as tie
 

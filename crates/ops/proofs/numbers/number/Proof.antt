@@ -1,3 +1,4 @@
+-- `number` reads the second word of a value.
 use borrow.Author.Needs.{needs}
 use Rattle.ops.proofs.numbers.number.Statement.{statement}
 use Rattle.ops.proofs.numbers.number.Tie as tie

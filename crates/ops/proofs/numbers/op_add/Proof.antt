@@ -1,3 +1,4 @@
+-- `op_add` goes by whether an operand is emptied, and leaves the range to `result`.
 use Rattle.ops.specs.Did.{addOp, did, overTwo, boolVal, bit, resultOp}
 use Rattle.ops.proofs.Returns.{two-stop, two-go}
 use Prim.Native.Nat.{ℕ, _+_, _-_}

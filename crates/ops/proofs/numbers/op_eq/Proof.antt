@@ -1,3 +1,4 @@
+-- `op_eq` goes by whether an operand is emptied, and compares the words.
 use Rattle.ops.specs.Did.{eqOp, did, overTwo, boolVal, bit, resultOp}
 use Rattle.ops.proofs.Returns.{two-stop, two-go}
 use Prim.Native.Nat.{ℕ, _+_, _-_}

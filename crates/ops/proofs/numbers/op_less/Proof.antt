@@ -1,3 +1,4 @@
+-- `op_less` goes by whether an operand is emptied, and compares what was moved up.
 use Rattle.ops.specs.Did.{lessOp, did, overTwo, boolVal, bit, resultOp}
 use Rattle.ops.proofs.Returns.{two-stop, two-go}
 use Prim.Native.Nat.{ℕ, _+_, _-_}

@@ -1,3 +1,4 @@
+-- `op_not` goes by whether the operand is emptied.
 use Rattle.store.specs.declared.values.Val.{Val}
 use lib.Dec.{eqb}
 use Rattle.ops.specs.Did.{notOp, did, onTop, boolVal, bit}

@@ -1,3 +1,4 @@
+-- `result` goes by the range of the sum, and moves it back.
 use Rattle.ops.specs.Did.{did}
 use mathlib.Core.Path.{_∙_, ap}
 use Rattle.ops.proofs.Returns.{result-low, result-high, result-in}

@@ -1,3 +1,4 @@
+-- `two_empty` looks at the two operands.
 use Rattle.ops.specs.Did.{emptyTwo}
 use borrow.Author.Needs.{needs}
 use Rattle.ops.proofs.numbers.two_empty.Statement.{statement}

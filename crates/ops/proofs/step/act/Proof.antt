@@ -1,3 +1,4 @@
+-- `act` is the op's own function, arm by arm.
 use Rattle.ops.proofs.Unlisted.{unlisted}
 use Rattle.ops.specs.Did.{actOp, opFunctions}
 use mathlib.Core.Path.{_∙_, ap, sym}

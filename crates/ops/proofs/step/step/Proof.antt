@@ -1,3 +1,4 @@
+-- `step` acts where the process runs.
 use Rattle.ops.proofs.Returns.{took, passed-by, step-acts}
 use Rattle.ops.specs.Did.{stepOp, actOp}
 use Rattle.table.specs.Table.{methods, word, opAt, argAt}

@@ -1,3 +1,4 @@
+-- `step_process` lends the process's part on.
 use Rattle.parts.proofs.Lifted.{lifted}
 use Rattle.ops.specs.Did.{stepOp}
 use borrow.Author.Needs.{needs}

@@ -1,3 +1,4 @@
+-- `accepted_run` begins the store anew and runs; what the questions ask for makes the entries' premises.
 use Rattle.run.proofs.Accepting.{table-kept, schedule-short, store-long}
 use Rattle.run.proofs.Began.{starts-from, leaves-same}
 use Rattle.table.specs.Table.{methods}

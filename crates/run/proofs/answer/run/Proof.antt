@@ -1,3 +1,4 @@
+-- `run` runs where no question says no, and touches nothing else.
 use Rattle.run.proofs.Answering.{accepts, refuses, ran-so}
 use Rattle.run.specs.Answers.{answered}
 use borrow.Author.Needs.{needs}

@@ -1,3 +1,4 @@
+-- `any_empty` goes down from the top: none of the values before number j is emptied.
 use borrow.Author.Needs.{needs}
 use Rattle.store.proofs.Laws.{empty-more, empty-found}
 use Rattle.store.specs.Words.{emptyDown}

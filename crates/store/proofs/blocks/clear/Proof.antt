@@ -1,3 +1,4 @@
+-- `clear` goes up: the words before number i are 0.
 use borrow.Author.Needs.{needs}
 use Rattle.store.proofs.Laws.{cleared-more}
 use Rattle.store.specs.Words.{clearedFrom}

@@ -1,3 +1,4 @@
+-- `move_down` goes down from the top: the values before number j are moved.
 use borrow.Author.Needs.{needs}
 use Rattle.store.proofs.Laws.{moved-more}
 use Rattle.store.specs.Words.{movedDown}

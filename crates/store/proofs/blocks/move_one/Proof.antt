@@ -1,3 +1,4 @@
+-- `move_one` writes the new place before it empties the old one.
 use Rattle.store.specs.Words.{moveOne}
 use borrow.Author.Needs.{needs}
 use Rattle.store.proofs.blocks.move_one.Statement.{statement}

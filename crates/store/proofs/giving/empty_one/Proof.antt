@@ -1,3 +1,4 @@
+-- `empty_one` goes by whether the value is lost.
 use Rattle.store.proofs.Laws.{one-emptied, one-kept}
 use borrow.Author.Needs.{needs}
 use Rattle.store.proofs.giving.empty_one.Statement.{statement}

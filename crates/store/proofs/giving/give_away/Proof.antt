@@ -1,3 +1,4 @@
+-- `give_away` goes through the values: of those before number j, the lost ones are emptied.
 use Rattle.store.proofs.Laws.{emptied-more}
 use Rattle.store.specs.Words.{emptiedBy}
 use lib.ListN.{length}

@@ -1,3 +1,4 @@
+-- `put_status` writes the first three words of the part.
 use Rattle.store.specs.Words.{putStatus}
 use borrow.Author.Needs.{needs}
 use Rattle.store.proofs.head.put_status.Statement.{statement}

@@ -1,3 +1,4 @@
+-- `put_top` writes place and number of pending values of the frame at work.
 use Rattle.store.specs.Words.{putTop, headAt}
 use borrow.Author.Needs.{needs}
 use Rattle.store.proofs.head.put_top.Statement.{statement}

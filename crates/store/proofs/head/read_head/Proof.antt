@@ -1,3 +1,4 @@
+-- `read_head` reads the first three words of the part, and three of the frame at work.
 use Rattle.store.specs.Words.{headOf, headAt}
 use borrow.Author.Needs.{needs}
 use Rattle.store.proofs.head.read_head.Statement.{statement}

@@ -1,3 +1,4 @@
+-- `get` reads within the words, and 0 beyond.
 use mathlib.Core.Path.{sym}
 use lib.ListN.{List·getD-eq-default}
 use borrow.Author.Needs.{needs}

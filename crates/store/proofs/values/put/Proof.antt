@@ -1,3 +1,4 @@
+-- `put` writes within the words, and nothing beyond.
 use mathlib.Core.Path.{sym}
 use lib.Seq.{set-out}
 use borrow.Author.Needs.{needs}

@@ -1,3 +1,4 @@
+-- `put_value` writes two words.
 use Rattle.store.proofs.Laws.{put-beyond}
 use Rattle.store.specs.Words.{putValue}
 use borrow.Author.Needs.{needs}

@@ -1,3 +1,4 @@
+-- `value` reads two words.
 use Rattle.store.proofs.Laws.{value-beyond}
 use mathlib.Core.Path.{_∙_}
 use Rattle.store.specs.Words.{valueAt}

@@ -1,3 +1,4 @@
+-- `put_three` writes three words.
 use Rattle.trace.specs.Written.{withThree}
 use borrow.Author.Needs.{needs}
 use Rattle.trace.proofs.lines.put_three.Statement.{statement}

@@ -1,3 +1,4 @@
+-- `put_word` writes within the trace, and nothing beyond.
 use lib.Seq.{set-out}
 use mathlib.Core.Path.{sym}
 use borrow.Author.Needs.{needs}

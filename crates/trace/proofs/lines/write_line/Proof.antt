@@ -1,3 +1,4 @@
+-- `write_line` writes the six words of a line.
 use Rattle.trace.specs.Written.{withLine}
 use borrow.Author.Needs.{needs}
 use Rattle.trace.proofs.lines.write_line.Statement.{statement}

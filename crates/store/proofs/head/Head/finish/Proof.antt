@@ -1,3 +1,4 @@
+-- `finish` leaves no frame.
 use Rattle.store.specs.Words.{finishedHead}
 use Rattle.store.proofs.head.Head.finish.Statement.{statement}
 use Rattle.store.proofs.head.Head.finish.Tie as tie

@@ -1,3 +1,4 @@
+-- `less` counts n pending values fewer, modulo 2^32.
 use Rattle.store.specs.Words.{lessBy}
 use borrow.Author.Needs.{needs}
 use Rattle.store.proofs.head.Head.less.Statement.{statement}

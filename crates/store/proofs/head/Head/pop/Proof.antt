@@ -1,3 +1,4 @@
+-- `pop` counts one pending value fewer, modulo 2^32.
 use Rattle.store.specs.Words.{popped}
 use borrow.Author.Needs.{needs}
 use Rattle.store.proofs.head.Head.pop.Statement.{statement}

@@ -1,3 +1,4 @@
+-- `push` counts one pending value more, modulo 2^32.
 use Rattle.store.specs.Words.{pushed}
 use borrow.Author.Needs.{needs}
 use Rattle.store.proofs.head.Head.push.Statement.{statement}

@@ -1,3 +1,4 @@
+-- `slot` is the layout's place of a slot.
 use Rattle.store.specs.Words.{slotAt}
 use mathlib.Core.Path.{refl}
 use borrow.Author.Needs.{needs}

@@ -1,3 +1,4 @@
+-- `start` writes every field.
 use Rattle.store.specs.Words.{startedHead}
 use Rattle.store.proofs.head.Head.start.Statement.{statement}
 use Rattle.store.proofs.head.Head.start.Tie as tie

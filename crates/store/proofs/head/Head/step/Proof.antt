@@ -1,3 +1,4 @@
+-- `step` moves the place on by one, modulo 2^32.
 use Rattle.store.specs.Words.{stepped}
 use borrow.Author.Needs.{needs}
 use Rattle.store.proofs.head.Head.step.Statement.{statement}

@@ -1,3 +1,4 @@
+-- `stop` writes status and fault.
 use Rattle.store.specs.Words.{stoppedHead}
 use Rattle.store.proofs.head.Head.stop.Statement.{statement}
 use Rattle.store.proofs.head.Head.stop.Tie as tie

@@ -1,3 +1,4 @@
+-- `to` writes the place.
 use Rattle.store.specs.Words.{movedTo}
 use Rattle.store.proofs.head.Head.to.Statement.{statement}
 use Rattle.store.proofs.head.Head.to.Tie as tie

@@ -1,3 +1,4 @@
+-- `top` is the layout's place of a pending value, or 0 below the first.
 use native.Mathlib.Omega.{arith}
 use Rattle.store.specs.Words.{topAt}
 use mathlib.Core.Path.{refl}

@@ -1,3 +1,4 @@
+-- `wait` leaves the process running.
 use Rattle.store.specs.Words.{waitingHead}
 use Rattle.store.proofs.head.Head.wait.Statement.{statement}
 use Rattle.store.proofs.head.Head.wait.Tie as tie
