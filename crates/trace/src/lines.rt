@@ -27,6 +27,12 @@ fn put_three(t: &mut [u16], at: usize, x: u16, y: u16, z: u16)
     requires { ⌜ at < 4294967296 ⌝ }
     ensures { λ r. ⌜ now (t .exit) ≡ withThree (now (t .entry)) at x y z ⌝ }
 {
+    if at + 2 < t.len() {
+        t[at] = x;
+        t[at + 1] = y;
+        t[at + 2] = z;
+        return;
+    }
     put_word(t, at, x);
     put_word(t, at + 1, y);
     put_word(t, at + 2, z);
