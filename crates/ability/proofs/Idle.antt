@@ -75,6 +75,5 @@ alone-able p work t n e =
     ap (λ (i : ℕ). cond (ltb i 2) i (cond (eqb (partnerOp p work t n (standOp p (partOf work n))) 65535) 2 1)) e
 
 -- so the run goes on
-pub alone-goes : (p work : List ℕ) (t : List (List ℕ)) (n : ℕ) {a : Stand} → n < 8 → a ≡ standOp p (partOf work n) → a .kind ≡ 1
-    → 0 ≡ endingOp p work t 8
-alone-goes p work t n h e k = goes-on p work t 8 n h (sym (alone-able p work t n (ap (λ (s : Stand). s .kind) (sym e) ∙ k))) refl
+pub alone-goes : (p work : List ℕ) (t : List (List ℕ)) (n : ℕ) → n < 8 → standOp p (partOf work n) .kind ≡ 1 → 0 ≡ endingOp p work t 8
+alone-goes p work t n h k = goes-on p work t 8 n h (sym (alone-able p work t n k)) refl

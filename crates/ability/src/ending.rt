@@ -43,17 +43,3 @@ pub fn ending(p: &[u16], start: usize, work: &[u32], t: &[[u16; 2]; 16]) -> u32
     }
     end
 }
-
-// The same, with a first look at the process that moved last: most often it moves on by itself.
-pub fn ending_after(p: &[u16], start: usize, work: &[u32], t: &[[u16; 2]; 16], last: u8) -> u32
-    requires { ⌜ (start ≡ 2 + 20 * methods (now p)) × (8192 ≤ length (now work)) ⌝ }
-    ensures { λ r. ⌜ r ≡ endingOp (now (p .entry)) (now (work .entry)) (now (t .entry)) 8 ⌝ }
-{
-    if last < 8 {
-        let a = stand_of(p, start, work, ProcessNo(last as u16));
-        if a.kind == 1 {
-            return 0;
-        }
-    }
-    ending(p, start, work, t)
-}

@@ -36,7 +36,7 @@ fn step_named(p: &[u16], start: usize, work: &mut [u32], n: u8, known: Known) ->
 }
 
 // The process that the byte names moves by itself.
-fn moves_alone(p: &[u16], start: usize, work: &[u32], n: u8) -> bool
+pub fn moves_alone(p: &[u16], start: usize, work: &[u32], n: u8) -> bool
     requires { ⌜ (start ≡ 2 + 20 * methods (now p)) × (8192 ≤ length (now work)) ⌝ }
     ensures { λ r. ⌜ r ≡ alone (now (p .entry)) (now (work .entry)) n ⌝ }
 {

@@ -3,13 +3,15 @@ ghost use mathlib.Core.Path.{_≡_};
 ghost use Prim.Native.Nat.{_+_, _*_, _<_, _≤_};
 ghost use lib.ListN.{length};
 ghost use Rattle.table.specs.Table.{methods};
+ghost use Rattle.ability.specs.Ending.{endingOp};
 ghost use Rattle.entries.specs.Came.{came};
 ghost use Rattle.run.specs.Knowing.{enteredKnown};
 ghost use Rattle.run.specs.Turned.{turned, cameOp, turnOp};
 use super::burst::keep_known;
+use super::burst::moves_alone;
 use super::known::Known;
 use super::known::nothing_known;
-use ability::ending::ending_after;
+use ability::ending::ending;
 use entries::came::Count;
 use entries::came::Moved;
 use entries::came::stays;
@@ -80,6 +82,17 @@ fn named_before(schedule: &[u8], entry: u16) -> u8
     schedule[before]
 }
 
+// The end that the processes give, with a first look at one of which it may be that it moves on by itself.
+fn end_after(p: &[u16], start: usize, work: &[u32], t: &[[u16; 2]; 16], last: u8) -> u32
+    requires { ⌜ (start ≡ 2 + 20 * methods (now p)) × (8192 ≤ length (now work)) ⌝ }
+    ensures { λ r. ⌜ r ≡ endingOp (now (p .entry)) (now (work .entry)) (now (t .entry)) 8 ⌝ }
+{
+    if moves_alone(p, start, work, last) {
+        return 0;
+    }
+    ending(p, start, work, t)
+}
+
 // "none able to move .. end 2" is worked out only where the named process cannot move and it is not known that another can.
 pub fn take_turn(
     p: &[u16],
@@ -124,7 +137,7 @@ pub fn take_turn(
         };
     }
     Turn {
-        end: ending_after(p, start, work, t, named_before(schedule, g.entry)),
+        end: end_after(p, start, work, t, named_before(schedule, g.entry)),
         lines: m.lines,
         used: m.used,
         known: known.with_idle(n),

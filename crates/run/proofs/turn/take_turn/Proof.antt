@@ -55,8 +55,8 @@ returns-3 c =
 named-before-requires : tie.Need-named-before-requires
 named-before-requires c κs = search needs
 
-ending-after-requires : tie.Need-ending-after-requires
-ending-after-requires c κs = search needs
+end-after-requires : tie.Need-end-after-requires
+end-after-requires c κs = search needs
 
 with-idle-requires-2 : tie.Need-with-idle-requires-2
 with-idle-requires-2 c κs = search needs
@@ -71,7 +71,7 @@ returns-4 : tie.Need-returns-4
 returns-4 c =
     let args = c .before .before .before .before .before .before .before .before .before .before .before .before .before .before .before .before .before .before .before .before .before .args in
     turn-asks (args .p .now) (args .outcomes .now) (args .trace .now) (args .work .now) (args .room) (args .t .now) (args .g) (args .n) (args .code) (args .known)
-    (c .before .before .before .before .before .before .before .before .before .before .before .before .before .named-entry .ensures) (c .before .before .before .before .before .before .before .if1 .left) (c .before .before .before .before .before .if2 .left) (c .before .before .before .before .if3 .left) (c .before .ending-after .ensures) (c .with-idle2 .ensures)
+    (c .before .before .before .before .before .before .before .before .before .before .before .before .before .named-entry .ensures) (c .before .before .before .before .before .before .before .if1 .left) (c .before .before .before .before .before .if2 .left) (c .before .before .before .before .if3 .left) (c .before .end-after .ensures) (c .with-idle2 .ensures)
 
 pub take-turn-spec : {M : Type 1} → statement M
 take-turn-spec =
@@ -91,7 +91,7 @@ take-turn-spec =
     same-length-6
     returns-3
     named-before-requires
-    ending-after-requires
+    end-after-requires
     with-idle-requires-2
     same-length-7
     same-length-8
