@@ -1,7 +1,7 @@
 -- A process that cannot move stays so while others move, as long as none of those comes to stand at an offer; one that
 -- moves by itself can.
-use Prim.Native.Nat.{ℕ, _%_, _≤_, _<_}
-use mathlib.Core.Path.{_≡_, refl, sym, _∙_, ap, subst}
+use Prim.Native.Nat.{ℕ, _%_, _<_}
+use mathlib.Core.Path.{_≡_, refl, sym, _∙_, ap}
 use mathlib.Core.Logic.{_≢_, _⊎_, inl, inr, ⊎-elim}
 use mathlib.Core.Bool.{Bool, true, false, cond, _&&_, _||_}
 use mathlib.Core.List.{List}
@@ -11,14 +11,14 @@ use borrow.Author.Tests.{ne-eqb, leb-false}
 use Rattle.parts.specs.Parts.{partOf}
 use Rattle.holders.specs.Holders.{holderIn}
 use Rattle.offers.specs.declared.stand.Stand.{Stand}
-use Rattle.offers.specs.Stands.{standOp, meetsOp}
+use Rattle.offers.specs.Stands.{standOp, eitherWay, meetsOp}
 use Rattle.ability.specs.Partner.{oppositeOf, readyOp, partnerOp}
 use Rattle.ability.specs.Ending.{abilityOf, abilityOp, endingOp}
 use Rattle.ability.proofs.Scans.{goes-on}
 
 -- nothing meets a stand that is no offer
 no-offer-meets : (a b : Stand) → b .kind < 2 → meetsOp a b ≡ false
-unfolding meetsOp
+unfolding meetsOp eitherWay
 no-offer-meets a b h =
     rw (ne-eqb (b .kind) 3 (λ e. absurd (omega (arith, e, h))), ne-eqb (b .kind) 2 (λ e. absurd (omega (arith, e, h))))
     (none (eqb (a .kind) 2) (eqb (a .kind) 3) _ _)

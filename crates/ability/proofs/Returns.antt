@@ -11,11 +11,13 @@ use Rattle.store.specs.declared.head.Head.{Head}
 use Rattle.store.specs.Words.{headOf}
 use Rattle.ops.proofs.Returns.{took, passed-by}
 use Rattle.offers.specs.declared.stand.Stand.{Stand}
-use Rattle.offers.specs.Stands.{standOp, meetsOp}
+use Rattle.offers.specs.Stands.{standOp, offerOf, meetsOp}
 use Rattle.parts.specs.Parts.{partOf}
 use Rattle.holders.specs.Holders.{holderIn}
 use Rattle.ability.specs.Reads.{argumentIn}
 use Rattle.ability.specs.Partner.{oppositeOf, readyOp, partnerOp}
+use Rattle.ability.specs.declared.pairing.Pairing.{Pairing}
+use Rattle.ability.specs.Pairings.{unpaired, pairedOf, pairWith, pairingOf, pairingOp}
 use Rattle.ability.specs.Ending.{abilityOf, abilityOp}
 
 -- the word behind the op at the frame's place
@@ -82,3 +84,39 @@ module _ (p work : List ℕ) (t : List (List ℕ)) (n : ℕ) where
 
     pub unmet : b ≡ false → 2 ≡ abilityOp p work t n
     unmet e = sym (ap (λ (x : Bool). cond {A = ℕ} x 1 2) e) ∙ offers-so
+
+-- what an offer comes to
+
+module _ (p work : List ℕ) (n : ℕ) (a : Stand) (q : ℕ) {r : Pairing} where
+  pub pairs-itself : q ≡ n → r ≡ unpaired 1 → r ≡ pairWith p work n a q
+  unfolding pairWith
+  pairs-itself h e = took _ _ _ refl (eq-eqb q n h) e
+
+  pub pairs-beyond : (q ≡ n → ⊥) → 8 ≤ q → r ≡ unpaired 1 → r ≡ pairWith p work n a q
+  unfolding pairWith
+  pairs-beyond h k e = passed-by _ _ _ refl (ne-eqb q n h) (took _ _ _ refl (le-leb 8 q k) e)
+
+  module _ (other : q ≡ n → ⊥) (near : q < 8) {b : Stand} (stands : b ≡ standOp p (partOf work q)) {m : Bool} (told : m ≡ meetsOp a b) where
+    pub pairs-with : m ≡ true → r ≡ pairedOf n a q b → r ≡ pairWith p work n a q
+    unfolding pairWith
+    pairs-with h e =
+        passed-by _ _ _ refl (ne-eqb q n other)
+        (passed-by _ _ _ refl (lt-leb 8 q near) (took _ _ _ (told ∙ ap (meetsOp a) stands) h (e ∙ ap (pairedOf n a q) stands)))
+
+    pub pairs-not : m ≡ false → r ≡ unpaired 1 → r ≡ pairWith p work n a q
+    unfolding pairWith
+    pairs-not h e =
+        passed-by _ _ _ refl (ne-eqb q n other)
+        (passed-by _ _ _ refl (lt-leb 8 q near) (passed-by _ _ _ (told ∙ ap (meetsOp a) stands) h e))
+
+module _ (p work : List ℕ) (t : List (List ℕ)) (n code : ℕ) {a : Stand} (stands : a ≡ offerOf (partOf work n) code) {r : Pairing} where
+  pub pairs-none : a .kind < 2 → r ≡ unpaired 0 → r ≡ pairingOp p work t n code
+  unfolding pairingOp pairingOf
+  pairs-none h e = took _ _ _ refl (lt-ltb (a .kind) 2 h) e ∙ ap (pairingOf p work t n) stands
+
+  pub pairs-asked : 2 ≤ a .kind → {c d q : ℕ} → c ≡ a .end .number % 65536 → d ≡ oppositeOf (a .end .tag) → q ≡ holderIn t c d
+      → r ≡ pairWith p work n a q → r ≡ pairingOp p work t n code
+  unfolding pairingOp pairingOf
+  pairs-asked h f g k e =
+      passed-by _ _ _ refl (le-ltb (a .kind) 2 h) (e ∙ ap (pairWith p work n a) (k ∙ ap₂ (holderIn t) f g))
+      ∙ ap (pairingOf p work t n) stands

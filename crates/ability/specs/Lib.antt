@@ -1,3 +1,4 @@
 pub mod Reads
 pub mod Partner
+pub mod Pairings
 pub mod Ending

@@ -2,18 +2,19 @@
 use Prim.Native.Nat.{ℕ, _+_, _%_, _≤_, _<_}
 use mathlib.Core.Path.{_≡_, refl, sym, _∙_, ap}
 use mathlib.Core.Logic.{_≢_}
-use mathlib.Core.Bool.{Bool, true, false, cond, not, _&&_, true≢false}
+use mathlib.Core.Bool.{Bool, true, false, cond, not, _&&_, _||_, true≢false}
 use mathlib.Core.List.{List}
 use native.Mathlib.Omega.{arith}
 use lib.ListN.{getD, set, length, length-set}
 use lib.Dec.{eqb, leb}
-use Rattle.parts.specs.Parts.{partOf, withPart}
+use Rattle.parts.specs.Parts.{partOf}
 use Rattle.parts.proofs.Apart.{part-kept, part-other, part-front}
-use Rattle.events.specs.Told.{Left, left}
+use Rattle.events.specs.Told.{Left}
+use Rattle.ability.specs.declared.pairing.Pairing.{Pairing}
 use Rattle.entries.specs.declared.came.Count.{Count}
 use Rattle.entries.specs.Came.{Came, came, fullAt}
 use Rattle.entries.specs.Single.{inPart, concludedAt, countedWords, noted, singleOp}
-use Rattle.entries.specs.Entries.{oneLine, entryOp}
+use Rattle.entries.specs.Entries.{oneLine, isOffer, entryOp}
 
 -- the counts stand in front of the parts
 
@@ -36,20 +37,20 @@ length-counted w kind = go (eqb kind 1) (eqb kind 2)
     go false true = length-set w 2 ((getD w 2 0 + 1) % 4294967296)
     go false false = refl
 
-module _ (p outcomes trace work : List ℕ) (room : ℕ) (t : List (List ℕ)) (g : Count) (n code : ℕ) (long : 8192 ≤ length work) (low : n < 8) where
-  single-is : oneLine code ≡ true → entryOp p outcomes trace work room t g n code ≡ singleOp p outcomes trace work room g n (code % 65536)
-  unfolding oneLine entryOp
+module _ (p outcomes trace work : List ℕ) (room : ℕ) (g : Count) (n code : ℕ) (m : Pairing) (long : 8192 ≤ length work) (low : n < 8) where
+  single-is : oneLine code ≡ true → entryOp p outcomes trace work room g n code m ≡ singleOp p outcomes trace work room g n (code % 65536)
+  unfolding oneLine entryOp isOffer
   single-is e = go (eqb code 1) (eqb code 114) (eqb code 115) (eqb code 116) _ _ _ e
     where
-      go : (a b c d : Bool) (u v x : Came) {y : Came} → (not a && (not b && (not c && not d))) ≡ true → cond a u (cond b v (cond c x (cond d x y))) ≡ y
+      go : (a b c d : Bool) (u v x : Came) {y : Came} → (not a && (not b && (not c && not d))) ≡ true → cond a u (cond b v (cond (c || d) x y)) ≡ y
       go true b c d u v x e = absurd (true≢false (sym e))
       go false true c d u v x e = absurd (true≢false (sym e))
       go false false true d u v x e = absurd (true≢false (sym e))
       go false false false true u v x e = absurd (true≢false (sym e))
       go false false false false u v x e = refl
 
-  pub beside : oneLine code ≡ true → length (entryOp p outcomes trace work room t g n code .work) ≡ length work
-      → (q : ℕ) → q < 8 → q ≢ n → partOf (entryOp p outcomes trace work room t g n code .work) q ≡ partOf work q
+  pub beside : oneLine code ≡ true → length (entryOp p outcomes trace work room g n code m .work) ≡ length work
+      → (q : ℕ) → q < 8 → q ≢ n → partOf (entryOp p outcomes trace work room g n code m .work) q ≡ partOf work q
   unfolding singleOp noted concludedAt inPart
   beside e l q h ne =
       ap (λ (c : Came). partOf (c .work) q) (single-is e)

@@ -1,23 +1,23 @@
 -- SEND and RECV: what the code leaves in trace and store is the definitions' effect, where the process meets another and
 -- the lines fit.
-use Prim.Native.Nat.{ℕ, zero, suc, _+_, _*_, _-_, _%_, _/_, _≤_, _<_}
+use Prim.Native.Nat.{ℕ, suc, _+_, _*_, _-_, _%_, _≤_, _<_}
 use mathlib.Core.Path.{_≡_, refl, sym, _∙_, ap, ap₂, subst}
-use mathlib.Core.Logic.{_≢_, _⊎_, inl, inr, ⊎-elim}
-use mathlib.Core.Bool.{Bool, true, false, cond, not, _&&_, _||_, Bool·beq, true≢false}
+use mathlib.Core.Logic.{_≢_}
+use mathlib.Core.Bool.{Bool, true, false, cond, Bool·beq}
 use mathlib.Core.List.{List, [], _∷_, _++_, map, append-assoc}
-use mathlib.Core.Option.{Option, none, some, Option·none-ne-some}
+use mathlib.Core.Option.{Option, Option·none-ne-some}
 use native.Mathlib.Nat.{mod-eq-of-lt}
 use native.Mathlib.Omega.{arith}
-use lib.ListN.{getD, length, length-append}
-use lib.Dec.{T, eqb, leb, ltb}
-use borrow.Author.Tests.{ne-eqb, le-leb, lt-leb, ltb-true, ltb-false}
+use lib.ListN.{length, length-append}
+use lib.Dec.{leb, ltb}
+use borrow.Author.Tests.{le-leb, lt-leb, ltb-true, ltb-false}
 use Rattle.lists.specs.Lists.{All}
 use Rattle.lists.proofs.Any.{All-getD}
 use Rattle.table.specs.Table.{argAt}
 use Rattle.table.proofs.Accepted.{Kept}
-use Rattle.machine.specs.Value.{Thing, qubit, channel, end, Value, empty, int, bool, ref, sideNo, valueWord}
-use Rattle.machine.specs.State.{Frame, Status, running, finished, stopped, Process, Config, Line, State, Event, processAt, setProcess, unmade, atPlace, withPending, push, lineOf, met, passed, gave}
-use Rattle.machine.specs.Act.{Offer, sends, receives, Act, idle, offers, atFrame, atFrames, byStatus, actOf}
+use Rattle.machine.specs.Value.{Thing, qubit, channel, end, Value, empty, int, bool, ref, valueWord}
+use Rattle.machine.specs.State.{Frame, Status, Process, Config, Line, State, Event, processAt, setProcess, unmade, atPlace, withPending, lineOf, met, passed}
+use Rattle.machine.specs.Act.{Offer, sends, receives, Act, offers, atFrame, atFrames, byStatus, actOf}
 use Rattle.machine.specs.Entry.{Effect, Meeting, runs, framesWithout, thingsOf, pushTop, handing, meeting}
 use Rattle.machine.specs.Run.{fits}
 use Rattle.machine.specs.Answer.{traceAfter}
@@ -36,13 +36,13 @@ use Rattle.trace.proofs.LineWritten as written
 use Rattle.parts.proofs.Encoded.{Laid, laid-sound}
 use Rattle.offers.proofs.Standing.{sends-from, receives-from}
 use Rattle.giving.specs.Given.{metWords}
-use Rattle.giving.specs.Gifts.{Gifts, gifts, giftAdded}
+use Rattle.giving.specs.Gifts.{Gifts, giftAdded}
 use Rattle.giving.proofs.Stored.{met-store}
 use Rattle.giving.proofs.Lines.{gift-added}
-use Rattle.entries.specs.Came.{Came, came, movedTo, fullAt}
-use Rattle.entries.specs.Lines.{metLine, passedLine, handedOn, metWritten}
+use Rattle.entries.specs.Came.{Came, came, movedTo}
+use Rattle.entries.specs.Lines.{metLine, valueLine, metWritten}
 use Rattle.entries.specs.Meetings.{exchangeOp}
-use Rattle.entries.proofs.Singly.{config, sound, laid, work, trace, count, took, full, tried}
+use Rattle.entries.proofs.Singly.{config, sound, laid, trace, count, took, full, tried}
 
 module _ (p : List ℕ) (kept : Kept p) (narrow : (i : ℕ) → argAt p i < 65536) (outcomes : List ℕ) (bytes : All (λ o. o < 256) outcomes)
     (s : State) (ks : List ℕ) (typed : ConfigTyped p ks (s .config)) (rest t0 : List ℕ) (room : ℕ) (holds : 6 * room ≤ length t0)
@@ -80,8 +80,8 @@ module _ (p : List ℕ) (kept : Kept p) (narrow : (i : ℕ) → argAt p i < 6553
 
   -- the line of the value, behind the lines ls
   handed-on : (a b : ℕ) (v : Value) (ls : List Line) → ValueSound c v → 6 * (length ls + 1) ≤ length t0
-      → handedOn (traceAfter ls t0) (length ls) k a b (valOf v) ≡ traceAfter (ls ++ map (lineOf k a) (handing b v)) t0
-  unfolding handedOn handing valOf tagOf numberOf valueWords valueWord thingsOf
+      → withLine (traceAfter ls t0) (length ls) (valueLine k a b (valOf v)) ≡ traceAfter (ls ++ map (lineOf k a) (handing b v)) t0
+  unfolding valueLine giftAdded handing valOf tagOf numberOf valueWords valueWord thingsOf
   handed-on a b empty ls h r = written.line-written ls t0 (lineOf k a (passed empty)) (omega (arith, r))
   handed-on a b (int z) ls h r = written.line-written ls t0 (lineOf k a (passed (int z))) (omega (arith, r))
   handed-on a b (bool x) ls h r = written.line-written ls t0 (lineOf k a (passed (bool x))) (omega (arith, r))
@@ -165,7 +165,7 @@ module _ (p : List ℕ) (kept : Kept p) (narrow : (i : ℕ) → argAt p i < 6553
       unfolding metWritten meeting
       lines-met h =
           let r = sends-from p kept outcomes s f fs fine deep (narrow (f .place)) i d v hs sending in
-          ap₂ (λ (w : List ℕ) (j : ℕ). handedOn w j k a b (valOf v))
+          ap₂ (λ (w : List ℕ) (j : ℕ). withLine w j (valueLine k a b (valOf v)))
           (ap (withLine lines (length (s .lines))) (met-line a b i d (made-end (r .0) (r .1)))
           ∙ written.line-written (s .lines) t0 (lineOf k a (met b i d)) (omega (arith, holds, h)))
           (sym (length-append (s .lines) (lineOf k a (met b i d) ∷ [])))

@@ -2,6 +2,7 @@ pub mod Returns
 pub mod Singly
 pub mod Forked
 pub mod Exchanged
+pub mod Paired
 pub mod Meets
 pub mod Stepped
 pub mod Beside

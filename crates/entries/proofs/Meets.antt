@@ -1,13 +1,13 @@
 -- An entry at SEND or RECV, by what the process and its partner stand at.
-use Prim.Native.Nat.{ℕ, zero, suc, _+_, _*_, _≤_, _<_}
+use Prim.Native.Nat.{ℕ, _+_, _*_, _≤_, _<_}
 use mathlib.Core.Path.{_≡_, refl, sym, _∙_, ap, ap₂, subst}
-use mathlib.Core.Logic.{_≢_, _⊎_, inl, inr, ⊎-elim}
+use mathlib.Core.Logic.{_≢_, _⊎_, ⊎-elim}
 use mathlib.Core.Bool.{Bool, true, false, cond, not, _&&_, _||_, Bool·beq, true≢false}
 use mathlib.Core.List.{List, [], _∷_, _++_}
 use mathlib.Core.Option.{Option, none, some, Option·none-ne-some}
 use native.Mathlib.Omega.{arith}
 use lib.ListN.{length}
-use lib.Dec.{T, eqb, leb, ltb}
+use lib.Dec.{eqb, ltb}
 use borrow.Author.Tests.{ne-eqb, lt-leb, ltb-true, ltb-false}
 use Rattle.lists.specs.Lists.{All}
 use Rattle.lists.proofs.Tests.{decide}
@@ -30,21 +30,24 @@ use Rattle.machine.proofs.Ownership as own
 use Rattle.machine.specs.Answer.{traceAfter}
 use Rattle.layout.specs.Layout.{encode}
 use Rattle.store.specs.declared.values.Val.{Val}
-use Rattle.store.proofs.Vals.{valOf}
-use Rattle.ops.specs.Did as did
+use Rattle.store.specs.declared.head.Head.{Head}
+use Rattle.store.specs.Words.{headOf}
+use Rattle.ops.proofs.Places.{head, head-is}
 use Rattle.ops.proofs.Meaning.{act-one, act-two, act-short, taken-by, scene}
 use Rattle.parts.specs.Parts.{partOf}
 use Rattle.holders.proofs.Holding.{Holding}
 use Rattle.offers.specs.declared.stand.Stand.{Stand}
-use Rattle.offers.specs.Stands.{standing, standOp}
+use Rattle.offers.specs.Stands.{standOp, offerOf}
+use Rattle.offers.proofs.Returns.{offers-send, offers-receive}
 use Rattle.offers.proofs.Standing.{Stands}
-use Rattle.ability.specs.Partner.{partnerOp}
+use Rattle.ability.specs.Pairings.{pairingOp}
 use Rattle.ability.proofs.Able.{process-sound, stand-at, found, partner-law, met-with, found-partner}
 use Rattle.entries.specs.Came.{Came, came, stayedAt}
 use Rattle.entries.specs.Single.{singleOp}
-use Rattle.entries.specs.Meetings.{exchangeOp, pairBy, pairOp, joinOp, offerOp, standsOp, meetOp}
-use Rattle.entries.proofs.Singly.{sound, count, tried, fault-law}
+use Rattle.entries.specs.Meetings.{exchangeOp, meetBy}
+use Rattle.entries.proofs.Singly.{sound, count, tried, part-now, fault-law}
 use Rattle.entries.proofs.Exchanged.{exchange-law}
+use Rattle.entries.proofs.Paired.{pairBy, pairOp, joinOp, offerOp, standsOp, meetOp, meet-same}
 
 module _ (p : List ℕ) (kept : Kept p) (narrow : (i : ℕ) → argAt p i < 65536) (outcomes : List ℕ) (bytes : All (λ o. o < 256) outcomes)
     (s : State) (ks : List ℕ) (typed : ConfigTyped p ks (s .config)) (rest t0 : List ℕ) (room : ℕ) (holds : 6 * room ≤ length t0)
@@ -263,17 +266,29 @@ module _ (p : List ℕ) (kept : Kept p) (narrow : (i : ℕ) → argAt p i < 6553
       unfolding actOf byStatus atFrames
       act-here = ap (λ (pr : Process). byStatus (pr .status) (atFrames p outcomes s (pr .frames))) stands
 
-      pub meet-law : Offering (atFrame p outcomes s f fs) → actOf p outcomes s n ≢ stuck → n < 8
-          → meetOp p outcomes lines store room t (count p kept narrow outcomes bytes s ks typed rest t0 room holds small k n) n ≡ went (actOf p outcomes s n)
-      unfolding meetOp
-      meet-law o going near =
-          stands-law (actOf p outcomes s n) (standOp p (partOf store n)) refl (subst Offering (sym act-here) o) going
+      pub meet-law : (code : ℕ) → Offering (atFrame p outcomes s f fs) → actOf p outcomes s n ≢ stuck → n < 8 → offerOf (partOf store n) code ≡ standOp p (partOf store n)
+          → meetBy p outcomes lines store room (count p kept narrow outcomes bytes s ks typed rest t0 room holds small k n) n (pairingOp p store t n code) ≡ went (actOf p outcomes s n)
+      unfolding pairingOp meetOp
+      meet-law code o going near e =
+          meet-same p outcomes lines store room t (count p kept narrow outcomes bytes s ks typed rest t0 room holds small k n) n e
+          ∙ stands-law (actOf p outcomes s n) (standOp p (partOf store n)) refl (subst Offering (sym act-here) o) going
           (stand-at p kept narrow outcomes bytes s ks typed rest n near)
 
+      head-here : headOf (partOf store n) ≡ head p kept c f fs fine deep
+      head-here =
+          ap headOf (part-now p kept narrow outcomes bytes s ks typed rest t0 room holds small k n made f fs fine deep stands)
+          ∙ head-is p kept c f fs fine deep
+
+      runs-here : headOf (partOf store n) .status ≡ 1
+      runs-here = ap (λ (h : Head). h .status) head-here
+
+      op-here : {op : ℕ} → opAt p (f .place) ≡ op → opAt p (headOf (partOf store n) .place) ≡ op
+      op-here e = ap (λ (h : Head). opAt p (h .place)) head-here ∙ e
+
       pub send-law : opAt p (f .place) ≡ 15 → actOf p outcomes s n ≢ stuck → n < 8
-          → meetOp p outcomes lines store room t (count p kept narrow outcomes bytes s ks typed rest t0 room holds small k n) n ≡ went (actOf p outcomes s n)
-      send-law e going near = meet-law (send-offering e) going near
+          → meetBy p outcomes lines store room (count p kept narrow outcomes bytes s ks typed rest t0 room holds small k n) n (pairingOp p store t n 115) ≡ went (actOf p outcomes s n)
+      send-law e going near = meet-law 115 (send-offering e) going near (offers-send p (partOf store n) runs-here (op-here e))
 
       pub receive-law : opAt p (f .place) ≡ 16 → actOf p outcomes s n ≢ stuck → n < 8
-          → meetOp p outcomes lines store room t (count p kept narrow outcomes bytes s ks typed rest t0 room holds small k n) n ≡ went (actOf p outcomes s n)
-      receive-law e going near = meet-law (receive-offering e) going near
+          → meetBy p outcomes lines store room (count p kept narrow outcomes bytes s ks typed rest t0 room holds small k n) n (pairingOp p store t n 116) ≡ went (actOf p outcomes s n)
+      receive-law e going near = meet-law 116 (receive-offering e) going near (offers-receive p (partOf store n) runs-here (op-here e))

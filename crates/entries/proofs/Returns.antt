@@ -1,11 +1,11 @@
 -- What an entry's functions have done at their returns, from what their callees did and how their tests came out.
 use Prim.Native.Nat.{ℕ, _+_, _*_, _-_, _%_, _≤_, _<_}
-use mathlib.Core.Path.{_≡_, refl, _∙_, ap, ap₂}
-use mathlib.Core.Bool.{Bool, true, false, cond}
+use mathlib.Core.Path.{_≡_, refl, sym, _∙_, ap, ap₂}
+use mathlib.Core.Bool.{Bool, true, false, cond, _&&_, true≢false}
 use mathlib.Core.List.{List}
 use lib.ListN.{getD, set}
 use lib.Dec.{eqb, leb, ltb}
-use borrow.Author.Tests.{eq-eqb, ne-eqb, lt-ltb, le-ltb, le-leb, lt-leb}
+use borrow.Author.Tests.{ltb-true, eq-eqb, ne-eqb, lt-ltb, le-ltb, le-leb, lt-leb}
 use borrow.Rule.Slice.PartMut.{midOf, putMid}
 use Rattle.table.specs.Table.{paramsOf}
 use Rattle.store.specs.declared.values.Val.{Val}
@@ -16,20 +16,19 @@ use Rattle.events.specs.declared.told.Told.{Told}
 use Rattle.events.specs.Told.{Left, left}
 use Rattle.parts.specs.Parts.{partOf}
 use Rattle.parts.proofs.Lifted.{lifted-words, part-read}
-use Rattle.offers.specs.declared.stand.Stand.{Stand}
-use Rattle.offers.specs.Stands.{standOp}
-use Rattle.giving.specs.Gifts.{Gifts, gifts, thingsIn, giftAdded, giftsAdded}
+use Rattle.giving.specs.Gifts.{Gifts, gifts, thingsIn, giftsAdded}
 use Rattle.giving.specs.Given.{forkedWords, metWords}
 use Rattle.ability.specs.Reads.{argumentIn, emptyIn}
-use Rattle.ability.specs.Partner.{partnerOp}
+use Rattle.ability.specs.declared.pairing.Pairing.{Pairing}
+use Rattle.ability.specs.Pairings.{unpaired, pairingOp}
 use Rattle.entries.specs.declared.came.Count.{Count}
 use Rattle.entries.specs.declared.came.Moved.{Moved}
 use Rattle.entries.specs.Came.{came, movedTo, stayedAt, fullAt}
 use Rattle.entries.specs.Single.{inPart, countedWords, toldLine, noted, concludedAt, singleOp}
-use Rattle.entries.specs.Lines.{forkLine, metLine, passedLine, handedOn, forkWritten, metWritten}
+use Rattle.entries.specs.Lines.{forkLine, metLine, passedLine, giftLine, valueLine, forkWritten, metWritten}
 use Rattle.entries.specs.Forking.{forkDone, startOp, tryOp, forkOp}
-use Rattle.entries.specs.Meetings.{exchangeOp, pairBy, pairOp, joinOp, offerOp, standsOp, meetOp}
-use Rattle.entries.specs.Entries.{entryOp}
+use Rattle.entries.specs.Meetings.{exchangeOp, meetBy}
+use Rattle.entries.specs.Entries.{isOffer, offerAt, entryOp}
 
 -- the answer, the trace and the store each for itself
 pub came-to : {m l : Moved} {t u v w : List ℕ} → m ≡ l → t ≡ u → v ≡ w → came m t v ≡ came l u w
@@ -53,22 +52,20 @@ unfolding metLine
 met-line entry n q e s =
     ap {B = TraceLine} (λ (x : ℕ). record { entry = entry; process = n; kind = 7; a = q; b = e .number % 65536; c = x }) s
 
+module _ (entry n q : ℕ) where
+  pub passes : (v : Val) {l : TraceLine} → v .tag < 3 → l ≡ passedLine entry n v → l ≡ valueLine entry n q v
+  unfolding valueLine
+  passes v h e = took _ _ _ refl (lt-ltb (v .tag) 3 h) e
+
+  pub gives : (v : Val) {l : TraceLine} → 3 ≤ v .tag → l ≡ giftLine entry n q v → l ≡ valueLine entry n q v
+  unfolding valueLine
+  gives v h e = passed-by _ _ _ refl (le-ltb (v .tag) 3 h) e
+
 module _ (trace : List ℕ) (line entry n q : ℕ) where
-  pub passes : (v : Val) {l : TraceLine} {t : List ℕ} → v .tag < 3 → l ≡ passedLine entry n v → t ≡ withLine trace line l
-      → t ≡ handedOn trace line entry n q v
-  unfolding handedOn
-  passes v h e f = took _ _ _ refl (lt-ltb (v .tag) 3 h) (f ∙ ap (withLine trace line) e)
-
-  pub gives : (v : Val) {r : ℕ} {t : List ℕ} → 3 ≤ v .tag → gifts r t ≡ giftAdded (gifts line trace) entry n q v
-      → t ≡ handedOn trace line entry n q v
-  unfolding handedOn
-  gives v h e = passed-by _ _ _ refl (le-ltb (v .tag) 3 h) (ap (λ (g : Gifts). g .words) e)
-
-  pub meeting-lines : (e v : Val) {l : TraceLine} {t u : List ℕ} → l ≡ metLine entry n q e → t ≡ withLine trace line l
-      → u ≡ handedOn t (line + 1) entry n q v → u ≡ metWritten trace line entry n q e v
+  pub meeting-lines : (e v : Val) {l m : TraceLine} {u : List ℕ} → l ≡ metLine entry n q e → m ≡ valueLine entry n q v
+      → u ≡ withLine (withLine trace line l) (line + 1) m → u ≡ metWritten trace line entry n q e v
   unfolding metWritten
-  meeting-lines e v d f h =
-      h ∙ ap (λ (w : List ℕ). handedOn w (line + 1) entry n q v) (f ∙ ap (withLine trace line) d)
+  meeting-lines e v d f h = h ∙ ap₂ (λ (x y : TraceLine). withLine (withLine trace line x) (line + 1) y) d f
 
   pub fork-lines : (work : List ℕ) (m args : ℕ) {l : TraceLine} {t u : List ℕ} {r : ℕ} → l ≡ forkLine entry n q m args
       → t ≡ withLine trace line l → gifts r u ≡ giftsAdded (gifts (line + 1) t) work entry n q args args
@@ -181,74 +178,68 @@ module _ (trace work : List ℕ) (room : ℕ) (g : Count) (sender receiver : ℕ
   exchanged h written met moved =
       passed-by _ _ _ refl (le-ltb room (g .lines + 2) h) (came-to moved written met)
 
-module _ (trace work : List ℕ) (room : ℕ) (g : Count) (n : ℕ) (a : Stand) where
-  pub pair-sends : (q : ℕ) (b : Stand) {x : Moved} {ts ws : List ℕ} → a .kind ≡ 2
-      → came x ts ws ≡ exchangeOp trace work room g n q (a .end) (a .value)
-      → came x ts ws ≡ pairBy trace work room g n a q b
-  unfolding pairBy
-  pair-sends q b h r = took _ _ _ refl (eq-eqb (a .kind) 2 h) r
+module _ (p outcomes trace work : List ℕ) (room : ℕ) (g : Count) (n : ℕ) (m : Pairing) where
+  pub meet-faults : {x : Moved} {ts ws : List ℕ} → m .kind ≡ 0 → came x ts ws ≡ singleOp p outcomes trace work room g n 20
+      → came x ts ws ≡ meetBy p outcomes trace work room g n m
+  unfolding meetBy
+  meet-faults h q = took _ _ _ refl (eq-eqb (m .kind) 0 h) q
 
-  pub pair-receives : (q : ℕ) (b : Stand) {x : Moved} {ts ws : List ℕ} → (a .kind ≡ 2 → ⊥)
-      → came x ts ws ≡ exchangeOp trace work room g q n (b .end) (b .value)
-      → came x ts ws ≡ pairBy trace work room g n a q b
-  unfolding pairBy
-  pair-receives q b h r = passed-by _ _ _ refl (ne-eqb (a .kind) 2 h) r
+  module _ (offers : m .kind ≡ 0 → ⊥) where
+    pub meet-waits : {x : Moved} → m .kind ≡ 1 → x ≡ stayedAt g → came x trace work ≡ meetBy p outcomes trace work room g n m
+    unfolding meetBy
+    meet-waits h q = passed-by _ _ _ refl (ne-eqb (m .kind) 0 offers) (took _ _ _ refl (eq-eqb (m .kind) 1 h) (came-to q refl refl))
 
-module _ (p trace work : List ℕ) (room : ℕ) (g : Count) (n : ℕ) (a : Stand) where
-  pub offer-waits : (t : List (List ℕ)) {q : ℕ} {m : Moved} → q ≡ partnerOp p work t n a → 8 ≤ q → m ≡ stayedAt g
-      → came m trace work ≡ offerOp p trace work room t g n a
-  unfolding offerOp joinOp
-  offer-waits t {q} e h s =
-      took _ _ _ refl (le-leb 8 q h) (came-to s refl refl) ∙ ap (joinOp p trace work room g n a) e
-
-  pub offer-meets : (t : List (List ℕ)) {q : ℕ} {b : Stand} {x : Moved} {ts ws : List ℕ} → q ≡ partnerOp p work t n a → q < 8
-      → b ≡ standOp p (partOf work q) → came x ts ws ≡ pairBy trace work room g n a q b
-      → came x ts ws ≡ offerOp p trace work room t g n a
-  unfolding offerOp joinOp pairOp
-  offer-meets t {q} e h s r =
-      passed-by _ _ _ refl (lt-leb 8 q h) (r ∙ ap (pairBy trace work room g n a q) s) ∙ ap (joinOp p trace work room g n a) e
-
-module _ (p outcomes trace work : List ℕ) (room : ℕ) (t : List (List ℕ)) (g : Count) (n : ℕ) {a : Stand}
-    {x : Moved} {ts ws : List ℕ} (e : a ≡ standOp p (partOf work n)) where
-  pub meet-faults : a .kind < 2 → came x ts ws ≡ singleOp p outcomes trace work room g n 20
-      → came x ts ws ≡ meetOp p outcomes trace work room t g n
-  unfolding meetOp standsOp
-  meet-faults h q =
-      took _ _ _ refl (lt-ltb (a .kind) 2 h) q ∙ ap (standsOp p outcomes trace work room t g n) e
-
-  pub meet-offers : 2 ≤ a .kind → came x ts ws ≡ offerOp p trace work room t g n a
-      → came x ts ws ≡ meetOp p outcomes trace work room t g n
-  unfolding meetOp standsOp
-  meet-offers h q =
-      passed-by _ _ _ refl (le-ltb (a .kind) 2 h) q ∙ ap (standsOp p outcomes trace work room t g n) e
+    pub meet-meets : {x : Moved} {ts ws : List ℕ} → (m .kind ≡ 1 → ⊥)
+        → came x ts ws ≡ exchangeOp trace work room g (m .sender .0) (m .receiver .0) (m .end) (m .value)
+        → came x ts ws ≡ meetBy p outcomes trace work room g n m
+    unfolding meetBy
+    meet-meets h q = passed-by _ _ _ refl (ne-eqb (m .kind) 0 offers) (passed-by _ _ _ refl (ne-eqb (m .kind) 1 h) q)
 
 -- an entry by its code
 
-module _ (p outcomes trace work : List ℕ) (room : ℕ) (t : List (List ℕ)) (g : Count) (n code : ℕ) where
-  pub entry-stays : {m : Moved} → code ≡ 1 → m ≡ stayedAt g
-      → came m trace work ≡ entryOp p outcomes trace work room t g n code
+-- what the offer of the process comes to
+
+pub offer-low : (n : ℕ) (b : Bool) → (b && ltb n 8) ≡ true → n < 8
+offer-low n b h = ltb-true n 8 (second b (ltb n 8) h)
+  where
+    second : (x y : Bool) → (x && y) ≡ true → y ≡ true
+    second true y e = e
+    second false y e = absurd (true≢false (sym e))
+
+module _ (p work : List ℕ) (t : List (List ℕ)) (n code : ℕ) {m : Pairing} where
+  pub offer-over : code ≡ 1 → m ≡ unpaired 1 → m ≡ offerAt p work t n code
+  unfolding offerAt
+  offer-over h e = took _ _ _ refl (eq-eqb code 1 h) e
+
+  module _ (other : code ≡ 1 → ⊥) {b : Bool} (told : b ≡ isOffer code) where
+    pub offer-paired : (b && ltb n 8) ≡ true → m ≡ pairingOp p work t n code → m ≡ offerAt p work t n code
+    unfolding offerAt
+    offer-paired h e =
+        passed-by _ _ _ refl (ne-eqb code 1 other) (took _ _ _ (ap (λ (x : Bool). x && ltb n 8) told) h e)
+
+    pub offer-none : (b && ltb n 8) ≡ false → m ≡ unpaired 0 → m ≡ offerAt p work t n code
+    unfolding offerAt
+    offer-none h e =
+        passed-by _ _ _ refl (ne-eqb code 1 other) (passed-by _ _ _ (ap (λ (x : Bool). x && ltb n 8) told) h e)
+
+module _ (p outcomes trace work : List ℕ) (room : ℕ) (g : Count) (n code : ℕ) (m : Pairing) where
+  pub entry-stays : {x : Moved} → code ≡ 1 → x ≡ stayedAt g → came x trace work ≡ entryOp p outcomes trace work room g n code m
   unfolding entryOp
   entry-stays k e = rw (eq-eqb code 1 k) (came-to e refl refl)
 
   module _ {x : Moved} {ts ws : List ℕ} (a : code ≡ 1 → ⊥) where
     pub entry-forks : code ≡ 114 → came x ts ws ≡ forkOp p outcomes trace work room g n
-        → came x ts ws ≡ entryOp p outcomes trace work room t g n code
+        → came x ts ws ≡ entryOp p outcomes trace work room g n code m
     unfolding entryOp
     entry-forks k q = rw (ne-eqb code 1 a, eq-eqb code 114 k) q
 
-    pub entry-sends : (code ≡ 114 → ⊥) → code ≡ 115 → came x ts ws ≡ meetOp p outcomes trace work room t g n
-        → came x ts ws ≡ entryOp p outcomes trace work room t g n code
-    unfolding entryOp
-    entry-sends b k q = rw (ne-eqb code 1 a, ne-eqb code 114 b, eq-eqb code 115 k) q
+    module _ (b : code ≡ 114 → ⊥) {o : Bool} (told : o ≡ isOffer code) where
+      pub entry-offers : o ≡ true → came x ts ws ≡ meetBy p outcomes trace work room g n m
+          → came x ts ws ≡ entryOp p outcomes trace work room g n code m
+      unfolding entryOp
+      entry-offers h q = passed-by _ _ _ refl (ne-eqb code 1 a) (passed-by _ _ _ refl (ne-eqb code 114 b) (took _ _ _ told h q))
 
-    pub entry-receives : (code ≡ 114 → ⊥) → (code ≡ 115 → ⊥) → code ≡ 116
-        → came x ts ws ≡ meetOp p outcomes trace work room t g n
-        → came x ts ws ≡ entryOp p outcomes trace work room t g n code
-    unfolding entryOp
-    entry-receives b c k q = rw (ne-eqb code 1 a, ne-eqb code 114 b, ne-eqb code 115 c, eq-eqb code 116 k) q
-
-    pub entry-single : (code ≡ 114 → ⊥) → (code ≡ 115 → ⊥) → (code ≡ 116 → ⊥)
-        → came x ts ws ≡ singleOp p outcomes trace work room g n (code % 65536)
-        → came x ts ws ≡ entryOp p outcomes trace work room t g n code
-    unfolding entryOp
-    entry-single b c f q = rw (ne-eqb code 1 a, ne-eqb code 114 b, ne-eqb code 115 c, ne-eqb code 116 f) q
+      pub entry-single : o ≡ false → came x ts ws ≡ singleOp p outcomes trace work room g n (code % 65536)
+          → came x ts ws ≡ entryOp p outcomes trace work room g n code m
+      unfolding entryOp
+      entry-single h q = passed-by _ _ _ refl (ne-eqb code 1 a) (passed-by _ _ _ refl (ne-eqb code 114 b) (passed-by _ _ _ told h q))

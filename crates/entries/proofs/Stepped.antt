@@ -1,15 +1,15 @@
 -- One entry of any process: what the step and, where it is no plain step, the rest of the entry leave in trace and store
 -- is what the definitions say.
-use Prim.Native.Nat.{ℕ, zero, suc, _+_, _*_, _%_, _≤_, _<_}
-use mathlib.Core.Path.{_≡_, refl, sym, _∙_, ap, ap₂, subst}
+use Prim.Native.Nat.{ℕ, zero, suc, _+_, _*_, _≤_, _<_}
+use mathlib.Core.Path.{_≡_, refl, sym, _∙_, ap, subst}
 use mathlib.Core.Logic.{_≢_, _⊎_, inl, inr, ⊎-elim}
 use mathlib.Core.Bool.{Bool, true, false, cond, true≢false}
 use mathlib.Core.List.{List, [], _∷_, _++_}
 use native.Mathlib.Nat.{mod-eq-of-lt}
 use native.Mathlib.Omega.{arith}
-use lib.ListN.{getD, length, length-append, replicate}
-use lib.Dec.{T, eqb, ltb}
-use borrow.Author.Tests.{eqb-true, eqb-false, eq-eqb, ne-eqb, ltb-true, ltb-false}
+use lib.ListN.{length, length-append, replicate}
+use lib.Dec.{eqb, ltb}
+use borrow.Author.Tests.{eqb-true, eqb-false, ne-eqb, ltb-true, ltb-false, lt-ltb}
 use Rattle.lists.specs.Lists.{All}
 use Rattle.lists.proofs.Tests.{decide}
 use Rattle.lists.proofs.Each.{both-length}
@@ -18,7 +18,7 @@ use Rattle.table.proofs.Accepted.{Kept}
 use Rattle.table.proofs.Methods.{inside-bound}
 use Rattle.table.proofs.Before.{before-height}
 use Rattle.machine.specs.Value.{Thing, qubit, channel, end, Value}
-use Rattle.machine.specs.State.{Frame, Status, running, finished, stopped, Process, Config, State, Event, processAt, setProcess}
+use Rattle.machine.specs.State.{Frame, Status, running, finished, stopped, Process, Config, State, Event, processAt}
 use Rattle.machine.specs.Act.{Act, idle, stuck, faults, goes, ends, makes, forks, offers, atFrame, atFrames, byStatus, actOf}
 use Rattle.machine.specs.Entry.{Effect, runs, applied, effectOf, moves, able}
 use Rattle.machine.specs.Owner.{valuesOf}
@@ -42,13 +42,14 @@ use Rattle.events.specs.Concluded.{concludeOp}
 use Rattle.events.proofs.Concluding.{isTelling, Concluded, concluded-op}
 use Rattle.holders.proofs.Holding.{Holding}
 use Rattle.offers.proofs.Alone.{Alone, frame-alone}
+use Rattle.ability.specs.declared.pairing.Pairing.{Pairing}
+use Rattle.ability.specs.Pairings.{unpaired, pairingOp}
 use Rattle.ability.proofs.Able.{process-sound, not-stuck}
 use Rattle.entries.specs.declared.came.Count.{Count}
 use Rattle.entries.specs.Came.{Came, came, stayedAt}
 use Rattle.entries.specs.Single.{singleOp}
-use Rattle.entries.specs.Forking.{forkOp}
-use Rattle.entries.specs.Meetings.{meetOp}
-use Rattle.entries.specs.Entries.{entryOp}
+use Rattle.entries.specs.Meetings.{meetBy}
+use Rattle.entries.specs.Entries.{isOffer, offerAt, entryOp}
 use Rattle.entries.proofs.Singly.{sound, laid, count, tried, part-now, fault-as, fault-law, ends-as, ends-law, after-long, line-law, made-law}
 use Rattle.entries.proofs.Forked.{fork-law}
 use Rattle.entries.proofs.Meets.{went, send-law, receive-law}
@@ -131,15 +132,11 @@ unfolding headOf
 no-status = refl
 
 -- a code that is none of the five goes to the entry with one line
-entry-single : (p outcomes trace work : List ℕ) (room : ℕ) (t : List (List ℕ)) (g : Count) (n code : ℕ) → code ≢ 1 → code ≢ 114 → code ≢ 115 → code ≢ 116 → code < 65536
-    → entryOp p outcomes trace work room t g n code ≡ singleOp p outcomes trace work room g n code
-unfolding entryOp
-entry-single p outcomes trace work room t g n code a b c d small =
-    (λ i. cond (ne-eqb code 1 a i) (came (stayedAt g) trace work)
-    (cond (ne-eqb code 114 b i) (forkOp p outcomes trace work room g n)
-    (cond (ne-eqb code 115 c i) (meetOp p outcomes trace work room t g n)
-    (cond (ne-eqb code 116 d i) (meetOp p outcomes trace work room t g n)
-    (singleOp p outcomes trace work room g n (mod-eq-of-lt small i))))))
+entry-single : (p outcomes trace work : List ℕ) (room : ℕ) (g : Count) (n code : ℕ) (m : Pairing) → code ≢ 1 → code ≢ 114 → code ≢ 115 → code ≢ 116
+    → code < 65536 → entryOp p outcomes trace work room g n code m ≡ singleOp p outcomes trace work room g n code
+unfolding entryOp isOffer
+entry-single p outcomes trace work room g n code m a b c d small =
+    rw (ne-eqb code 1 a, ne-eqb code 114 b, ne-eqb code 115 c, ne-eqb code 116 d) (ap (singleOp p outcomes trace work room g n) (mod-eq-of-lt small))
 
 module _ (p : List ℕ) (kept : Kept p) (narrow : (i : ℕ) → argAt p i < 65536) (outcomes : List ℕ) (bytes : All (λ o. o < 256) outcomes)
     (s : State) (ks : List ℕ) (typed : ConfigTyped p ks (s .config)) (rest t0 : List ℕ) (room : ℕ) (holds : 6 * room ≤ length t0)
@@ -175,7 +172,7 @@ module _ (p : List ℕ) (kept : Kept p) (narrow : (i : ℕ) → argAt p i < 6553
   pub record Other (d : Did) : Type 0 where
     pub code : d .code ≢ 0
     pub words : d .words ≡ partOf store n
-    pub entry : entryOp p outcomes lines store room t counted n (d .code) ≡ comes (actOf p outcomes s n)
+    pub entry : entryOp p outcomes lines store room counted n (d .code) (offerAt p store t n (d .code)) ≡ comes (actOf p outcomes s n)
 
   abbrev pub Law : Type 0
   Law = Plain (stepOp p (partOf store n)) ⊎ Other (stepOp p (partOf store n))
@@ -184,12 +181,12 @@ module _ (p : List ℕ) (kept : Kept p) (narrow : (i : ℕ) → argAt p i < 6553
   going = not-stuck p kept narrow outcomes bytes s ks typed rest n
 
   other : (code : ℕ) → stepOp p (partOf store n) ≡ did code (partOf store n) → code ≢ 0
-      → entryOp p outcomes lines store room t counted n code ≡ comes (actOf p outcomes s n) → Law
+      → entryOp p outcomes lines store room counted n code (offerAt p store t n code) ≡ comes (actOf p outcomes s n) → Law
   other code e z h =
       inr (record {
         code = λ i. z (sym (ap (λ (d : Did). d .code) e) ∙ i);
         words = ap (λ (d : Did). d .words) e;
-        entry = ap (λ (d : Did). entryOp p outcomes lines store room t counted n (d .code)) e ∙ h;
+        entry = ap (λ (d : Did). entryOp p outcomes lines store room counted n (d .code) (offerAt p store t n (d .code))) e ∙ h;
       })
 
   -- a process that does not run
@@ -230,7 +227,7 @@ module _ (p : List ℕ) (kept : Kept p) (narrow : (i : ℕ) → argAt p i < 6553
     single-other : (code : ℕ) → stepOp p words ≡ did code words → code ≢ 0 → code ≢ 1 → code ≢ 114 → code ≢ 115 → code ≢ 116 → code < 65536
         → singleOp p outcomes lines store room counted n code ≡ comes (actOf p outcomes s n) → Law
     single-other code e z a b d x less h =
-        other code (left-at code e) z (entry-single p outcomes lines store room t counted n code a b d x less ∙ h)
+        other code (left-at code e) z (entry-single p outcomes lines store room counted n code (offerAt p store t n code) a b d x less ∙ h)
 
     -- an op that stays within the process and writes no line
     quiet : (a : Act) → atFrame p outcomes s f fs ≡ a → ActTyped p ks (c .qubits) (length (c .processes)) a → Agrees a words (stepOp p words) → Law
@@ -322,7 +319,7 @@ module _ (p : List ℕ) (kept : Kept p) (narrow : (i : ℕ) → argAt p i < 6553
         ∙ ap comes (sym act-here))
 
     at-work : Law
-    unfolding entryOp
+    unfolding entryOp isOffer offerAt
     at-work = ⊎-elim left-to (λ h. quiet (atFrame p outcomes s f fs) refl typed-act (step-agrees p kept outcomes s f fs fine deep (narrow (f .place)) h high)) (decide (isLeft (opAt p (f .place))))
       where
         stepped : isLeft (opAt p (f .place)) ≡ true → stepOp p words ≡ did (100 + opAt p (f .place)) words
@@ -341,16 +338,23 @@ module _ (p : List ℕ) (kept : Kept p) (narrow : (i : ℕ) → argAt p i < 6553
             forks-come = ap (λ (b : Bool). cond b (tried p kept narrow outcomes bytes s ks typed rest t0 room holds small k n (applied p outcomes k s n (actOf p outcomes s n)))
                 (came (stayedAt counted) lines store)) (sym (alone-moves p outcomes s n (actOf p outcomes s n) (subst Alone (sym act-here) (frame-alone p outcomes s f fs (λ z. absurd (omega (arith, z, e))) (λ z. absurd (omega (arith, z, e))))) going))
 
+        -- what the offer comes to was worked out
+        paired : (code : ℕ) → meetBy p outcomes lines store room counted n (cond (ltb n 8) (pairingOp p store t n code) (unpaired 0))
+            ≡ meetBy p outcomes lines store room counted n (pairingOp p store t n code)
+        paired code = ap (λ (b : Bool). meetBy p outcomes lines store room counted n (cond b (pairingOp p store t n code) (unpaired 0))) (lt-ltb n 8 near)
+
         elsewhere : isLeft (opAt p (f .place)) ≡ true → opAt p (f .place) ≢ 14 → Law
         elsewhere h x =
             ⊎-elim
             (λ i. let e = eqb-true (opAt p (f .place)) 15 i in
             other 115 (at-op 15 h e) (λ z. absurd (omega (arith, z)))
-            (send-law p kept narrow outcomes bytes s ks typed rest t0 room holds small k n owned t holding made f fs fine deep stands e going near))
+            (paired 115
+            ∙ send-law p kept narrow outcomes bytes s ks typed rest t0 room holds small k n owned t holding made f fs fine deep stands e going near))
             (λ i. ⊎-elim
             (λ j. let e = eqb-true (opAt p (f .place)) 16 j in
             other 116 (at-op 16 h e) (λ z. absurd (omega (arith, z)))
-            (receive-law p kept narrow outcomes bytes s ks typed rest t0 room holds small k n owned t holding made f fs fine deep stands e going near))
+            (paired 116
+            ∙ receive-law p kept narrow outcomes bytes s ks typed rest t0 room holds small k n owned t holding made f fs fine deep stands e going near))
             (λ j. tells (opAt p (f .place)) refl (left-tells (opAt p (f .place)) h x (eqb-false (opAt p (f .place)) 15 i) (eqb-false (opAt p (f .place)) 16 j)) (stepped h))
             (decide (eqb (opAt p (f .place)) 16)))
             (decide (eqb (opAt p (f .place)) 15))

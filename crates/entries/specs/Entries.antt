@@ -1,22 +1,30 @@
 -- An entry that is no plain step, on the words of trace and store. These definitions follow the code; that they are
 -- document 01's entries is proved in proofs/.
 use Prim.Native.Nat.{ℕ, _%_}
-use mathlib.Core.Bool.{Bool, cond, not, _&&_}
+use mathlib.Core.Bool.{Bool, cond, not, _&&_, _||_}
 use mathlib.Core.List.{List}
-use lib.Dec.{eqb}
+use lib.Dec.{eqb, ltb}
+use Rattle.ability.specs.declared.pairing.Pairing.{Pairing}
+use Rattle.ability.specs.Pairings.{unpaired, pairingOp}
 use Rattle.entries.specs.declared.came.Count.{Count}
 use Rattle.entries.specs.Came.{Came, came, stayedAt}
 use Rattle.entries.specs.Single.{singleOp}
 use Rattle.entries.specs.Forking.{forkOp}
-use Rattle.entries.specs.Meetings.{meetOp}
+use Rattle.entries.specs.Meetings.{meetBy}
 
-unfoldable pub entryOp : List ℕ → List ℕ → List ℕ → List ℕ → ℕ → List (List ℕ) → Count → ℕ → ℕ → Came
-entryOp p outcomes trace work room t g n code =
+-- SEND or RECV
+unfoldable pub isOffer : ℕ → Bool
+isOffer code = eqb code 115 || eqb code 116
+
+-- what the offer of the process comes to; one that does not run waits
+unfoldable pub offerAt : List ℕ → List ℕ → List (List ℕ) → ℕ → ℕ → Pairing
+offerAt p work t n code = cond (eqb code 1) (unpaired 1) (cond (isOffer code && ltb n 8) (pairingOp p work t n code) (unpaired 0))
+
+unfoldable pub entryOp : List ℕ → List ℕ → List ℕ → List ℕ → ℕ → Count → ℕ → ℕ → Pairing → Came
+entryOp p outcomes trace work room g n code m =
     cond (eqb code 1) (came (stayedAt g) trace work)
     (cond (eqb code 114) (forkOp p outcomes trace work room g n)
-    (cond (eqb code 115) (meetOp p outcomes trace work room t g n)
-    (cond (eqb code 116) (meetOp p outcomes trace work room t g n)
-    (singleOp p outcomes trace work room g n (code % 65536)))))
+    (cond (isOffer code) (meetBy p outcomes trace work room g n m) (singleOp p outcomes trace work room g n (code % 65536))))
 
 -- the entry of this code has one line, and changes its process's part alone
 unfoldable pub oneLine : ℕ → Bool

@@ -6,7 +6,7 @@ use lib.Dec.{eqb, ltb}
 use Rattle.store.specs.declared.values.Val.{Val}
 use Rattle.trace.specs.declared.lines.TraceLine.{TraceLine}
 use Rattle.trace.specs.Written.{withLine}
-use Rattle.giving.specs.Gifts.{Gifts, gifts, giftAdded, giftsAdded}
+use Rattle.giving.specs.Gifts.{Gifts, gifts, giftsAdded}
 
 abbrev pub forkLine : ℕ → ℕ → ℕ → ℕ → ℕ → TraceLine
 forkLine entry n child m args = record { entry = entry; process = n; kind = 5; a = child; b = m; c = args }
@@ -29,11 +29,13 @@ abbrev pub passedLine : ℕ → ℕ → Val → TraceLine
 passedLine entry sender v =
     record { entry = entry; process = sender; kind = 8; a = v .number % 65536; b = v .number / 65536; c = 65535 }
 
-unfoldable pub handedOn : List ℕ → ℕ → ℕ → ℕ → ℕ → Val → List ℕ
-handedOn trace line entry sender receiver v =
-    cond (ltb (v .tag) 3) (withLine trace line (passedLine entry sender v))
-    (giftAdded (gifts line trace) entry sender receiver v .words)
+abbrev pub giftLine : ℕ → ℕ → ℕ → Val → TraceLine
+giftLine entry sender receiver v =
+    record { entry = entry; process = sender; kind = 6; a = receiver; b = v .tag % 65536; c = v .number % 65536 }
+
+unfoldable pub valueLine : ℕ → ℕ → ℕ → Val → TraceLine
+valueLine entry sender receiver v = cond (ltb (v .tag) 3) (passedLine entry sender v) (giftLine entry sender receiver v)
 
 unfoldable pub metWritten : List ℕ → ℕ → ℕ → ℕ → ℕ → Val → Val → List ℕ
 metWritten trace line entry sender receiver e v =
-    handedOn (withLine trace line (metLine entry sender receiver e)) (line + 1) entry sender receiver v
+    withLine (withLine trace line (metLine entry sender receiver e)) (line + 1) (valueLine entry sender receiver v)

@@ -4,16 +4,48 @@ ghost use Prim.Native.Nat.{_+_, _*_, _<_, _≤_};
 ghost use lib.ListN.{length};
 ghost use Rattle.table.specs.Table.{methods};
 ghost use Rattle.entries.specs.Came.{came};
-ghost use Rattle.entries.specs.Entries.{entryOp, oneLine};
+ghost use Rattle.entries.specs.Entries.{isOffer, offerAt, entryOp, oneLine};
 use super::came::Count;
 use super::came::Moved;
 use super::came::stays;
 use super::forking::fork_entry;
 use super::meeting::meet_entry;
 use super::single::single;
+use ability::pairing::Pairing;
+use ability::pairing::no_meeting;
+use ability::pairing::pair_up;
 use names::ProcessNo;
 
-// Code 1 is a process that does not run, 114 FORK, 115 SEND, 116 RECV; any other writes one line.
+// SEND or RECV.
+pub fn is_offer(code: u32) -> bool
+    ensures { λ r. ⌜ r ≡ isOffer code ⌝ }
+{
+    (code == 115) | (code == 116)
+}
+
+// What the offer of the named process comes to, by the code of its step; a process that does not run waits.
+pub fn offer_at(
+    p: &[u16],
+    start: usize,
+    work: &[u32],
+    t: &[[u16; 2]; 16],
+    n: u8,
+    code: u32,
+) -> Pairing
+    requires { ⌜ (start ≡ 2 + 20 * methods (now p)) × (8192 ≤ length (now work)) ⌝ }
+    ensures { λ r. ⌜ r ≡ offerAt (now (p .entry)) (now (work .entry)) (now (t .entry)) n code ⌝ }
+{
+    if code == 1 {
+        return no_meeting(1);
+    }
+    if is_offer(code) & (n < 8) {
+        return pair_up(p, start, work, t, ProcessNo(n as u16), code);
+    }
+    no_meeting(0)
+}
+
+// Code 1 is a process that does not run, 114 FORK, 115 SEND, 116 RECV; any other writes one line. `m` is what the offer of the
+// process comes to, and counts only where it offers.
 pub fn entry(
     p: &[u16],
     start: usize,
@@ -21,13 +53,13 @@ pub fn entry(
     trace: &mut [u16],
     work: &mut [u32],
     room: usize,
-    t: &[[u16; 2]; 16],
     g: Count,
     n: ProcessNo,
     code: u32,
+    m: Pairing,
 ) -> Moved
-    requires { ⌜ (start ≡ 2 + 20 * methods (now p)) × (8192 ≤ length (now work)) × (n .0 < 8) × (g .lines < 16000000) ⌝ }
-    ensures { λ r. ⌜ came r (now (trace .exit)) (now (work .exit)) ≡ entryOp (now (p .entry)) (now (outcomes .entry)) (now (trace .entry)) (now (work .entry)) room (now (t .entry)) g (n .0) code ⌝ }
+    requires { ⌜ (start ≡ 2 + 20 * methods (now p)) × (8192 ≤ length (now work)) × (n .0 < 8) × (g .lines < 16000000) × (m .sender .0 < 8) × (m .receiver .0 < 8) ⌝ }
+    ensures { λ r. ⌜ came r (now (trace .exit)) (now (work .exit)) ≡ entryOp (now (p .entry)) (now (outcomes .entry)) (now (trace .entry)) (now (work .entry)) room g (n .0) code m ⌝ }
 {
     if code == 1 {
         return stays(g);
@@ -35,11 +67,8 @@ pub fn entry(
     if code == 114 {
         return fork_entry(p, start, outcomes, trace, work, room, g, n);
     }
-    if code == 115 {
-        return meet_entry(p, start, outcomes, trace, work, room, t, g, n);
-    }
-    if code == 116 {
-        return meet_entry(p, start, outcomes, trace, work, room, t, g, n);
+    if is_offer(code) {
+        return meet_entry(p, start, outcomes, trace, work, room, g, n, m);
     }
     single(
         p,

@@ -1,15 +1,15 @@
 // The lines of an entry in which two processes take part.
 ghost use mathlib.Core.Path.{_≡_};
-ghost use Prim.Native.Nat.{_+_, _*_, _<_, _≤_};
+ghost use Prim.Native.Nat.{_+_, _<_, _≤_};
 ghost use lib.ListN.{length};
 ghost use Rattle.giving.specs.Gifts.{gifts};
-ghost use Rattle.entries.specs.Lines.{forkLine, metLine, passedLine, handedOn, forkWritten, metWritten};
-use giving::gifts::write_gift;
+ghost use Rattle.entries.specs.Lines.{forkLine, metLine, passedLine, giftLine, valueLine, forkWritten, metWritten};
 use giving::gifts::write_gifts;
 use names::ProcessNo;
 use store::values::Val;
 use trace::lines::TraceLine;
 use trace::lines::write_line;
+use trace::lines::write_two;
 
 fn fork_line(entry: u16, n: ProcessNo, child: ProcessNo, m: u16, args: u16) -> TraceLine
     ensures { λ r. ⌜ r ≡ forkLine entry (n .0) (child .0) m args ⌝ }
@@ -75,23 +75,28 @@ fn passed_line(entry: u16, sender: ProcessNo, v: Val) -> TraceLine
     }
 }
 
+// "6 gave to process a a thing b (3 qubit, 4 channel, 5 end 0, 6 end 1) of number c"
+fn gift_line(entry: u16, sender: ProcessNo, receiver: ProcessNo, v: Val) -> TraceLine
+    ensures { λ r. ⌜ r ≡ giftLine entry (sender .0) (receiver .0) v ⌝ }
+{
+    TraceLine {
+        entry: entry,
+        process: sender.0,
+        kind: 6,
+        a: receiver.0,
+        b: (v.tag % 65536) as u16,
+        c: (v.number % 65536) as u16,
+    }
+}
+
 // "then a 6 line, or 8"
-fn write_value(
-    trace: &mut [u16],
-    line: u32,
-    entry: u16,
-    sender: ProcessNo,
-    receiver: ProcessNo,
-    v: Val,
-)
-    requires { ⌜ line < 16777216 ⌝ }
-    ensures { λ r. ⌜ now (trace .exit) ≡ handedOn (now (trace .entry)) line entry (sender .0) (receiver .0) v ⌝ }
+fn value_line(entry: u16, sender: ProcessNo, receiver: ProcessNo, v: Val) -> TraceLine
+    ensures { λ r. ⌜ r ≡ valueLine entry (sender .0) (receiver .0) v ⌝ }
 {
     if v.tag < 3 {
-        write_line(trace, line, passed_line(entry, sender, v));
-        return;
+        return passed_line(entry, sender, v);
     }
-    write_gift(trace, line, entry, sender, receiver, v);
+    gift_line(entry, sender, receiver, v)
 }
 
 pub fn write_meeting(
@@ -106,6 +111,7 @@ pub fn write_meeting(
     requires { ⌜ line < 16000000 ⌝ }
     ensures { λ r. ⌜ now (trace .exit) ≡ metWritten (now (trace .entry)) line entry (sender .0) (receiver .0) e v ⌝ }
 {
-    write_line(trace, line, met_line(entry, sender, receiver, e));
-    write_value(trace, line + 1, entry, sender, receiver, v);
+    let first = met_line(entry, sender, receiver, e);
+    let second = value_line(entry, sender, receiver, v);
+    write_two(trace, line, first, second);
 }

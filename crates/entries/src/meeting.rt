@@ -4,7 +4,7 @@ ghost use Prim.Native.Nat.{_+_, _*_, _<_, _≤_};
 ghost use lib.ListN.{length};
 ghost use Rattle.table.specs.Table.{methods};
 ghost use Rattle.entries.specs.Came.{came};
-ghost use Rattle.entries.specs.Meetings.{exchangeOp, pairBy, offerOp, meetOp};
+ghost use Rattle.entries.specs.Meetings.{exchangeOp, meetBy};
 use super::came::Count;
 use super::came::Moved;
 use super::came::full;
@@ -12,11 +12,9 @@ use super::came::stays;
 use super::came::taken;
 use super::lines::write_meeting;
 use super::single::single;
-use ability::partner::partner;
-use ability::reads::stand_of;
+use ability::pairing::Pairing;
 use giving::meetings::meet;
 use names::ProcessNo;
-use offers::stand::Stand;
 use store::values::Val;
 
 // The two lines and the two parts, where the lines fit.
@@ -41,50 +39,6 @@ fn exchange(
     taken(g.lines + 2, g.used)
 }
 
-// Process n, whose stand is a, meets process q, whose stand is b: "process the sender" also where the receiver was named.
-fn pair(
-    trace: &mut [u16],
-    work: &mut [u32],
-    room: usize,
-    g: Count,
-    n: ProcessNo,
-    a: Stand,
-    q: ProcessNo,
-    b: Stand,
-) -> Moved
-    requires { ⌜ (8192 ≤ length (now work)) × (n .0 < 8) × (q .0 < 8) × (g .lines < 16000000) ⌝ }
-    ensures { λ r. ⌜ came r (now (trace .exit)) (now (work .exit)) ≡ pairBy (now (trace .entry)) (now (work .entry)) room g (n .0) a (q .0) b ⌝ }
-{
-    if a.kind == 2 {
-        return exchange(trace, work, room, g, n, q, a.end, a.value);
-    }
-    exchange(trace, work, room, g, q, n, b.end, b.value)
-}
-
-// An offer meets, or the process waits.
-fn offer(
-    p: &[u16],
-    start: usize,
-    trace: &mut [u16],
-    work: &mut [u32],
-    room: usize,
-    t: &[[u16; 2]; 16],
-    g: Count,
-    n: ProcessNo,
-    a: Stand,
-) -> Moved
-    requires { ⌜ (start ≡ 2 + 20 * methods (now p)) × (8192 ≤ length (now work)) × (n .0 < 8) × (g .lines < 16000000) ⌝ }
-    ensures { λ r. ⌜ came r (now (trace .exit)) (now (work .exit)) ≡ offerOp (now (p .entry)) (now (trace .entry)) (now (work .entry)) room (now (t .entry)) g (n .0) a ⌝ }
-{
-    let f = partner(p, start, work, t, n, a);
-    let q = f.process;
-    if 8 <= q.0 {
-        return stays(g);
-    }
-    let b = f.stand;
-    pair(trace, work, room, g, n, a, q, b)
-}
-
 // "20 .. before all others, and before waiting".
 pub fn meet_entry(
     p: &[u16],
@@ -93,16 +47,20 @@ pub fn meet_entry(
     trace: &mut [u16],
     work: &mut [u32],
     room: usize,
-    t: &[[u16; 2]; 16],
     g: Count,
     n: ProcessNo,
+    m: Pairing,
 ) -> Moved
-    requires { ⌜ (start ≡ 2 + 20 * methods (now p)) × (8192 ≤ length (now work)) × (n .0 < 8) × (g .lines < 16000000) ⌝ }
-    ensures { λ r. ⌜ came r (now (trace .exit)) (now (work .exit)) ≡ meetOp (now (p .entry)) (now (outcomes .entry)) (now (trace .entry)) (now (work .entry)) room (now (t .entry)) g (n .0) ⌝ }
+    requires { ⌜ (start ≡ 2 + 20 * methods (now p)) × (8192 ≤ length (now work)) × (n .0 < 8) × (g .lines < 16000000) × (m .sender .0 < 8) × (m .receiver .0 < 8) ⌝ }
+    ensures { λ r. ⌜ came r (now (trace .exit)) (now (work .exit)) ≡ meetBy (now (p .entry)) (now (outcomes .entry)) (now (trace .entry)) (now (work .entry)) room g (n .0) m ⌝ }
 {
-    let a = stand_of(p, start, work, n);
-    if a.kind < 2 {
+    if m.kind == 0 {
         return single(p, start, outcomes, trace, work, room, g, n, 20);
     }
-    offer(p, start, trace, work, room, t, g, n, a)
+    if m.kind == 1 {
+        return stays(g);
+    }
+    let sender = m.sender;
+    let receiver = m.receiver;
+    exchange(trace, work, room, g, sender, receiver, m.end, m.value)
 }

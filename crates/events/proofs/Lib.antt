@@ -2,3 +2,4 @@ pub mod Answers
 pub mod Ended
 pub mod Telling
 pub mod Concluding
+pub mod Dropped

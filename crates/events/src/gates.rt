@@ -7,11 +7,13 @@ use super::told::Told;
 use super::told::fault;
 use super::told::line;
 use names::QubitNo;
-use ops::jumps::discard_to;
 use ops::moves::discard;
 use ops::numbers::number;
 use ops::numbers::two_empty;
 use store::head::Head;
+use store::head::put_top;
+use store::values::empty;
+use store::values::put_value;
 use store::values::value;
 
 // The number of the value n below the next free one, as a line has it.
@@ -25,8 +27,10 @@ pub fn qubit_no(w: &[u32], h: Head, n: u16) -> QubitNo
 pub fn discard_two(w: &mut [u32], h: Head)
     ensures { λ r. ⌜ now (w .exit) ≡ dropTwo (now (w .entry)) h ⌝ }
 {
-    discard_to(w, h, h.place);
-    discard(w, h.pop());
+    let deeper = h.pop();
+    put_value(w, h.top(1), empty());
+    put_value(w, deeper.top(1), empty());
+    put_top(w, deeper.pop().step());
 }
 
 pub fn gate_one(w: &mut [u32], h: Head, a: u16) -> Told

@@ -6,6 +6,7 @@ use events::gates::discard_two;
 use ops::jumps::discard_to;
 use ops::moves::replace;
 use store::giving::give_away;
+use store::giving::give_qubit;
 use store::head::Head;
 use store::head::put_status;
 use store::head::put_top;
@@ -22,10 +23,29 @@ fn give_thing(w: &mut [u32], v: Val)
     give_away(w, v, ((24 * (h.frames as usize)) % 65536) as u16);
 }
 
+// The same for a qubit, with one test where all frames are within the part.
+fn give_held(w: &mut [u32], v: Val)
+    requires { ⌜ v .tag ≡ 3 ⌝ }
+    ensures { λ r. ⌜ now (w .exit) ≡ thingGiven (now (w .entry)) v ⌝ }
+{
+    if 512 <= w.len() {
+        let frames = w[2];
+        if frames <= 8 {
+            give_qubit(w, v.number, 3 * (frames as u16));
+            return;
+        }
+    }
+    give_thing(w, v);
+}
+
 // An int or a boolean is no thing.
 pub fn give(w: &mut [u32], v: Val)
     ensures { λ r. ⌜ now (w .exit) ≡ givenWords (now (w .entry)) v ⌝ }
 {
+    if v.tag == 3 {
+        give_held(w, v);
+        return;
+    }
     if v.tag < 3 {
         return;
     }

@@ -4,7 +4,7 @@ use Prim.Native.Nat.{ℕ, zero, suc, _+_, _*_}
 use mathlib.Core.Bool.{Bool, false, cond, _||_}
 use mathlib.Core.List.{List, [], _∷_}
 use lib.ListN.{getD, set, replicate}
-use lib.Dec.{eqb, ltb}
+use lib.Dec.{eqb, leb, ltb}
 use Rattle.machine.specs.State.{Line}
 use Rattle.trace.specs.Read.{lineFrom}
 
@@ -35,9 +35,11 @@ unfoldable pub notedFrom : List (List ℕ) → List ℕ → ℕ → ℕ → List
 notedFrom t trace from zero = t
 notedFrom t trace from (suc j) = noted (notedFrom t trace from j) (lineFrom trace (6 * (from + j)))
 
--- one of these lines tells a holder
+-- a line that changes the table: a channel made, or a channel or an end given
 unfoldable pub tellsHolder : Line → Bool
-tellsHolder l = eqb (l .kind) 2 || eqb (l .kind) 6
+tellsHolder l = cond (eqb (l .kind) 6) (leb 4 (l .b)) (eqb (l .kind) 2)
+
+-- one of these lines does
 
 unfoldable pub toldFrom : List ℕ → ℕ → ℕ → Bool
 toldFrom trace from zero = false

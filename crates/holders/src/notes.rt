@@ -3,16 +3,37 @@ ghost use mathlib.Core.Path.{_≡_};
 ghost use Prim.Native.Nat.{_-_, _*_, _≤_, _<_};
 ghost use lib.ListN.{length};
 ghost use Rattle.trace.specs.Read.{asLine};
-ghost use Rattle.holders.specs.Holders.{tellsHolder, notedFrom, toldFrom};
+ghost use Rattle.holders.specs.Holders.{noted, tellsHolder, notedFrom, toldFrom};
 use super::ends::note;
 use trace::lines::TraceLine;
 use trace::read::line_at;
 
-// Only these lines change the table.
-fn tells_holder(l: TraceLine) -> bool
-    ensures { λ r. ⌜ r ≡ tellsHolder (asLine l) ⌝ }
+// A line of kind 6. A qubit is in no place of the table.
+fn note_gift(t: &mut [[u16; 2]; 16], l: TraceLine) -> bool
+    requires { ⌜ l .kind ≡ 6 ⌝ }
+    ensures { λ r. ⌜ (now (t .exit) ≡ noted (now (t .entry)) (asLine l)) × (r ≡ tellsHolder (asLine l)) ⌝ }
 {
-    (l.kind == 2) | (l.kind == 6)
+    if l.b < 4 {
+        return false;
+    }
+    let u = note(*t, l);
+    *t = u;
+    true
+}
+
+// The table brought up to date with one line, and whether it tells a holder.
+fn note_line(t: &mut [[u16; 2]; 16], l: TraceLine) -> bool
+    ensures { λ r. ⌜ (now (t .exit) ≡ noted (now (t .entry)) (asLine l)) × (r ≡ tellsHolder (asLine l)) ⌝ }
+{
+    if l.kind == 6 {
+        return note_gift(t, l);
+    }
+    if l.kind != 2 {
+        return false;
+    }
+    let u = note(*t, l);
+    *t = u;
+    true
 }
 
 // The table after the lines number `from` up to `to` of the trace, line `to` itself left out. The answer is whether one
@@ -26,12 +47,9 @@ pub fn note_lines(t: &mut [[u16; 2]; 16], trace: &[u16], from: u32, to: u32) -> 
     let mut i = from;
     while i < to {
         let l = line_at(trace, i as usize);
-        let tells = tells_holder(l);
-        if tells {
-            let u = note(*t, l);
-            *t = u;
+        if note_line(t, l) {
+            told = true;
         }
-        told = told | tells;
         i += 1;
     }
     told

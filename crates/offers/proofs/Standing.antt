@@ -31,7 +31,7 @@ use Rattle.ops.specs.Did as did
 use Rattle.ops.proofs.Places.{head-is}
 use Rattle.ops.proofs.Meaning.{w, hd, scene, act, act-one, act-two, act-short, taken-by, tag-test, read-top, read-second}
 use Rattle.offers.specs.declared.stand.Stand.{Stand}
-use Rattle.offers.specs.Stands.{standing, sendOf, receiveOf, standOp, meetsOp}
+use Rattle.offers.specs.Stands.{standing, sendOf, receiveOf, standOp, eitherWay, meetsOp}
 use Rattle.offers.proofs.Alone.{Alone, frame-alone}
 
 -- The stand of a process with this act. A process that is stuck may stand at anything.
@@ -270,7 +270,7 @@ ends-meet c c′ false false m = never (eqb c c′) m
 
 pub meets-is : (n q : ℕ) (o o′ : Offer) (st st′ : Stand) → Stands (offers o) st → Stands (offers o′) st′
     → meetsOp st st′ ≡ isMeeting (joins n o q o′)
-unfolding meetsOp joins isMeeting
+unfolding meetsOp eitherWay joins isMeeting
 meets-is n q (sends c d v gs) (sends c′ d′ v′ gs′) st st′ h h′ = ap₂ meetsOp h h′
 meets-is n q (sends c d v gs) (receives c′ d′ gs′) st st′ h h′ =
     ap₂ meetsOp h h′
@@ -288,7 +288,7 @@ neither false true x y = refl
 neither false false x y = refl
 
 meets-no-offer : (k : ℕ) (st : Stand) → eqb k 3 ≡ false → eqb k 2 ≡ false → meetsOp st (standing k) ≡ false
-unfolding meetsOp
+unfolding meetsOp eitherWay
 meets-no-offer k st m n =
     ap₂ (λ (x y : Bool).
     ((eqb (st .kind) 2 && x || eqb (st .kind) 3 && y)

@@ -1,7 +1,7 @@
 -- What a process stands at, read from its words. These definitions follow the code; that they are document 01's is
 -- proved in proofs/.
 use Prim.Native.Nat.{ℕ}
-use mathlib.Core.Bool.{Bool, cond, _&&_, _||_}
+use mathlib.Core.Bool.{Bool, false, cond, not, _&&_, _||_}
 use mathlib.Core.List.{List}
 use lib.Dec.{eqb}
 use Rattle.table.specs.Table.{opAt}
@@ -31,8 +31,19 @@ standOp p w =
     (cond (eqb (opAt p (headOf w .place)) 16) (receiveOf w (headOf w)) (standing 1)))
     (standing 0)
 
+-- the same where it is known to stand at SEND (code 115) or RECV
+unfoldable pub offerOf : List ℕ → ℕ → Stand
+offerOf w code = cond (eqb code 115) (sendOf w (headOf w)) (receiveOf w (headOf w))
+
+-- it runs and stands at neither SEND nor RECV
+unfoldable pub offersNothing : List ℕ → List ℕ → Bool
+offersNothing p w =
+    cond (eqb (headOf w .status) 1) (not (eqb (opAt p (headOf w .place)) 15) && not (eqb (opAt p (headOf w .place)) 16)) false
+
+-- one is x and the other y
+unfoldable pub eitherWay : ℕ → ℕ → ℕ → ℕ → Bool
+eitherWay a b x y = eqb a x && eqb b y || eqb a y && eqb b x
+
 unfoldable pub meetsOp : Stand → Stand → Bool
 meetsOp a b =
-    ((eqb (a .kind) 2 && eqb (b .kind) 3 || eqb (a .kind) 3 && eqb (b .kind) 2)
-    && (eqb (a .end .tag) 5 && eqb (b .end .tag) 6 || eqb (a .end .tag) 6 && eqb (b .end .tag) 5))
-    && eqb (a .end .number) (b .end .number)
+    (eitherWay (a .kind) (b .kind) 2 3 && eitherWay (a .end .tag) (b .end .tag) 5 6) && eqb (a .end .number) (b .end .number)

@@ -2,12 +2,14 @@
 ghost use mathlib.Core.Path.{_≡_};
 ghost use Prim.Native.Nat.{_+_, _*_};
 ghost use Rattle.table.specs.Table.{methods};
-ghost use Rattle.offers.specs.Stands.{standing, sendOf, receiveOf, standOp, meetsOp};
+ghost use Rattle.store.specs.Words.{headOf};
+ghost use Rattle.offers.specs.Stands.{standing, sendOf, receiveOf, standOp, offerOf, offersNothing, eitherWay, meetsOp};
 use ops::numbers::two_empty;
 use store::head::Head;
 use store::head::read_head;
 use store::values::Val;
 use store::values::empty;
+use store::values::get;
 use store::values::value;
 use table::words::word_at;
 
@@ -76,11 +78,57 @@ pub fn read_stand(p: &[u16], start: usize, w: &[u32]) -> Stand
     bare(1)
 }
 
+// The offer of the process whose part is w, where its step answered 115, at SEND, or 116, at RECV.
+pub fn read_offer(w: &[u32], code: u32) -> Stand
+    ensures { λ r. ⌜ r ≡ offerOf (now (w .entry)) code ⌝ }
+{
+    let h = read_head(w);
+    if code == 115 {
+        return sending(w, h);
+    }
+    receiving(w, h)
+}
+
+// The instruction that the frame at work stands at.
+fn place_of(w: &[u32]) -> u32
+    ensures { λ r. ⌜ r ≡ headOf (now (w .entry)) .place ⌝ }
+{
+    let frames = get(w, 2);
+    get(w, 5 + 4 * (frames as usize))
+}
+
+// The process whose part is w runs and stands at neither SEND nor RECV, so that it moves by itself.
+pub fn offers_nothing(p: &[u16], start: usize, w: &[u32]) -> bool
+    requires { ⌜ start ≡ 2 + 20 * methods (now p) ⌝ }
+    ensures { λ r. ⌜ r ≡ offersNothing (now (p .entry)) (now (w .entry)) ⌝ }
+{
+    if get(w, 0) != 1 {
+        return false;
+    }
+    let place = place_of(w);
+    let op = word_at(p, start + 2 * (place as usize));
+    (op != 15) & (op != 16)
+}
+
+// One is x and the other y.
+fn either_way(a: u32, b: u32, x: u32, y: u32) -> bool
+    ensures { λ r. ⌜ r ≡ eitherWay a b x y ⌝ }
+{
+    if a == x {
+        return b == y;
+    }
+    (a == y) & (b == x)
+}
+
 // One offers to send and the other to receive, on the two ends of one channel (tags 5 and 6).
 pub fn meets(a: Stand, b: Stand) -> bool
     ensures { λ r. ⌜ r ≡ meetsOp a b ⌝ }
 {
-    let kinds = ((a.kind == 2) & (b.kind == 3)) | ((a.kind == 3) & (b.kind == 2));
-    let sides = ((a.end.tag == 5) & (b.end.tag == 6)) | ((a.end.tag == 6) & (b.end.tag == 5));
-    (kinds & sides) & (a.end.number == b.end.number)
+    if !either_way(a.kind, b.kind, 2, 3) {
+        return false;
+    }
+    if a.end.number != b.end.number {
+        return false;
+    }
+    either_way(a.end.tag, b.end.tag, 5, 6)
 }

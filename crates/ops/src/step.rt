@@ -1,7 +1,7 @@
 // One step of a process, as far as it stays within the process and writes no line.
 ghost use mathlib.Core.Path.{_≡_};
-ghost use Prim.Native.Nat.{_+_, _*_};
-ghost use Rattle.table.specs.Table.{methods};
+ghost use Prim.Native.Nat.{_+_, _*_, _<_};
+ghost use Rattle.table.specs.Table.{word, methods};
 ghost use Rattle.ops.specs.Did.{did, actOp, stepOp};
 use super::calls::op_call;
 use super::calls::op_ret;
@@ -55,6 +55,29 @@ pub fn act(p: &[u16], w: &mut [u32], h: Head, op: usize, a: u16) -> u32
     }
 }
 
+// The op and the argument of an instruction.
+struct Instruction {
+    op: usize,
+    argument: usize,
+}
+
+// The two words at `at`, with one test where both are within the table.
+fn read_instruction(p: &[u16], at: usize) -> Instruction
+    requires { ⌜ at < 1099511627776 ⌝ }
+    ensures { λ r. ⌜ (r .op ≡ word (now (p .entry)) at) × (r .argument ≡ word (now (p .entry)) (at + 1)) × (r .argument < 65536) ⌝ }
+{
+    if at + 1 < p.len() {
+        return Instruction {
+            op: p[at] as usize,
+            argument: p[at + 1] as usize,
+        };
+    }
+    Instruction {
+        op: word_at(p, at),
+        argument: word_at(p, at + 1),
+    }
+}
+
 // One step of the process whose part is w; `start` is where the table's instructions begin. 1 where it does not run.
 pub fn step(p: &[u16], start: usize, w: &mut [u32]) -> u32
     requires { ⌜ start ≡ 2 + 20 * methods (now p) ⌝ }
@@ -64,8 +87,6 @@ pub fn step(p: &[u16], start: usize, w: &mut [u32]) -> u32
     if h.status != 1 {
         return 1;
     }
-    let at = start + 2 * (h.place as usize);
-    let op = word_at(p, at);
-    let a = word_at(p, at + 1);
-    act(p, w, h, op, a as u16)
+    let i = read_instruction(p, start + 2 * (h.place as usize));
+    act(p, w, h, i.op, i.argument as u16)
 }

@@ -3,18 +3,18 @@ use Prim.Native.Nat.{ℕ, _≤_, _<_}
 use mathlib.Core.Path.{_≡_, refl, sym, _∙_, ap}
 use mathlib.Core.Bool.{Bool, true, false, cond, not, true≢false}
 use mathlib.Core.List.{List}
-use lib.ListN.{getD, replicate}
+use lib.ListN.{replicate}
 use lib.Dec.{eqb, leb}
-use borrow.Author.Tests.{eqb-true, eq-eqb, ne-eqb, le-leb, lt-leb, leb-false}
+use borrow.Author.Tests.{eq-eqb, ne-eqb, le-leb, lt-leb, leb-false}
 use Rattle.ops.proofs.Returns.{took, passed-by}
 use Rattle.parts.specs.Parts.{partOf}
-use Rattle.offers.specs.declared.stand.Stand.{Stand}
-use Rattle.offers.specs.Stands.{standOp}
+use Rattle.offers.specs.Stands.{standOp, offersNothing}
+use Rattle.offers.proofs.Returns.{nothing-alone}
 use Rattle.ability.specs.Ending.{endingOp}
 use Rattle.ability.proofs.Idle.{alone-goes}
 use Rattle.entries.specs.Entries.{oneLine}
 use Rattle.run.specs.declared.known.Known.{Known}
-use Rattle.run.specs.Knowing.{unknown, marked, isIdle, withIdle, alone, stillKnown, enteredKnown, unlessTold}
+use Rattle.run.specs.Knowing.{unknown, marked, withIdle, alone, stillKnown, enteredKnown, unlessTold}
 
 -- a test that was negated
 
@@ -65,24 +65,24 @@ module _ (p work : List ℕ) (n : ℕ) (known : Known) (code : ℕ) where
     idle = known .idle;
   }
 
--- a process's stand was read
+-- a process was looked at
 
 pub beyond-alone : (p work : List ℕ) (n : ℕ) → 8 ≤ n → false ≡ alone p work n
 unfolding alone
 beyond-alone p work n h = took _ _ _ refl (le-leb 8 n h) refl
 
-pub stand-alone : (p work : List ℕ) (n : ℕ) {a : Stand} → n < 8 → a ≡ standOp p (partOf work n) → eqb (a .kind) 1 ≡ alone p work n
+pub stand-alone : (p work : List ℕ) (n : ℕ) {b : Bool} → n < 8 → b ≡ offersNothing p (partOf work n) → b ≡ alone p work n
 unfolding alone
-stand-alone p work n h e = passed-by _ _ _ refl (lt-leb 8 n h) (ap (λ (b : Stand). eqb (b .kind) 1) e)
+stand-alone p work n h e = passed-by _ _ _ refl (lt-leb 8 n h) e
 
 -- a process that moves by itself can be, and its stand says so
 pub alone-so : (p work : List ℕ) (n : ℕ) → alone p work n ≡ true → (n < 8) × (standOp p (partOf work n) .kind ≡ 1)
 unfolding alone
 alone-so p work n e = go (leb 8 n) refl e
   where
-    go : (b : Bool) → leb 8 n ≡ b → cond b false (eqb (standOp p (partOf work n) .kind) 1) ≡ true → (n < 8) × (standOp p (partOf work n) .kind ≡ 1)
+    go : (b : Bool) → leb 8 n ≡ b → cond b false (offersNothing p (partOf work n)) ≡ true → (n < 8) × (standOp p (partOf work n) .kind ≡ 1)
     go true i h = absurd (true≢false (sym h))
-    go false i h = (leb-false 8 n i, eqb-true (standOp p (partOf work n) .kind) 1 h)
+    go false i h = (leb-false 8 n i, nothing-alone p (partOf work n) h)
 
 pub ends-alone : (p work : List ℕ) (t : List (List ℕ)) (n : ℕ) {b : Bool} → b ≡ alone p work n → b ≡ true → 0 ≡ endingOp p work t 8
 ends-alone p work t n e h = alone-goes p work t n (alone-so p work n (sym e ∙ h) .0) (alone-so p work n (sym e ∙ h) .1)

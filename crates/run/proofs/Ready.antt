@@ -4,13 +4,13 @@ use Prim.Native.Nat.{ℕ, zero, suc, _+_, _*_, _-_, _≤_, _<_}
 use mathlib.Core.Path.{_≡_, refl, sym, _∙_, ap, ap₂, subst}
 use mathlib.Core.Logic.{_≢_, _⊎_, inl, inr, ⊎-elim}
 use mathlib.Core.Bool.{Bool, true, false, cond, not, _&&_, true≢false}
-use mathlib.Core.List.{List, [], _∷_, _++_, append-nil, append-assoc}
+use mathlib.Core.List.{List, [], _++_, append-nil}
 use mathlib.Core.Option.{Option, none, some}
 use native.Mathlib.Omega.{arith}
-use lib.ListN.{getD, set, replicate, take, drop, length, length-append, getD-replicate}
+use lib.ListN.{getD, set, replicate, drop, length, length-append, getD-replicate}
 use lib.Seq.{getD-set-other}
-use lib.Dec.{T, eqb, leb, ltb}
-use borrow.Author.Tests.{eqb-true, eqb-false, eq-eqb, ne-eqb, le-leb, lt-leb, leb-true, leb-false, ltb-true, ltb-false, lt-ltb}
+use lib.Dec.{eqb, leb, ltb}
+use borrow.Author.Tests.{eqb-true, eqb-false, eq-eqb, ne-eqb, le-leb, lt-leb, leb-true, leb-false, ltb-true}
 use Rattle.lists.specs.Lists.{All}
 use Rattle.lists.proofs.Tests.{decide, cond-each}
 use Rattle.table.specs.Table.{argAt}
@@ -28,31 +28,33 @@ use Rattle.machine.proofs.Ownership as own
 use Rattle.layout.specs.Layout.{encode}
 use Rattle.layout.proofs.RoundTrip.{encode-length}
 use Rattle.ops.specs.Did.{Did, did, stepOp}
-use Rattle.parts.specs.Parts.{partAt, partOf, withPart, onPart}
+use Rattle.parts.specs.Parts.{partOf, withPart, onPart}
 use Rattle.parts.proofs.Apart.{part-same, part-kept, part-other}
 use Rattle.offers.specs.declared.stand.Stand.{Stand}
 use Rattle.offers.specs.Stands.{standOp}
 use Rattle.holders.specs.Holders.{notedFrom, toldFrom, nobody}
 use Rattle.holders.proofs.Noting.{untold}
 use Rattle.holders.proofs.Holding.{Holding, holding-none, holding-lines}
+use Rattle.ability.specs.declared.pairing.Pairing.{Pairing}
+use Rattle.ability.specs.Pairings.{unpaired}
 use Rattle.ability.specs.Ending.{abilityOp, endingOp}
 use Rattle.ability.proofs.Able.{sound, able-is, ending-is}
 use Rattle.ability.proofs.Idle.{still-unable, alone-able}
 use Rattle.entries.specs.declared.came.Count.{Count}
 use Rattle.entries.specs.declared.came.Moved.{Moved}
 use Rattle.entries.specs.Came.{Came, came, movedTo, stayedAt, fullAt}
-use Rattle.entries.specs.Entries.{oneLine, entryOp}
-use Rattle.entries.proofs.Singly.{took, tried}
-use Rattle.entries.proofs.Meets.{went}
+use Rattle.entries.specs.Entries.{oneLine, offerAt, entryOp}
 use Rattle.entries.proofs.Stepped.{Plain, Other, Law, entry-law}
+use Rattle.entries.proofs.Paired.{waiting-stays, over-waits, offer-near}
 use Rattle.entries.proofs.Beside.{beside}
 use Rattle.run.specs.declared.turn.Turn.{Turn}
 use Rattle.run.specs.declared.burst.Burst.{Burst}
 use Rattle.run.specs.declared.known.Known.{Known}
 use Rattle.run.specs.Knowing.{unknown, marked, isIdle, withIdle, alone, stillKnown, enteredKnown, unlessTold}
-use Rattle.run.specs.Bursts.{Stop, stopsAt, namedOp, burstOp}
+use Rattle.run.specs.Bursts.{Stop, stopsAt, namedOp, isDone, namedBefore, stopsHere, burstOp}
 use Rattle.run.specs.Turned.{Turned, turned, cameOp, turnedBy, turnOp}
-use Rattle.run.proofs.Knowing.{entered-so}
+use Rattle.run.proofs.Knowing.{alone-so, ends-alone, entered-so}
+use Rattle.run.proofs.Steps.{done-so, stops-so}
 use Rattle.run.proofs.Modest.{modest}
 
 -- an entry of a process that cannot move does nothing
@@ -288,7 +290,7 @@ module _ {p schedule outcomes t0 : List ℕ} {room : ℕ} (given : Inputs p sche
     pub record Stopped (t : List (List ℕ)) (d : Did) : Type 0 where
       pub code : d .code ≢ 0
       pub words : d .words ≡ work₀
-      pub came : cameOp p outcomes trace₀ work₀ room t count₀ named (d .code) ≡ comesTo
+      pub came : cameOp p outcomes trace₀ work₀ room count₀ named (d .code) (offerAt p work₀ t named (d .code)) ≡ comesTo
 
     unmade : 8 ≤ named → able p outcomes (at k) named ≡ false
     unfolding able moves
@@ -301,7 +303,7 @@ module _ {p schedule outcomes t0 : List ℕ} {room : ℕ} (given : Inputs p sche
       far-law h = record {
         code = λ e. absurd (omega (arith, e));
         words = refl;
-        came = ap (λ (b : Bool). cond b (came (stayedAt count₀) trace₀ work₀) (entryOp p outcomes trace₀ work₀ room t count₀ named 1)) (le-leb 8 named h)
+        came = ap (λ (b : Bool). cond b (came (stayedAt count₀) trace₀ work₀) (entryOp p outcomes trace₀ work₀ room count₀ named 1 (offerAt p work₀ t named 1))) (le-leb 8 named h)
             ∙ sym (ap (λ (b : Bool). comes b (fits room (at k) effect)) (unmade h));
       }
 
@@ -321,7 +323,7 @@ module _ {p schedule outcomes t0 : List ℕ} {room : ℕ} (given : Inputs p sche
           inr (record {
             code = x .code;
             words = ap (withPart work₀ named) (x .words) ∙ part-same work₀ named;
-            came = ap (λ (b : Bool). cond b (came (stayedAt count₀) trace₀ work₀) (entryOp p outcomes trace₀ work₀ room t count₀ named (step₀ .code))) (lt-leb 8 named h) ∙ x .entry;
+            came = ap (λ (b : Bool). cond b (came (stayedAt count₀) trace₀ work₀) (entryOp p outcomes trace₀ work₀ room count₀ named (step₀ .code) (offerAt p work₀ t named (step₀ .code)))) (lt-leb 8 named h) ∙ x .entry;
           }))
           (entry-law p kept narrow outcomes bytes (at k) ks typed rest t0 room holds low-used k named owned t (r .table) h)
 
@@ -347,20 +349,22 @@ module _ {p schedule outcomes t0 : List ℕ} {room : ℕ} (given : Inputs p sche
         → Ready k work₀ trace₀ t (length (at k .lines)) (at k .used) known
     ready-there r = ready-as r (sym (r .store)) (sym (r .written)) (sym (r .counted)) (sym (r .drawn))
 
-    came-as : {work trace : List ℕ} {t : List (List ℕ)} {lines used : ℕ} {known : Known} → Ready k work trace t lines used known → (code : ℕ)
-        → cameOp p outcomes trace₀ work₀ room t count₀ named code ≡ comesTo
-        → cameOp p outcomes trace work room t (record { entry = k; lines = lines; used = used }) named code ≡ comesTo
-    came-as {t = t} r code e =
-        (λ i. cameOp p outcomes (r .written i) (r .store i) room t (record { entry = k; lines = r .counted i; used = r .drawn i }) named code) ∙ e
+    came-as : {work trace : List ℕ} {t : List (List ℕ)} {lines used : ℕ} {known : Known} → Ready k work trace t lines used known → (code : ℕ) (m : Pairing)
+        → cameOp p outcomes trace₀ work₀ room count₀ named code m ≡ comesTo
+        → cameOp p outcomes trace work room (record { entry = k; lines = lines; used = used }) named code m ≡ comesTo
+    came-as r code m e =
+        (λ i. cameOp p outcomes (r .written i) (r .store i) room (record { entry = k; lines = r .counted i; used = r .drawn i }) named code m) ∙ e
 
-    -- an entry whose step answers 1 is idle
-    idle-unable : (t : List (List ℕ)) → cameOp p outcomes trace₀ work₀ room t count₀ named 1 ≡ comesTo → able p outcomes (at k) named ≡ false
-    unfolding cameOp entryOp
-    idle-unable t e = go (able p outcomes (at k) named) (fits room (at k) effect) (sym (stays (leb 8 named)) ∙ e)
+    -- an entry whose offer comes to waiting is idle
+    idle-unable : (t : List (List ℕ)) (code : ℕ) → offerAt p work₀ t named code .kind ≡ 1
+        → cameOp p outcomes trace₀ work₀ room count₀ named code (offerAt p work₀ t named code) ≡ comesTo → able p outcomes (at k) named ≡ false
+    unfolding cameOp
+    idle-unable t code w e = go (able p outcomes (at k) named) (fits room (at k) effect) (sym (stays (leb 8 named)) ∙ e)
       where
-        stays : (b : Bool) → cond b (came (stayedAt count₀) trace₀ work₀) (came (stayedAt count₀) trace₀ work₀) ≡ came (stayedAt count₀) trace₀ work₀
+        stays : (b : Bool) → cond b (came (stayedAt count₀) trace₀ work₀) (entryOp p outcomes trace₀ work₀ room count₀ named code (offerAt p work₀ t named code))
+            ≡ came (stayedAt count₀) trace₀ work₀
         stays true = refl
-        stays false = refl
+        stays false = waiting-stays p outcomes trace₀ work₀ room t count₀ named code w
 
         go : (a f : Bool) → came (stayedAt count₀) trace₀ work₀ ≡ comes a f → a ≡ false
         go true true i = absurd (omega (arith, ap (λ (c : Came). c .moved .state) i))
@@ -456,11 +460,11 @@ module _ {p schedule outcomes t0 : List ℕ} {room : ℕ} (given : Inputs p sche
         (unlessTold (x .turn .known) (toldFrom (x .trace) lines (x .turn .lines - lines))))
         ⊎ ((x .turn .end ≢ 0) × Over k (x .turn .end) (x .work) (x .trace) (x .turn .lines) (x .turn .used))
 
-    pub turn-law : {work trace : List ℕ} {t : List (List ℕ)} {lines used : ℕ} {known : Known} → Ready k work trace t lines used known → k < length schedule → (code : ℕ)
-        → cameOp p outcomes trace work room t (record { entry = k; lines = lines; used = used }) (named k) code ≡ (comesTo k)
-        → Turns t lines (turnOp p outcomes trace work room t (record { entry = k; lines = lines; used = used }) (named k) code known)
+    pub turn-law : {work trace : List ℕ} {t : List (List ℕ)} {lines used : ℕ} {known : Known} → Ready k work trace t lines used known → k < length schedule → (code : ℕ) (m : Pairing)
+        → cameOp p outcomes trace work room (record { entry = k; lines = lines; used = used }) (named k) code m ≡ (comesTo k)
+        → Turns t lines (turnOp p outcomes trace work room t (record { entry = k; lines = lines; used = used }) (named k) code m known)
     unfolding turnOp turnedBy cameOp notedFrom toldFrom unknown alone stillKnown enteredKnown unlessTold
-    turn-law {work} {trace} {t} {lines} {used} {known} r l code e =
+    turn-law {work} {trace} {t} {lines} {used} {known} r l code m e =
         subst (λ (c : Came). Turns t lines (turnedBy p t (named k) code known c)) (sym e) (go (able p outcomes (at k) (named k)) (fits room (at k) (effect k)) refl refl)
       where
         there : Ready k (work₀ k) (trace₀ k) t (length (at k .lines)) (at k .used) known
@@ -476,12 +480,9 @@ module _ {p schedule outcomes t0 : List ℕ} {room : ℕ} (given : Inputs p sche
               (ready-idle k there l a e (withIdle known (named k)) (λ i. idle-more k there a)),
         )
 
-        stay : (b : Bool) → known .some ≡ b → able p outcomes (at k) (named k) ≡ false
-            → Turns t lines (cond b
-            (turned (record { end = 0; lines = length (at k .lines); used = at k .used; known = withIdle known (named k) }) (trace₀ k) (work₀ k))
-            (turned (record { end = endingOp p (work₀ k) t 8; lines = length (at k .lines); used = at k .used; known = withIdle known (named k) }) (trace₀ k) (work₀ k)))
-        stay true i a = idles a (r .sure i)
-        stay false i a = ends (endingOp p (work₀ k) t 8) refl
+        stay : able p outcomes (at k) (named k) ≡ false
+            → Turns t lines (turned (record { end = endingOp p (work₀ k) t 8; lines = length (at k .lines); used = at k .used; known = withIdle known (named k) }) (trace₀ k) (work₀ k))
+        stay a = ends (endingOp p (work₀ k) t 8) refl
           where
             is : endingOp p (work₀ k) t 8 ≡ ending p outcomes (at k)
             is = ending-is p kept narrow outcomes bytes (at k) (ks k) (typed k) rest (owned k) t (r .table)
@@ -542,27 +543,25 @@ module _ {p schedule outcomes t0 : List ℕ} {room : ℕ} (given : Inputs p sche
             so z = entered-so p work′ (named k) known code told z
 
             by-itself : known′ .some ≡ true → standOp p (partOf work′ (named k)) .kind ≡ 1
-            by-itself z =
-                eqb-true (standOp p (partOf work′ (named k)) .kind) 1
-                (sym (ap (λ (b : Bool). cond b false (eqb (standOp p (partOf work′ (named k)) .kind) 1)) (lt-leb 8 (named k) low)) ∙ so z .3)
+            by-itself z = alone-so p work′ (named k) (so z .3) .1
 
             marks-same : known′ .some ≡ true → known′ .idle ≡ known .idle
             marks-same z =
                 ap₂ (λ (x y : Bool). cond x unknown (cond y (stillKnown p work′ (named k) known 0) unknown) .idle) (so z .0) (so z .1)
 
-            came-so : entryOp p outcomes (trace₀ k) (work₀ k) room t (count₀ k) (named k) code .work ≡ work′
+            came-so : entryOp p outcomes (trace₀ k) (work₀ k) room (count₀ k) (named k) code m .work ≡ work′
             came-so =
-                sym (ap (λ (b : Bool). cond b (came (stayedAt (count₀ k)) (trace₀ k) (work₀ k)) (entryOp p outcomes (trace₀ k) (work₀ k) room t (count₀ k) (named k) code) .work)
+                sym (ap (λ (b : Bool). cond b (came (stayedAt (count₀ k)) (trace₀ k) (work₀ k)) (entryOp p outcomes (trace₀ k) (work₀ k) room (count₀ k) (named k) code m) .work)
                 (lt-leb 8 (named k) low))
                 ∙ ap (λ (c : Came). c .work)
-                ((λ x. cameOp p outcomes (sym (r .written) x) (sym (r .store) x) room t (record { entry = k; lines = sym (r .counted) x; used = sym (r .drawn) x }) (named k) code)
+                ((λ x. cameOp p outcomes (sym (r .written) x) (sym (r .store) x) room (record { entry = k; lines = sym (r .counted) x; used = sym (r .drawn) x }) (named k) code m)
                 ∙ e)
                 ∙ ap₂ (λ (a f : Bool). comes k a f .work) i j
 
             others : known′ .some ≡ true → (q : ℕ) → q < 8 → q ≢ named k → partOf work′ q ≡ partOf (work₀ k) q
             others z q h ne =
                 ap (λ (w : List ℕ). partOf w q) (sym came-so)
-                ∙ beside p outcomes (trace₀ k) (work₀ k) room t (count₀ k) (named k) code long low (so z .1) (ap length came-so ∙ same-long) q h ne
+                ∙ beside p outcomes (trace₀ k) (work₀ k) room (count₀ k) (named k) code m long low (so z .1) (ap length came-so ∙ same-long) q h ne
         go true false i j = inr (
           λ z. absurd (omega (arith, z)),
           record {
@@ -573,7 +572,7 @@ module _ {p schedule outcomes t0 : List ℕ} {room : ℕ} (given : Inputs p sche
             drawn = refl;
           },
         )
-        go false f i j = stay (known .some) refl i
+        go false f i j = stay i
 
   module _ (k : ℕ) where
     -- a step leaves the idle processes idle
@@ -597,17 +596,28 @@ module _ {p schedule outcomes t0 : List ℕ} {room : ℕ} (given : Inputs p sche
           moved-goes k r low (d .words) other by-itself
           (subst (Holding t) (sym (ap (λ (ls : List Line). at k .lines ++ ls) (x .lines) ∙ append-nil (at k .lines))) (r .table)) (x .words)
 
-    -- an entry of a burst: it is passed, or the rest of the entry does all
+    -- an entry of a burst: it is over with the step, the named process waits, or the rest of the entry does all
 
-    record Passed (t : List (List ℕ)) (known : Known) (d : Did) : Type 0 where
-      low : leb 2 (d .code) ≡ false
-      goes : (eqb (d .code) 1 && not (known .some)) ≡ false
+    record Done (t : List (List ℕ)) (known : Known) (d : Did) : Type 0 where
+      done : isDone (d .code) known ≡ true
       ready : Ready (suc k) (d .words) (trace₀ k) t (length (at k .lines)) (at k .used) (stillKnown p (d .words) (named k) known (d .code))
 
+    abbrev offered : List (List ℕ) → Did → Pairing
+    offered t d = offerAt p (d .words) t (named k) (d .code)
+
+    record Waits (t : List (List ℕ)) (known : Known) (d : Did) : Type 0 where
+      more : isDone (d .code) known ≡ false
+      goes : stopsHere p (d .words) schedule k known (offered t d) ≡ false
+      ready : Ready (suc k) (d .words) (trace₀ k) t (length (at k .lines)) (at k .used) (withIdle known (named k))
+
     record Held (t : List (List ℕ)) (known : Known) (d : Did) : Type 0 where
-      stops : (leb 2 (d .code) ≡ true) ⊎ ((leb 2 (d .code) ≡ false) × ((eqb (d .code) 1 && not (known .some)) ≡ true))
+      more : isDone (d .code) known ≡ false
+      stops : stopsHere p (d .words) schedule k known (offered t d) ≡ true
       words : d .words ≡ work₀ k
-      came : cameOp p outcomes (trace₀ k) (work₀ k) room t (count₀ k) (named k) (d .code) ≡ comesTo k
+      came : cameOp p outcomes (trace₀ k) (work₀ k) room (count₀ k) (named k) (d .code) (offered t d) ≡ comesTo k
+
+    abbrev Passes : List (List ℕ) → Known → Did → Type 0
+    Passes t known d = Done t known d ⊎ (Waits t known d ⊎ Held t known d)
 
     module _ {t : List (List ℕ)} {known : Known} (r : Ready k (work₀ k) (trace₀ k) t (length (at k .lines)) (at k .used) known)
         (l : k < length schedule) where
@@ -620,21 +630,27 @@ module _ {p schedule outcomes t0 : List ℕ} {room : ℕ} (given : Inputs p sche
           go true i = refl
           go false i = i
 
-      pass-idle : (d : Did) → d .code ≡ 1 → d .words ≡ work₀ k → known .some ≡ true → able p outcomes (at k) (named k) ≡ false → Passed t known d
+      still-alone : (w : List ℕ) (code : ℕ) → code ≡ 0 → stillKnown p w (named k) known code .some ≡ true → alone p w (named k) ≡ true
       unfolding stillKnown
+      still-alone w code z e = go (known .some) (sym (ap (λ (c : ℕ). cond (known .some) (cond (eqb c 0) (alone p w (named k)) true) false) z) ∙ e)
+        where
+          go : (b : Bool) → cond b (alone p w (named k)) false ≡ true → alone p w (named k) ≡ true
+          go true i = i
+          go false i = absurd (true≢false (sym i))
+
+      pass-idle : (d : Did) → d .code ≡ 1 → d .words ≡ work₀ k → known .some ≡ true → able p outcomes (at k) (named k) ≡ false → Done t known d
+      unfolding stillKnown isDone
       pass-idle d c w i a = record {
-        low = ap (leb 2) c;
-        goes = ap₂ (λ (n : ℕ) (b : Bool). eqb n 1 && not b) c i;
+        done = ap₂ (λ (n : ℕ) (b : Bool). cond (eqb n 0) true (eqb n 1 && b)) c i;
         ready =
             ready-as (suc k) (ready-idle k r l a (r .sure i) (stillKnown p (d .words) (named k) known (d .code)) (λ j. r .idle i)) w refl refl refl;
       }
 
       pass-step : named k < 8 → isIdle known (named k) ≡ false → Stepped k (onPart (work₀ k) (named k) (stepOp p (partOf (work₀ k) (named k))))
-          → Passed t known (onPart (work₀ k) (named k) (stepOp p (partOf (work₀ k) (named k))))
-      unfolding stillKnown alone onPart
+          → Done t known (onPart (work₀ k) (named k) (stepOp p (partOf (work₀ k) (named k))))
+      unfolding stillKnown alone onPart isDone
       pass-step low free x = record {
-        low = ap (leb 2) (x .code);
-        goes = ap (λ (n : ℕ). eqb n 1 && not (known .some)) (x .code);
+        done = ap (λ (n : ℕ). cond (eqb n 0) true (eqb n 1 && known .some)) (x .code);
         ready =
             ready-plain k r l (x .can) (x .lines) (x .used) (d .words) (x .words) (stillKnown p (d .words) (named k) known (d .code))
             (λ i. stepped-goes r d x low ws refl (by-itself i))
@@ -648,41 +664,50 @@ module _ {p schedule outcomes t0 : List ℕ} {room : ℕ} (given : Inputs p sche
           ws = stepOp p (partOf (work₀ k) (named k)) .words
 
           by-itself : stillKnown p (d .words) (named k) known (d .code) .some ≡ true → standOp p (partOf (d .words) (named k)) .kind ≡ 1
-          by-itself i =
-              go (known .some)
-              (sym (ap₂ (λ (c : ℕ) (b : Bool). cond (known .some) (cond (eqb c 0) (cond b false (eqb (standOp p (partOf (d .words) (named k)) .kind) 1)) true) false)
-              (x .code) (lt-leb 8 (named k) low)) ∙ i)
-            where
-              go : (b : Bool) → cond b (eqb (standOp p (partOf (d .words) (named k)) .kind) 1) false ≡ true → standOp p (partOf (d .words) (named k)) .kind ≡ 1
-              go true h = eqb-true (standOp p (partOf (d .words) (named k)) .kind) 1 h
-              go false h = absurd (true≢false (sym h))
+          by-itself i = alone-so p (d .words) (named k) (still-alone (d .words) (d .code) (x .code) i) .1
 
-      hold : (d : Did) → Stopped k t d → Passed t known d ⊎ Held t known d
-      hold d x = far (leb 2 (d .code)) refl
+      -- the run goes on where some process is known, or seen, to be able to move
+      goes-so : (n : ℕ) → (known .some ≡ true) ⊎ (alone p (work₀ k) n ≡ true) → ending p outcomes (at k) ≡ 0
+      goes-so n g =
+          ⊎-elim (r .sure)
+          (λ a. sym (ends-alone p (work₀ k) t n refl a
+          ∙ ending-is p kept narrow outcomes bytes (at k) (ks k) (typed k) rest (owned k) t (r .table)))
+          g
+
+      hold : (d : Did) → Stopped k t d → Passes t known d
+      hold d x = over (isDone (d .code) known) refl
         where
-          one : d .code < 2 → d .code ≡ 1
-          one h = single (d .code) (x .code) h
-            where
-              single : (c : ℕ) → c ≢ 0 → c < 2 → c ≡ 1
-              single zero z h = absurd (z refl)
-              single (suc zero) z h = refl
-              single (suc (suc c)) z h = absurd (omega (arith, h))
+          came-there : cameOp p outcomes (trace₀ k) (work₀ k) room (count₀ k) (named k) (d .code) (offered t d) ≡ comesTo k
+          came-there =
+              ap (λ (w : List ℕ). cameOp p outcomes (trace₀ k) (work₀ k) room (count₀ k) (named k) (d .code) (offerAt p w t (named k) (d .code))) (x .words) ∙ x .came
 
-          near : (b : Bool) → known .some ≡ b → d .code ≡ 1 → Passed t known d ⊎ Held t known d
-          near true i c =
-              inl (pass-idle d c (x .words) i
-              (idle-unable k t (ap (λ (n : ℕ). cameOp p outcomes (trace₀ k) (work₀ k) room t (count₀ k) (named k) n) (sym c) ∙ x .came)))
-          near false i c = inr (record {
-            stops = inr (ap (leb 2) c, ap₂ (λ (n : ℕ) (b : Bool). eqb n 1 && not b) c i);
-            words = x .words;
-            came = x .came;
-          })
+          waits : offered t d .kind ≡ 1 → able p outcomes (at k) (named k) ≡ false
+          waits e =
+              idle-unable k t (d .code) (sym (ap (λ (w : List ℕ). offerAt p w t (named k) (d .code) .kind) (x .words)) ∙ e) (x .came)
 
-          far : (b : Bool) → leb 2 (d .code) ≡ b → Passed t known d ⊎ Held t known d
-          far true h = inr (record { stops = inl h; words = x .words; came = x .came })
-          far false h = near (known .some) refl (one (leb-false 2 (d .code) h))
+          rests : isDone (d .code) known ≡ false → (b : Bool) → stopsHere p (d .words) schedule k known (offered t d) ≡ b → Waits t known d ⊎ Held t known d
+          rests more true s = inr (record { more = more; stops = s; words = x .words; came = came-there })
+          rests more false s =
+              let so = stops-so p (d .words) schedule k known (offered t d) s in
+              let a = waits (so .0) in
+              inl (record {
+                more = more;
+                goes = s;
+                ready =
+                    ready-as (suc k)
+                    (ready-idle k r l a
+                    (goes-so (namedBefore schedule k) (subst (λ (w : List ℕ). (known .some ≡ true) ⊎ (alone p w (namedBefore schedule k) ≡ true)) (x .words) (so .1)))
+                    (withIdle known (named k)) (λ i. idle-more k r a))
+                    (x .words) refl refl refl;
+              })
 
-      plain-law : Passed t known (namedOp p (work₀ k) (named k) known) ⊎ Held t known (namedOp p (work₀ k) (named k) known)
+          over : (b : Bool) → isDone (d .code) known ≡ b → Passes t known d
+          over true e =
+              let so = done-so (d .code) known (x .code) e in
+              inl (pass-idle d (so .0) (x .words) (so .1) (waits (ap (λ (c : ℕ). offerAt p (d .words) t (named k) c .kind) (so .0) ∙ over-waits p (d .words) t (named k))))
+          over false e = inr (rests e (stopsHere p (d .words) schedule k known (offered t d)) refl)
+
+      plain-law : Passes t known (namedOp p (work₀ k) (named k) known)
       unfolding namedOp
       plain-law = go (leb 8 (named k)) (isIdle known (named k)) refl refl
         where
@@ -690,7 +715,7 @@ module _ {p schedule outcomes t0 : List ℕ} {room : ℕ} (given : Inputs p sche
           steps = onPart (work₀ k) (named k) (stepOp p (partOf (work₀ k) (named k)))
 
           go : (a b : Bool) → leb 8 (named k) ≡ a → isIdle known (named k) ≡ b
-              → Passed t known (cond a (did 1 (work₀ k)) (cond b (did 1 (work₀ k)) steps)) ⊎ Held t known (cond a (did 1 (work₀ k)) (cond b (did 1 (work₀ k)) steps))
+              → Passes t known (cond a (did 1 (work₀ k)) (cond b (did 1 (work₀ k)) steps))
           go true b i j = hold (did 1 (work₀ k)) (far-law k r (leb-true 8 (named k) i))
           go false true i j =
               let known-so = known-idle k r (leb-false 8 (named k) i) j in
@@ -702,16 +727,19 @@ module _ {p schedule outcomes t0 : List ℕ} {room : ℕ} (given : Inputs p sche
 
   pub record Burst-good (trace : List ℕ) (t : List (List ℕ)) (lines used : ℕ) (b : Stop) : Type 0 where
     pub ready : Ready (b .burst .at) (b .words) trace t lines used (b .burst .known)
+    pub near : (b .burst .offer .sender .0 < 8) × (b .burst .offer .receiver .0 < 8)
     pub came : b .burst .at < length schedule
-        → cameOp p outcomes trace (b .words) room t (record { entry = b .burst .at; lines = lines; used = used }) (getD schedule (b .burst .at) 0) (b .burst .code) ≡ comesTo (b .burst .at)
+        → cameOp p outcomes trace (b .words) room (record { entry = b .burst .at; lines = lines; used = used }) (getD schedule (b .burst .at) 0) (b .burst .code) (b .burst .offer)
+        ≡ comesTo (b .burst .at)
 
   pub burst-law : (left k : ℕ) {work trace : List ℕ} {t : List (List ℕ)} {lines used : ℕ} {known : Known} → left ≡ length schedule - k → Ready k work trace t lines used known
-      → Burst-good trace t lines used (burstOp p schedule work k known left)
-  unfolding burstOp
-  burst-law zero k e r = record { ready = r; came = λ l. absurd (omega (arith, l, e)) }
+      → Burst-good trace t lines used (burstOp p t schedule work k known left)
+  unfolding burstOp unpaired
+  burst-law zero k e r = record { ready = r; near = (omega arith, omega arith); came = λ l. absurd (omega (arith, l, e)) }
   burst-law (suc left) k {work} {trace} {t} {lines} {used} {known} e r =
-      subst (λ (w : List ℕ). Burst-good trace t lines used (burstOp p schedule w k known (suc left))) (sym (r .store))
-      (⊎-elim (λ x. passed x (burst-law left (suc k) (omega (arith, e)) (ready-as (suc k) (x .ready) refl (r .written) (r .counted) (r .drawn)))) held
+      subst (λ (w : List ℕ). Burst-good trace t lines used (burstOp p t schedule w k known (suc left))) (sym (r .store))
+      (⊎-elim (λ x. done x (burst-law left (suc k) less (goes-there (x .ready))))
+      (⊎-elim (λ x. waits x (burst-law left (suc k) less (goes-there (x .ready)))) held)
       (plain-law k (ready-there k r) l))
     where
       l : k < length schedule
@@ -720,24 +748,42 @@ module _ {p schedule outcomes t0 : List ℕ} {room : ℕ} (given : Inputs p sche
       d : Did
       d = namedOp p (work₀ k) (named k) known
 
+      m : Pairing
+      m = offerAt p (d .words) t (named k) (d .code)
+
       here : Stop
-      here = stopsAt (record { at = k; code = d .code; known = known }) (d .words)
+      here = stopsAt (record { at = k; code = d .code; offer = m; known = known }) (d .words)
 
-      rest-of : ℕ → Stop
-      rest-of i = burstOp p schedule (d .words) i (stillKnown p (d .words) (named k) known (d .code)) left
+      rest-of : Known → ℕ → Stop
+      rest-of x i = burstOp p t schedule (d .words) i x left
 
-      passed : Passed k t known d → Burst-good trace t lines used (rest-of (suc k))
-          → Burst-good trace t lines used (cond (leb 2 (d .code)) here (cond (eqb (d .code) 1 && not (known .some)) here (rest-of (k + 1))))
-      passed x g =
-          subst (Burst-good trace t lines used)
-          (sym (ap₂ (λ (a b : Bool). cond a here (cond b here (rest-of (k + 1)))) (x .low) (x .goes) ∙ ap rest-of {x = k + 1} {y = suc k} (omega arith))) g
+      stops : Bool
+      stops = stopsHere p (d .words) schedule k known m
 
-      held : Held k t known d → Burst-good trace t lines used (cond (leb 2 (d .code)) here (cond (eqb (d .code) 1 && not (known .some)) here (rest-of (k + 1))))
-      held x =
-          ⊎-elim
-          (λ i. subst (Burst-good trace t lines used) (sym (ap (λ (a : Bool). cond a here (cond (eqb (d .code) 1 && not (known .some)) here (rest-of (k + 1)))) i)) good)
-          (λ i. subst (Burst-good trace t lines used) (sym (ap₂ (λ (a b : Bool). cond a here (cond b here (rest-of (k + 1)))) (i .0) (i .1))) good)
-          (x .stops)
+      steps : Bool → Bool → Stop
+      steps a b = cond a (rest-of (stillKnown p (d .words) (named k) known (d .code)) (k + 1)) (cond b here (rest-of (withIdle known (named k)) (k + 1)))
+
+      less : left ≡ length schedule - suc k
+      less = omega (arith, e)
+
+      goes-there : {x : Known} → Ready (suc k) (d .words) (trace₀ k) t (length (at k .lines)) (at k .used) x → Ready (suc k) (d .words) trace t lines used x
+      goes-there y = ready-as (suc k) y refl (r .written) (r .counted) (r .drawn)
+
+      further : (x : Known) → Burst-good trace t lines used (rest-of x (suc k)) → Burst-good trace t lines used (rest-of x (k + 1))
+      further x g = subst (λ (i : ℕ). Burst-good trace t lines used (rest-of x i)) {x = suc k} {y = k + 1} (omega arith) g
+
+      done : Done k t known d → Burst-good trace t lines used (rest-of (stillKnown p (d .words) (named k) known (d .code)) (suc k))
+          → Burst-good trace t lines used (steps (isDone (d .code) known) stops)
+      done x g =
+          subst (Burst-good trace t lines used) (sym (ap (λ (a : Bool). steps a stops) (x .done)))
+          (further (stillKnown p (d .words) (named k) known (d .code)) g)
+
+      waits : Waits k t known d → Burst-good trace t lines used (rest-of (withIdle known (named k)) (suc k))
+          → Burst-good trace t lines used (steps (isDone (d .code) known) stops)
+      waits x g = subst (Burst-good trace t lines used) (sym (ap₂ steps (x .more) (x .goes))) (further (withIdle known (named k)) g)
+
+      held : Held k t known d → Burst-good trace t lines used (steps (isDone (d .code) known) stops)
+      held x = subst (Burst-good trace t lines used) (sym (ap₂ steps (x .more) (x .stops))) good
         where
           there : Ready k (d .words) trace t lines used known
           there = ready-as k r (x .words ∙ sym (r .store)) refl refl refl
@@ -745,7 +791,8 @@ module _ {p schedule outcomes t0 : List ℕ} {room : ℕ} (given : Inputs p sche
           good : Burst-good trace t lines used here
           good = record {
             ready = there;
-            came = λ i. came-as k there (d .code) (x .came);
+            near = offer-near p (d .words) t (named k) (d .code);
+            came = λ i. came-as k there (d .code) m (x .came);
           }
 
   -- the schedule is used up

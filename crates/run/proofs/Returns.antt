@@ -1,14 +1,12 @@
 -- What the run's functions have done at their returns, from what their callees did and how their tests came out.
 use Prim.Native.Nat.{ℕ, _-_, _≤_, _<_}
 use mathlib.Core.Path.{_≡_, refl, sym, _∙_, ap, ap₂}
-use mathlib.Core.Bool.{true, false, not}
 use mathlib.Core.List.{List}
-use lib.ListN.{getD, length}
-use lib.Dec.{eqb}
 use borrow.Author.Tests.{eq-eqb, ne-eqb, le-leb, lt-leb}
 use Rattle.questions.specs.declared.Check.{Check}
 use Rattle.questions.specs.Check.{verdictOf}
 use Rattle.ops.proofs.Returns.{took, passed-by}
+use Rattle.ability.specs.declared.pairing.Pairing.{Pairing}
 use Rattle.ability.specs.Ending.{endingOp}
 use Rattle.entries.specs.declared.came.Count.{Count}
 use Rattle.entries.specs.declared.came.Moved.{Moved}
@@ -24,13 +22,13 @@ use Rattle.run.specs.Answers.{refusalOf}
 
 -- the entry of a byte that names no process, or one
 
-module _ (p outcomes trace work : List ℕ) (room : ℕ) (t : List (List ℕ)) (g : Count) (n code : ℕ) where
-  pub names-none : {m : Moved} → 8 ≤ n → m ≡ stayedAt g → came m trace work ≡ cameOp p outcomes trace work room t g n code
+module _ (p outcomes trace work : List ℕ) (room : ℕ) (g : Count) (n code : ℕ) (offer : Pairing) where
+  pub names-none : {m : Moved} → 8 ≤ n → m ≡ stayedAt g → came m trace work ≡ cameOp p outcomes trace work room g n code offer
   unfolding cameOp
   names-none h e = took _ _ _ refl (le-leb 8 n h) (came-to e refl refl)
 
-  pub names-one : {c : Came} → n < 8 → c ≡ entryOp p outcomes trace work room t g n code
-      → c ≡ cameOp p outcomes trace work room t g n code
+  pub names-one : {c : Came} → n < 8 → c ≡ entryOp p outcomes trace work room g n code offer
+      → c ≡ cameOp p outcomes trace work room g n code offer
   unfolding cameOp
   names-one h e = passed-by _ _ _ refl (lt-leb 8 n h) e
 
@@ -39,39 +37,29 @@ module _ (p outcomes trace work : List ℕ) (room : ℕ) (t : List (List ℕ)) (
 abbrev with-end : Moved → List ℕ → List ℕ → ℕ → Known → Turned
 with-end m ts ws e q = turned (record { end = e; lines = m .lines; used = m .used; known = q }) ts ws
 
-module _ (p outcomes trace work : List ℕ) (room : ℕ) (t : List (List ℕ)) (g : Count) (n code : ℕ) (known : Known) {m : Moved}
-    {ts ws : List ℕ} (told : came m ts ws ≡ cameOp p outcomes trace work room t g n code) {q : Known} where
+module _ (p outcomes trace work : List ℕ) (room : ℕ) (t : List (List ℕ)) (g : Count) (n code : ℕ) (offer : Pairing) (known : Known) {m : Moved}
+    {ts ws : List ℕ} (told : came m ts ws ≡ cameOp p outcomes trace work room g n code offer) {q : Known} where
   pub turn-full : m .state ≡ 2 → q ≡ unknown
       → turned (record { end = 3; lines = m .lines; used = m .used; known = q }) ts ws
-      ≡ turnOp p outcomes trace work room t g n code known
+      ≡ turnOp p outcomes trace work room t g n code offer known
   unfolding turnOp turnedBy
   turn-full h e = took _ _ _ refl (eq-eqb (m .state) 2 h) (ap (with-end m ts ws 3) e) ∙ ap (turnedBy p t n code known) told
 
   module _ (room-left : m .state ≡ 2 → ⊥) where
     pub turn-moves : m .state ≡ 1 → q ≡ enteredKnown p ws n known code
         → turned (record { end = 0; lines = m .lines; used = m .used; known = q }) ts ws
-        ≡ turnOp p outcomes trace work room t g n code known
+        ≡ turnOp p outcomes trace work room t g n code offer known
     unfolding turnOp turnedBy
     turn-moves h e =
         passed-by _ _ _ refl (ne-eqb (m .state) 2 room-left) (took _ _ _ refl (eq-eqb (m .state) 1 h) (ap (with-end m ts ws 0) e))
         ∙ ap (turnedBy p t n code known) told
 
-    pub turn-idles : (m .state ≡ 1 → ⊥) → known .some ≡ true → q ≡ withIdle known n
-        → turned (record { end = 0; lines = m .lines; used = m .used; known = q }) ts ws
-        ≡ turnOp p outcomes trace work room t g n code known
-    unfolding turnOp turnedBy
-    turn-idles h k e =
-        passed-by _ _ _ refl (ne-eqb (m .state) 2 room-left)
-        (passed-by _ _ _ refl (ne-eqb (m .state) 1 h) (took _ _ _ refl k (ap (with-end m ts ws 0) e)))
-        ∙ ap (turnedBy p t n code known) told
-
-    pub turn-asks : {end : ℕ} → (m .state ≡ 1 → ⊥) → known .some ≡ false → end ≡ endingOp p ws t 8 → q ≡ withIdle known n
+    pub turn-asks : {end : ℕ} → (m .state ≡ 1 → ⊥) → end ≡ endingOp p ws t 8 → q ≡ withIdle known n
         → turned (record { end = end; lines = m .lines; used = m .used; known = q }) ts ws
-        ≡ turnOp p outcomes trace work room t g n code known
+        ≡ turnOp p outcomes trace work room t g n code offer known
     unfolding turnOp turnedBy
-    turn-asks h k e i =
-        passed-by _ _ _ refl (ne-eqb (m .state) 2 room-left)
-        (passed-by _ _ _ refl (ne-eqb (m .state) 1 h) (passed-by _ _ _ refl k (ap₂ (with-end m ts ws) e i)))
+    turn-asks h e i =
+        passed-by _ _ _ refl (ne-eqb (m .state) 2 room-left) (passed-by _ _ _ refl (ne-eqb (m .state) 1 h) (ap₂ (with-end m ts ws) e i))
         ∙ ap (turnedBy p t n code known) told
 
 -- the number and place of a case of the check's

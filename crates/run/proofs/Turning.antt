@@ -1,14 +1,13 @@
 -- The loop over the schedule: what is known before each of its turns, and what a turn, the last turn and the end of the
 -- schedule make of it.
 use Prim.Native.Nat.{ℕ, zero, suc, _+_, _*_, _-_, _/_, _≤_, _<_}
-use mathlib.Core.Path.{_≡_, refl, sym, _∙_, ap, ap₂, subst}
+use mathlib.Core.Path.{_≡_, refl, sym, _∙_, ap, subst}
 use mathlib.Core.Logic.{_≢_, ⊎-elim}
-use mathlib.Core.Bool.{Bool, true, false, cond, not, _&&_, true≢false}
+use mathlib.Core.Bool.{Bool, not}
 use mathlib.Core.List.{List, [], _∷_, _++_}
 use native.Mathlib.Omega.{arith}
 use lib.ListN.{getD, drop, length}
 use lib.Seq.{drop-at}
-use lib.Dec.{eqb, leb}
 use Rattle.lists.specs.Lists.{All}
 use Rattle.lists.proofs.Tests.{cond-both}
 use Rattle.table.specs.Table.{word, methods, argAt}
@@ -18,13 +17,15 @@ use Rattle.machine.specs.Run.{Result, run}
 use Rattle.machine.proofs.Steps.{stateAt}
 use Rattle.layout.specs.Layout.{encode, storeAfter}
 use Rattle.layout.proofs.RoundTrip.{encode-length}
+use Rattle.ops.specs.Did.{Did}
 use Rattle.holders.specs.Holders.{notedFrom, toldFrom, nobody}
 use Rattle.ability.specs.Ending.{endingOp}
+use Rattle.entries.specs.Entries.{offerAt}
 use Rattle.run.specs.declared.burst.Burst.{Burst}
 use Rattle.run.specs.declared.turn.Turn.{Turn}
 use Rattle.run.specs.declared.known.Known.{Known}
-use Rattle.run.specs.Knowing.{unknown, stillKnown, unlessTold}
-use Rattle.run.specs.Bursts.{Stop, stopsAt, namedOp, burstOp}
+use Rattle.run.specs.Knowing.{unknown, withIdle, stillKnown, unlessTold}
+use Rattle.run.specs.Bursts.{Stop, stopsAt, namedOp, isDone, stopsHere, burstOp}
 use Rattle.run.specs.Turned.{Turned, turned, turnAt}
 use Rattle.run.specs.Left.{Left, leftAs, leaves}
 use Rattle.run.proofs.Ready.{Inputs, Ready, Over, Turns, Burst-good, ready-start, ready-last, state-sound, turn-law, burst-law}
@@ -54,22 +55,22 @@ inputs p schedule outcomes t0 kept words bytes short room = record {
 }
 
 -- a burst does not go back
-burst-past : (p schedule work : List ℕ) (k : ℕ) (known : Known) (left : ℕ) → k ≤ burstOp p schedule work k known left .burst .at
+burst-past : (p : List ℕ) (t : List (List ℕ)) (schedule work : List ℕ) (k : ℕ) (known : Known) (left : ℕ) → k ≤ burstOp p t schedule work k known left .burst .at
 unfolding burstOp
-burst-past p schedule work k known zero = omega arith
-burst-past p schedule work k known (suc left) =
-    cond-both (λ (b : Stop). k ≤ b .burst .at) (leb 2 (namedOp p work (getD schedule k 0) known .code)) (omega arith)
-    (cond-both (λ (b : Stop). k ≤ b .burst .at) (eqb (namedOp p work (getD schedule k 0) known .code) 1 && not (known .some)) (omega arith)
-    (omega (
-      arith,
-      burst-past p schedule (namedOp p work (getD schedule k 0) known .words) (k + 1)
-          (stillKnown p (namedOp p work (getD schedule k 0) known .words) (getD schedule k 0) known (namedOp p work (getD schedule k 0) known .code)) left,
-    )))
+burst-past p t schedule work k known zero = omega arith
+burst-past p t schedule work k known (suc left) =
+    cond-both (λ (b : Stop). k ≤ b .burst .at) (isDone (d .code) known)
+    (omega (arith, burst-past p t schedule (d .words) (k + 1) (stillKnown p (d .words) (getD schedule k 0) known (d .code)) left))
+    (cond-both (λ (b : Stop). k ≤ b .burst .at) (stopsHere p (d .words) schedule k known (offerAt p (d .words) t (getD schedule k 0) (d .code))) (omega arith)
+    (omega (arith, burst-past p t schedule (d .words) (k + 1) (withIdle known (getD schedule k 0)) left)))
+  where
+    d : Did
+    d = namedOp p work (getD schedule k 0) known
 
 module _ {p schedule outcomes : List ℕ} {room : ℕ} {t0 : List ℕ} where
   pub going-start : Inputs p schedule outcomes t0 room → (w0 : List ℕ) → w0 ≡ encode (startConfig p) ++ drop 8192 w0
       → {t : List (List ℕ)} → t ≡ nobody → {known : Known} → known ≡ unknown
-      → {b : Burst} {work : List ℕ} → stopsAt b work ≡ burstOp p schedule w0 0 known (length schedule - 0)
+      → {b : Burst} {work : List ℕ} → stopsAt b work ≡ burstOp p t schedule w0 0 known (length schedule - 0)
       → Going p schedule outcomes room (drop 8192 w0) t0 work t0 t 0 0 b
   going-start given w0 e {t} i {known} j told = record {
     given = given;
@@ -86,6 +87,9 @@ module _ {p schedule outcomes : List ℕ} {room : ℕ} {t0 : List ℕ} where
 
     pub few-lines : lines < 16000000
     few-lines = omega (arith, there .counted, there .fewLines, there .inside, g .given .short)
+
+    pub near : (b .offer .sender .0 < 8) × (b .offer .receiver .0 < 8)
+    near = g .stands .near
 
     -- the words behind the configuration's are as they were
     pub rest-kept : drop 8192 work ≡ rest
@@ -120,7 +124,7 @@ module _ {p schedule outcomes : List ℕ} {room : ℕ} {t0 : List ℕ} where
       unfolding turnAt
       turn =
           subst (Turns (g .given) rest (b .at) t lines) (sym told)
-          (turn-law (g .given) rest (b .at) there more (b .code) (g .stands .came more))
+          (turn-law (g .given) rest (b .at) there more (b .code) (b .offer) (g .stands .came more))
 
       -- the run is over
       pub going-over : (w0 : List ℕ) → rest ≡ drop 8192 w0 → r .end ≢ 0
@@ -142,11 +146,11 @@ module _ {p schedule outcomes : List ℕ} {room : ℕ} {t0 : List ℕ} where
         )
 
         module _ {tells : Bool} (says : tells ≡ toldFrom trace′ lines (r .lines - lines)) {known : Known} (knows : known ≡ unlessTold (r .known) tells)
-            {b′ : Burst} {work″ : List ℕ} (stops : stopsAt b′ work″ ≡ burstOp p schedule work′ (b .at + 1) known (length schedule - (b .at + 1))) where
+            {u : List (List ℕ)} (noted : u ≡ notedFrom t trace′ lines (r .lines - lines)) {b′ : Burst} {work″ : List ℕ}
+            (stops : stopsAt b′ work″ ≡ burstOp p u schedule work′ (b .at + 1) known (length schedule - (b .at + 1))) where
           -- it goes on
-          pub going-next : {u : List (List ℕ)} → u ≡ notedFrom t trace′ lines (r .lines - lines)
-              → Going p schedule outcomes room rest t0 work″ trace′ u (r .lines) (r .used) b′
-          going-next {u} e = record {
+          pub going-next : Going p schedule outcomes room rest t0 work″ trace′ u (r .lines) (r .used) b′
+          going-next = record {
             given = g .given;
             stands =
                 subst (Burst-good (g .given) rest trace′ u (r .lines) (r .used)) (sym stops)
@@ -154,7 +158,7 @@ module _ {p schedule outcomes : List ℕ} {room : ℕ} {t0 : List ℕ} where
                 (subst (λ (n : ℕ). Ready (g .given) rest n work′ trace′ u (r .lines) (r .used) known) {x = suc (b .at)} {y = b .at + 1} (omega arith)
                 (subst (λ (x : Known). Ready (g .given) rest (suc (b .at)) work′ trace′ u (r .lines) (r .used) x) (sym (knows ∙ ap (unlessTold (r .known)) says))
                 (subst (λ (v : List (List ℕ)). Ready (g .given) rest (suc (b .at)) work′ trace′ v (r .lines) (r .used) (unlessTold (r .known) (toldFrom trace′ lines (r .lines - lines))))
-                (sym e) (next .1)))));
+                (sym noted) (next .1)))));
           }
 
           pub further : b .at < b′ .at
@@ -162,5 +166,5 @@ module _ {p schedule outcomes : List ℕ} {room : ℕ} {t0 : List ℕ} where
               omega (
                 arith,
                 subst (λ (x : Stop). b .at + 1 ≤ x .burst .at) (sym stops)
-                    (burst-past p schedule work′ (b .at + 1) known (length schedule - (b .at + 1))),
+                    (burst-past p u schedule work′ (b .at + 1) known (length schedule - (b .at + 1))),
               )

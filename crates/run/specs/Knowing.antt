@@ -5,8 +5,7 @@ use mathlib.Core.List.{List}
 use lib.ListN.{getD, set, replicate}
 use lib.Dec.{eqb, leb, ltb}
 use Rattle.parts.specs.Parts.{partOf}
-use Rattle.offers.specs.declared.stand.Stand.{Stand}
-use Rattle.offers.specs.Stands.{standOp}
+use Rattle.offers.specs.Stands.{offersNothing}
 use Rattle.entries.specs.Entries.{oneLine}
 use Rattle.run.specs.declared.known.Known.{Known}
 
@@ -24,9 +23,9 @@ marked idle n = cond (ltb n 8) (set idle n true) idle
 unfoldable pub withIdle : Known → ℕ → Known
 withIdle known n = record { some = true; idle = marked (cond (known .some) (known .idle) (replicate 8 false)) n }
 
--- process n moves by itself
+-- process n runs and stands at no offer, so that it moves by itself
 unfoldable pub alone : List ℕ → List ℕ → ℕ → Bool
-alone p work n = cond (leb 8 n) false (eqb (standOp p (partOf work n) .kind) 1)
+alone p work n = cond (leb 8 n) false (offersNothing p (partOf work n))
 
 -- what is known still after an entry with this code: after a step, only where the process moves on by itself
 unfoldable pub stillKnown : List ℕ → List ℕ → ℕ → Known → ℕ → Known

@@ -5,6 +5,7 @@ use mathlib.Core.List.{List}
 use lib.ListN.{getD}
 use lib.Dec.{eqb, leb}
 use Rattle.ability.specs.Ending.{endingOp}
+use Rattle.ability.specs.declared.pairing.Pairing.{Pairing}
 use Rattle.entries.specs.declared.came.Count.{Count}
 use Rattle.entries.specs.Came.{Came, came, stayedAt}
 use Rattle.entries.specs.Entries.{entryOp}
@@ -21,9 +22,9 @@ pub record Turned : Type 0 where
 abbrev pub turned : Turn → List ℕ → List ℕ → Turned
 turned r t w = record { turn = r; trace = t; work = w }
 
-unfoldable pub cameOp : List ℕ → List ℕ → List ℕ → List ℕ → ℕ → List (List ℕ) → Count → ℕ → ℕ → Came
-cameOp p outcomes trace work room t g n code =
-    cond (leb 8 n) (came (stayedAt g) trace work) (entryOp p outcomes trace work room t g n code)
+unfoldable pub cameOp : List ℕ → List ℕ → List ℕ → List ℕ → ℕ → Count → ℕ → ℕ → Pairing → Came
+cameOp p outcomes trace work room g n code m =
+    cond (leb 8 n) (came (stayedAt g) trace work) (entryOp p outcomes trace work room g n code m)
 
 -- what an entry means for the run
 unfoldable pub turnedBy : List ℕ → List (List ℕ) → ℕ → ℕ → Known → Came → Turned
@@ -32,14 +33,12 @@ turnedBy p t n code known c =
     (turned (record { end = 3; lines = c .moved .lines; used = c .moved .used; known = unknown }) (c .trace) (c .work))
     (cond (eqb (c .moved .state) 1)
     (turned (record { end = 0; lines = c .moved .lines; used = c .moved .used; known = enteredKnown p (c .work) n known code }) (c .trace) (c .work))
-    (cond (known .some)
-    (turned (record { end = 0; lines = c .moved .lines; used = c .moved .used; known = withIdle known n }) (c .trace) (c .work))
-    (turned (record { end = endingOp p (c .work) t 8; lines = c .moved .lines; used = c .moved .used; known = withIdle known n }) (c .trace) (c .work))))
+    (turned (record { end = endingOp p (c .work) t 8; lines = c .moved .lines; used = c .moved .used; known = withIdle known n }) (c .trace) (c .work)))
 
-unfoldable pub turnOp : List ℕ → List ℕ → List ℕ → List ℕ → ℕ → List (List ℕ) → Count → ℕ → ℕ → Known → Turned
-turnOp p outcomes trace work room t g n code known = turnedBy p t n code known (cameOp p outcomes trace work room t g n code)
+unfoldable pub turnOp : List ℕ → List ℕ → List ℕ → List ℕ → ℕ → List (List ℕ) → Count → ℕ → ℕ → Pairing → Known → Turned
+turnOp p outcomes trace work room t g n code m known = turnedBy p t n code known (cameOp p outcomes trace work room g n code m)
 
 -- the entry at which plain steps have stopped
 unfoldable pub turnAt : List ℕ → List ℕ → List ℕ → List ℕ → List ℕ → ℕ → List (List ℕ) → ℕ → ℕ → Burst → Turned
 turnAt p schedule outcomes trace work room t lines used b =
-    turnOp p outcomes trace work room t (record { entry = b .at; lines = lines; used = used }) (getD schedule (b .at) 0) (b .code) (b .known)
+    turnOp p outcomes trace work room t (record { entry = b .at; lines = lines; used = used }) (getD schedule (b .at) 0) (b .code) (b .offer) (b .known)

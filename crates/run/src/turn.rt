@@ -3,15 +3,14 @@ ghost use mathlib.Core.Path.{_≡_};
 ghost use Prim.Native.Nat.{_+_, _*_, _<_, _≤_};
 ghost use lib.ListN.{length};
 ghost use Rattle.table.specs.Table.{methods};
-ghost use Rattle.ability.specs.Ending.{endingOp};
 ghost use Rattle.entries.specs.Came.{came};
 ghost use Rattle.run.specs.Knowing.{enteredKnown};
 ghost use Rattle.run.specs.Turned.{turned, cameOp, turnOp};
 use super::burst::keep_known;
-use super::burst::moves_alone;
 use super::known::Known;
 use super::known::nothing_known;
 use ability::ending::ending;
+use ability::pairing::Pairing;
 use entries::came::Count;
 use entries::came::Moved;
 use entries::came::stays;
@@ -35,13 +34,13 @@ fn named_entry(
     trace: &mut [u16],
     work: &mut [u32],
     room: usize,
-    t: &[[u16; 2]; 16],
     g: Count,
     n: u8,
     code: u32,
+    m: Pairing,
 ) -> Moved
-    requires { ⌜ (start ≡ 2 + 20 * methods (now p)) × (8192 ≤ length (now work)) × (g .lines < 16000000) ⌝ }
-    ensures { λ r. ⌜ came r (now (trace .exit)) (now (work .exit)) ≡ cameOp (now (p .entry)) (now (outcomes .entry)) (now (trace .entry)) (now (work .entry)) room (now (t .entry)) g n code ⌝ }
+    requires { ⌜ (start ≡ 2 + 20 * methods (now p)) × (8192 ≤ length (now work)) × (g .lines < 16000000) × (m .sender .0 < 8) × (m .receiver .0 < 8) ⌝ }
+    ensures { λ r. ⌜ came r (now (trace .exit)) (now (work .exit)) ≡ cameOp (now (p .entry)) (now (outcomes .entry)) (now (trace .entry)) (now (work .entry)) room g n code m ⌝ }
 {
     if 8 <= n {
         return stays(g);
@@ -53,10 +52,10 @@ fn named_entry(
         trace,
         work,
         room,
-        t,
         g,
         ProcessNo(n as u16),
         code,
+        m,
     )
 }
 
@@ -71,29 +70,8 @@ fn entered_known(p: &[u16], start: usize, work: &[u32], n: u8, known: Known, cod
     nothing_known()
 }
 
-// The process that the entry before names; 0 before the first.
-fn named_before(schedule: &[u8], entry: u16) -> u8
-    requires { ⌜ entry < length (now schedule) ⌝ }
-{
-    if entry == 0 {
-        return 0;
-    }
-    let before = entry as usize - 1;
-    schedule[before]
-}
-
-// The end that the processes give, with a first look at one of which it may be that it moves on by itself.
-fn end_after(p: &[u16], start: usize, work: &[u32], t: &[[u16; 2]; 16], last: u8) -> u32
-    requires { ⌜ (start ≡ 2 + 20 * methods (now p)) × (8192 ≤ length (now work)) ⌝ }
-    ensures { λ r. ⌜ r ≡ endingOp (now (p .entry)) (now (work .entry)) (now (t .entry)) 8 ⌝ }
-{
-    if moves_alone(p, start, work, last) {
-        return 0;
-    }
-    ending(p, start, work, t)
-}
-
-// "none able to move .. end 2" is worked out only where the named process cannot move and it is not known that another can.
+// "none able to move .. end 2" is worked out only where the named process cannot move and no other is known or seen to be
+// able to.
 pub fn take_turn(
     p: &[u16],
     start: usize,
@@ -105,13 +83,13 @@ pub fn take_turn(
     g: Count,
     n: u8,
     code: u32,
+    offer: Pairing,
     known: Known,
-    schedule: &[u8],
 ) -> Turn
-    requires { ⌜ (start ≡ 2 + 20 * methods (now p)) × (8192 ≤ length (now work)) × (g .lines < 16000000) × (g .entry < length (now schedule)) ⌝ }
-    ensures { λ r. ⌜ turned r (now (trace .exit)) (now (work .exit)) ≡ turnOp (now (p .entry)) (now (outcomes .entry)) (now (trace .entry)) (now (work .entry)) room (now (t .entry)) g n code known ⌝ }
+    requires { ⌜ (start ≡ 2 + 20 * methods (now p)) × (8192 ≤ length (now work)) × (g .lines < 16000000) × (offer .sender .0 < 8) × (offer .receiver .0 < 8) ⌝ }
+    ensures { λ r. ⌜ turned r (now (trace .exit)) (now (work .exit)) ≡ turnOp (now (p .entry)) (now (outcomes .entry)) (now (trace .entry)) (now (work .entry)) room (now (t .entry)) g n code offer known ⌝ }
 {
-    let m = named_entry(p, start, outcomes, trace, work, room, t, g, n, code);
+    let m = named_entry(p, start, outcomes, trace, work, room, g, n, code, offer);
     if m.state == 2 {
         return Turn {
             end: 3,
@@ -128,16 +106,8 @@ pub fn take_turn(
             known: entered_known(p, start, work, n, known, code),
         };
     }
-    if known.some {
-        return Turn {
-            end: 0,
-            lines: m.lines,
-            used: m.used,
-            known: known.with_idle(n),
-        };
-    }
     Turn {
-        end: end_after(p, start, work, t, named_before(schedule, g.entry)),
+        end: ending(p, start, work, t),
         lines: m.lines,
         used: m.used,
         known: known.with_idle(n),

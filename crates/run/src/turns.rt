@@ -42,7 +42,8 @@ fn turn_at(
     used: u32,
     b: Burst,
 ) -> Turn
-    requires { ⌜ (start ≡ 2 + 20 * methods (now p)) × (8192 ≤ length (now work)) × (b .at < length (now schedule)) × (length (now schedule) ≤ 65535) × (lines < 16000000) ⌝ }
+    requires { ⌜ (start ≡ 2 + 20 * methods (now p)) × (8192 ≤ length (now work)) × (b .at < length (now schedule)) × (length (now schedule) ≤ 65535) × (lines < 16000000)
+        × (b .offer .sender .0 < 8) × (b .offer .receiver .0 < 8) ⌝ }
     ensures { λ r. ⌜ turned r (now (trace .exit)) (now (work .exit)) ≡ turnAt (now (p .entry)) (now (schedule .entry)) (now (outcomes .entry)) (now (trace .entry)) (now (work .entry)) room (now (t .entry)) lines used b ⌝ }
 {
     let at = b.at;
@@ -52,6 +53,7 @@ fn turn_at(
         used: used,
     };
     let n = schedule[at];
+    let offer = b.offer;
     let known = b.known;
     take_turn(
         p,
@@ -64,8 +66,8 @@ fn turn_at(
         g,
         n,
         b.code,
+        offer,
         known,
-        schedule,
     )
 }
 
@@ -87,7 +89,7 @@ pub fn run_entries(
     let mut t = no_holders();
     let mut lines: u32 = 0;
     let mut used: u32 = 0;
-    let mut b = plain_steps(p, start, work, schedule, 0, nothing_known());
+    let mut b = plain_steps(p, start, work, &t, schedule, 0, nothing_known());
     while b.at < schedule.len() {
         let r = turn_at(
             p,
@@ -114,7 +116,7 @@ pub fn run_entries(
         lines = r.lines;
         used = r.used;
         let known = r.known;
-        b = plain_steps(p, start, work, schedule, b.at + 1, known.unless(told));
+        b = plain_steps(p, start, work, &t, schedule, b.at + 1, known.unless(told));
     }
     Over {
         end: ending(p, start, work, &t),

@@ -1,7 +1,7 @@
 -- What the functions over lent words do, as functions on lists of words. These definitions follow the code; what they
 -- mean for a process is proved in proofs/.
 use Prim.Native.Nat.{ℕ, zero, suc, _+_, _*_, _-_, _%_}
-use mathlib.Core.Bool.{Bool, true, false, cond, _&&_, _||_}
+use mathlib.Core.Bool.{Bool, false, cond, _&&_, _||_}
 use mathlib.Core.List.{List}
 use lib.Dec.{eqb, leb}
 use lib.ListN.{getD, set}
@@ -154,10 +154,17 @@ tagsMeet a b = eqb a b || (eqb a 4 && (leb 5 b && leb b 6) || eqb b 4 && (leb 5 
 unfoldable pub lostVal : Val → Val → Bool
 lostVal t v = eqb (v .number) (t .number) && tagsMeet (t .tag) (v .tag)
 
--- the first j values of a part, those lost with t emptied
+-- the value at i emptied where it is lost with t
 unfoldable pub emptiedOne : List ℕ → Val → ℕ → List ℕ
 emptiedOne w t i = cond (lostVal t (valueAt w i)) (putValue w i (record { tag = 0; number = 0 })) w
 
+-- eight of them, from the one at i on
+unfoldable pub emptiedEight : List ℕ → Val → ℕ → List ℕ
+emptiedEight w t i =
+    let one : List ℕ → ℕ → List ℕ = λ l k. emptiedOne l t (i + k) in
+    one (one (one (one (one (one (one (emptiedOne w t i) 2) 4) 6) 8) 10) 12) 14
+
+-- the first j values of a part, those lost with t emptied
 unfoldable pub emptiedBy : List ℕ → Val → ℕ → List ℕ
 emptiedBy w t zero = w
 emptiedBy w t (suc j) = emptiedOne (emptiedBy w t j) t (64 + 2 * j)

@@ -1,7 +1,8 @@
 // Giving away: "Every slot and every pending value of the giver, in all frames, that holds the thing is emptied."
 ghost use mathlib.Core.Path.{_≡_};
-ghost use Prim.Native.Nat.{_*_};
-ghost use Rattle.store.specs.Words.{tagsMeet, lostVal, emptiedOne, emptiedBy};
+ghost use Prim.Native.Nat.{_+_, _*_, _<_, _≤_};
+ghost use lib.ListN.{length};
+ghost use Rattle.store.specs.Words.{tagsMeet, lostVal, emptiedOne, emptiedEight, emptiedBy};
 use super::values::Val;
 use super::values::empty;
 use super::values::put_value;
@@ -49,6 +50,47 @@ pub fn give_away(w: &mut [u32], t: Val, n: u16)
     let mut j: u16 = 0;
     while j < n {
         empty_one(w, t, 64 + 2 * (j as usize));
+        j += 1;
+    }
+}
+
+// The value at i emptied where it is this qubit.
+fn lose_qubit(w: &mut [u32], number: u32, i: usize)
+    requires { ⌜ i + 1 < length (now w) ⌝ }
+    ensures { λ r. ⌜ now (w .exit) ≡ emptiedOne (now (w .entry)) (record { tag = 3; number = number }) i ⌝ }
+{
+    if w[i] == 3 {
+        if w[i + 1] == number {
+            w[i] = 0;
+            w[i + 1] = 0;
+        }
+    }
+}
+
+// Eight values from the one at i on.
+fn lose_eight(w: &mut [u32], number: u32, i: usize)
+    requires { ⌜ i + 15 < length (now w) ⌝ }
+    ensures { λ r. ⌜ now (w .exit) ≡ emptiedEight (now (w .entry)) (record { tag = 3; number = number }) i ⌝ }
+{
+    lose_qubit(w, number, i);
+    lose_qubit(w, number, i + 2);
+    lose_qubit(w, number, i + 4);
+    lose_qubit(w, number, i + 6);
+    lose_qubit(w, number, i + 8);
+    lose_qubit(w, number, i + 10);
+    lose_qubit(w, number, i + 12);
+    lose_qubit(w, number, i + 14);
+}
+
+// The same for a qubit, where the first 8 n values are within the part: a value is a qubit only by its tag, so that most
+// values cost one look.
+pub fn give_qubit(w: &mut [u32], number: u32, n: u16)
+    requires { ⌜ 64 + 16 * n ≤ length (now w) ⌝ }
+    ensures { λ r. ⌜ now (w .exit) ≡ emptiedBy (now (w .entry)) (record { tag = 3; number = number }) (8 * n) ⌝ }
+{
+    let mut j: u16 = 0;
+    while j < n {
+        lose_eight(w, number, 64 + 16 * (j as usize));
         j += 1;
     }
 }

@@ -1,16 +1,16 @@
 -- A line written behind the lines of a run makes the trace of one line more.
-use Prim.Native.Nat.{ℕ, zero, suc, _+_, _*_, _≤_, _<_}
-use mathlib.Core.Path.{_≡_, refl, sym, _∙_, ap, ap₂, subst}
+use Prim.Native.Nat.{ℕ, suc, _+_, _*_, _≤_}
+use mathlib.Core.Path.{_≡_, refl, sym, _∙_, ap, ap₂}
 use mathlib.Core.List.{List, [], _∷_, _++_, append-assoc, append-nil}
-use native.Mathlib.Nat.{le-of-suc-le-suc, not-suc-le-zero}
+use native.Mathlib.Nat.{not-suc-le-zero}
 use native.Mathlib.Omega.{arith}
-use lib.ListN.{getD, set, drop, length, length-append, length-drop}
+use lib.ListN.{set, drop, length, length-append, length-drop}
 use lib.Seq.{drop-drop}
 use Rattle.layout.proofs.Padded.{set-behind}
 use Rattle.machine.specs.State.{Line}
 use Rattle.machine.specs.Answer.{lineWords, traceWords, traceAfter}
 use Rattle.trace.specs.declared.lines.TraceLine.{TraceLine}
-use Rattle.trace.specs.Written.{withThree, withLine}
+use Rattle.trace.specs.Written.{withThree, withSix, withLine}
 
 -- a line of the definitions as the code has it
 abbrev pub lineOf : Line → TraceLine
@@ -34,7 +34,7 @@ one-line l = append-nil (lineWords l)
 
 -- six words written at the front of a list that has six
 six-written : (t : List ℕ) (l : Line) → 6 ≤ length t → withLine t 0 (lineOf l) ≡ lineWords l ++ drop 6 t
-unfolding withLine withThree lineWords
+unfolding withLine withSix withThree lineWords
 six-written [] l h = absurd (not-suc-le-zero h)
 six-written (x₁ ∷ []) l h = absurd (omega arith)
 six-written (x₁ ∷ x₂ ∷ []) l h = absurd (omega arith)
@@ -54,7 +54,7 @@ three-behind xs t n i x y z e =
     ∙ set-behind xs (set (set t i x) (i + 1) y) n (i + 2) z e
 
 line-behind : (xs t : List ℕ) (k : ℕ) (l : TraceLine) → length xs ≡ 6 * k → withLine (xs ++ t) k l ≡ xs ++ withLine t 0 l
-unfolding withLine
+unfolding withLine withSix
 line-behind xs t k l e =
     ap (λ (i : ℕ). withThree (withThree (xs ++ t) i (l .entry) (l .process) (l .kind)) (6 * k + 3) (l .a) (l .b) (l .c)) {x = 6 * k} {y = 6 * k + 0} (omega arith)
     ∙ ap (λ (w : List ℕ). withThree w (6 * k + 3) (l .a) (l .b) (l .c)) (three-behind xs t (6 * k) 0 (l .entry) (l .process) (l .kind) e)

@@ -8,6 +8,10 @@ use Rattle.trace.specs.declared.lines.TraceLine.{TraceLine}
 unfoldable pub withThree : List ℕ → ℕ → ℕ → ℕ → ℕ → List ℕ
 withThree t i x y z = set (set (set t i x) (i + 1) y) (i + 2) z
 
+-- a line written from index i on
+unfoldable pub withSix : List ℕ → ℕ → TraceLine → List ℕ
+withSix t i l = withThree (withThree t i (l .entry) (l .process) (l .kind)) (i + 3) (l .a) (l .b) (l .c)
+
 -- line number i written
 unfoldable pub withLine : List ℕ → ℕ → TraceLine → List ℕ
-withLine t i l = withThree (withThree t (6 * i) (l .entry) (l .process) (l .kind)) (6 * i + 3) (l .a) (l .b) (l .c)
+withLine t i l = withSix t (6 * i) l

@@ -2,8 +2,8 @@
 // caller but an index that can be computed with.
 ghost use mathlib.Core.Path.{_≡_};
 ghost use Prim.Native.Nat.{_+_, _*_, _<_};
-ghost use lib.ListN.{set};
-ghost use Rattle.trace.specs.Written.{withThree, withLine};
+ghost use lib.ListN.{length, set};
+ghost use Rattle.trace.specs.Written.{withThree, withSix, withLine};
 
 // "Six 16-bit numbers: entry (from 0), process, kind, a, b, c; unused ones 65535."
 pub struct TraceLine {
@@ -27,15 +27,22 @@ fn put_three(t: &mut [u16], at: usize, x: u16, y: u16, z: u16)
     requires { ⌜ at < 4294967296 ⌝ }
     ensures { λ r. ⌜ now (t .exit) ≡ withThree (now (t .entry)) at x y z ⌝ }
 {
-    if at + 2 < t.len() {
-        t[at] = x;
-        t[at + 1] = y;
-        t[at + 2] = z;
-        return;
-    }
     put_word(t, at, x);
     put_word(t, at + 1, y);
     put_word(t, at + 2, z);
+}
+
+// Six words with one test, where all of them are within the trace.
+fn put_six(t: &mut [u16], at: usize, l: TraceLine)
+    requires { ⌜ at + 5 < length (now t) ⌝ }
+    ensures { λ r. ⌜ now (t .exit) ≡ withSix (now (t .entry)) at l ⌝ }
+{
+    t[at] = l.entry;
+    t[at + 1] = l.process;
+    t[at + 2] = l.kind;
+    t[at + 3] = l.a;
+    t[at + 4] = l.b;
+    t[at + 5] = l.c;
 }
 
 // Line number i written. A run has fewer than 2^20 lines: at most 9 for each of 65,535 entries.
@@ -44,6 +51,25 @@ pub fn write_line(t: &mut [u16], i: u32, l: TraceLine)
     ensures { λ r. ⌜ now (t .exit) ≡ withLine (now (t .entry)) i l ⌝ }
 {
     let at = 6 * (i as usize);
+    if at + 5 < t.len() {
+        put_six(t, at, l);
+        return;
+    }
     put_three(t, at, l.entry, l.process, l.kind);
     put_three(t, at + 3, l.a, l.b, l.c);
+}
+
+// Line number i and the next one, with one test where both are within the trace.
+pub fn write_two(t: &mut [u16], i: u32, l: TraceLine, m: TraceLine)
+    requires { ⌜ i < 16000000 ⌝ }
+    ensures { λ r. ⌜ now (t .exit) ≡ withLine (withLine (now (t .entry)) i l) (i + 1) m ⌝ }
+{
+    let at = 6 * (i as usize);
+    if at + 11 < t.len() {
+        put_six(t, at, l);
+        put_six(t, at + 6, m);
+        return;
+    }
+    write_line(t, i, l);
+    write_line(t, i + 1, m);
 }

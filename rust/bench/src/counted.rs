@@ -1,12 +1,17 @@
-//! Machine instructions per entry, counted by callgrind. What a program does
-//! before its first entry falls out of the difference of two lengths.
+//! Machine instructions, counted by callgrind. What a program does before its
+//! first entry falls out of the difference of two lengths.
 
 use std::env;
+use std::fs;
 use std::process::Command;
 
 use crate::runs::{self, ENTRIES};
 
-/// Prints the table, or why there is none.
+/// What the end of a run costs hangs on who can move there, so it is left out
+/// where single entries are counted.
+const LEFT_OUT: &str = "ability::ending::";
+
+/// Instructions per entry of every workload, or why there are none.
 pub fn print() -> Result<(), String> {
     println!("{:14} instructions per entry", "workload");
     for run in runs::all() {
@@ -18,19 +23,61 @@ pub fn print() -> Result<(), String> {
     Ok(())
 }
 
+/// Instructions of `count` entries of one workload, one by one, from entry
+/// `from` on.
+pub fn print_each(name: &str, from: usize, count: usize) -> Result<(), String> {
+    let run = runs::all().into_iter().find(|run| run.name == name);
+    let run = run.ok_or(format!("no run workload {name}"))?;
+    if from + count > ENTRIES {
+        return Err(format!("a workload has {ENTRIES} entries"));
+    }
+    println!("entry process instructions");
+    let mut before = instructions(name, from)?;
+    for entry in from..from + count {
+        let after = instructions(name, entry + 1)?;
+        println!("{entry:5} {:7} {:12}", run.named(entry), after - before);
+        before = after;
+    }
+    Ok(())
+}
+
 /// The instructions of this program running one workload once.
-fn instructions(name: &str, entries: usize) -> Result<u64, String> {
+fn instructions(name: &str, entries: usize) -> Result<i64, String> {
     let program = env::current_exe().map_err(|error| error.to_string())?;
+    let counts = env::temp_dir().join(format!("bench-{}.counts", std::process::id()));
     let output = Command::new("valgrind")
-        .args(["--tool=callgrind", "--callgrind-out-file=/dev/null"])
+        .args(["--tool=callgrind", "--compress-strings=no", "--compress-pos=no"])
+        .arg(format!("--callgrind-out-file={}", counts.display()))
         .arg(program)
         .args(["--case", name, &entries.to_string()])
         .output()
         .map_err(|error| format!("valgrind: {error}"))?;
-    let said = String::from_utf8_lossy(&output.stderr);
-    let line = said.lines().find(|line| line.contains("Collected"));
-    let count = line.and_then(|line| line.split_whitespace().last());
-    count
-        .and_then(|count| count.parse().ok())
-        .ok_or(format!("valgrind counted nothing: {said}"))
+    let read = fs::read_to_string(&counts);
+    let _ = fs::remove_file(&counts);
+    match read {
+        Ok(text) => Ok(own_instructions(&text)),
+        Err(_) => Err(format!("valgrind counted nothing: {}", String::from_utf8_lossy(&output.stderr))),
+    }
+}
+
+/// The sum over the functions of what each runs itself: a line of a function
+/// is a place and a count, but the one behind `calls=` is the callee's.
+fn own_instructions(text: &str) -> i64 {
+    let mut sum = 0;
+    let mut counts = false;
+    let mut called = false;
+    for line in text.lines() {
+        if let Some(name) = line.strip_prefix("fn=") {
+            counts = !name.contains(LEFT_OUT);
+        } else if line.starts_with("calls=") {
+            called = true;
+        } else if line.starts_with(|first: char| first.is_ascii_digit()) {
+            let count = line.split_whitespace().nth(1).and_then(|word| word.parse::<i64>().ok());
+            if counts && !called {
+                sum += count.unwrap_or(0);
+            }
+            called = false;
+        }
+    }
+    sum
 }

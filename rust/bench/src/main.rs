@@ -6,6 +6,8 @@
 //!   alone, on the first COUNT entries of its schedule; a check COUNT times.
 //! - `bench --instructions` counts the run workloads' instructions per entry
 //!   under callgrind.
+//! - `bench --each NAME FROM COUNT` counts COUNT entries of one of them, one by
+//!   one, from entry FROM on.
 
 mod checks;
 mod counted;
@@ -59,12 +61,16 @@ fn main() {
             Ok(())
         }
         ["--instructions"] => counted::print(),
+        ["--each", name, from, count] => match (from.parse(), count.parse()) {
+            (Ok(from), Ok(count)) => counted::print_each(name, from, count),
+            _ => Err(format!("{from} {count}: no two numbers")),
+        },
         ["--case", name] => one(name, ENTRIES),
         ["--case", name, count] => match count.parse() {
             Ok(count) => one(name, count),
             Err(_) => Err(format!("{count} is no number")),
         },
-        _ => Err("usage: bench [--instructions | --case NAME [COUNT]]".to_string()),
+        _ => Err("usage: bench [--instructions | --each NAME FROM COUNT | --case NAME [COUNT]]".to_string()),
     };
     if let Err(why) = done {
         eprintln!("{why}");

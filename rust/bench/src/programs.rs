@@ -73,6 +73,42 @@ pub fn ping_pong() -> Vec<Source> {
     vec![method(&[], &[17, 33], main), method(&[33], &[1], child)]
 }
 
+/// Two processes that hand a qubit to and fro over one channel.
+pub fn hand_over() -> Vec<Source> {
+    let main = vec![
+        (NEWQ, 0),
+        (PUT, 2),
+        (DROP, 0),
+        (NEWC, 3),
+        (PUT, 0),
+        (END, 0),
+        (PUT, 1),
+        (DROP, 0),
+        (GET, 0),
+        (END, 1),
+        (FORK, 1),
+        (GET, 1),
+        (GET, 2),
+        (SEND, 0),
+        (GET, 1),
+        (RECV, 0),
+        (PUT, 2),
+        (DROP, 0),
+        (JUMP, 11),
+    ];
+    let child = vec![
+        (GET, 0),
+        (RECV, 0),
+        (PUT, 1),
+        (DROP, 0),
+        (GET, 0),
+        (GET, 1),
+        (SEND, 0),
+        (JUMP, 0),
+    ];
+    vec![method(&[], &[19, 35, 3], main), method(&[35], &[3], child)]
+}
+
 /// A qubit handed around four processes, a gate at each.
 pub fn relay() -> Vec<Source> {
     // Slot 0 a channel, slots 1 to 8 the ends of four, slot 9 the qubit.

@@ -43,12 +43,20 @@ fn no_waiting() -> Run {
     turns("no-waiting", programs::ping_pong(), &first, &turn)
 }
 
+/// The same with a qubit.
+fn hand_over() -> Run {
+    let first = [0, 0, 0, 0, 0, 0, 0, 0, 0, 0, 0, 1];
+    let turn = [0, 0, 0, 1, 1, 1, 1, 0, 0, 0, 0, 0, 1, 1];
+    turns("hand-over", programs::hand_over(), &first, &turn)
+}
+
 pub fn all() -> Vec<Run> {
     vec![
         named("arithmetic", programs::arithmetic(), 1),
         named("round-robin", programs::eight(), 8),
         named("ping-pong", programs::ping_pong(), 2),
         no_waiting(),
+        hand_over(),
         named("relay", programs::relay(), 4),
         named("calls", programs::calls(), 1),
         named("waiting", programs::waiting(), 8),
@@ -77,6 +85,11 @@ impl Lent {
 }
 
 impl Run {
+    /// The process that an entry names.
+    pub fn named(&self, entry: usize) -> u8 {
+        self.schedule[entry]
+    }
+
     /// Runs the schedule's first entries with the library.
     pub fn once(&self, entries: usize, lent: &mut Lent) -> Answer {
         let schedule = black_box(&self.schedule[..entries]);

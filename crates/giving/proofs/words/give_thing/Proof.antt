@@ -28,10 +28,7 @@ same-length c = search needs
 
 returns : tie.Need-returns
 unfolding thingGiven
-returns c =
-    let args = c .before .before .before .before .before .before .before .before .args in
-    c .before .before .give-away .ensures
-    ∙ ap (λ (h : Head). emptiedBy (args .w .now) (args .v) ((24 * h .frames) % 65536)) (c .before .before .before .before .before .read-head .ensures)
+returns c = c .before .before .give-away .ensures ∙ ap (λ (h : Head). emptiedBy (c .before .before .before .before .before .before .before .before .args .w .now) (c .before .before .before .before .before .before .before .before .args .v) ((24 * h .frames) % 65536)) (c .before .before .before .before .before .read-head .ensures)
 
 pub give-thing-spec : {M : Type 1} → statement M
 give-thing-spec =

@@ -1,12 +1,12 @@
 -- `step` acts where the process runs.
-use Rattle.ops.proofs.Returns.{took, passed-by, step-acts}
-use Rattle.ops.specs.Did.{stepOp, actOp}
-use Rattle.table.specs.Table.{methods, word, opAt, argAt}
+use Rattle.ops.proofs.Returns.{passed-by, step-acts}
+use Rattle.ops.specs.Did.{stepOp}
+use Rattle.table.specs.Table.{methods, word}
 use Rattle.store.specs.Words.{headOf}
 use Rattle.store.specs.declared.head.Head.{Head}
 use native.Mathlib.Omega.{arith}
-use borrow.Author.Tests.{eq-eqb, ne-eqb}
-use mathlib.Core.Path.{_∙_, ap, ap₂, refl, sym}
+use borrow.Author.Tests.{ne-eqb}
+use mathlib.Core.Path.{_∙_, ap, refl}
 use borrow.Author.Needs.{needs}
 use Rattle.ops.proofs.step.step.Statement.{statement}
 use Rattle.ops.proofs.step.step.Tie as tie
@@ -21,25 +21,19 @@ returns : tie.Need-returns
 unfolding stepOp
 returns c = passed-by _ _ _ refl (ne-eqb (headOf (c .before .before .before .before .before .before .args .w .now) .status) 1 (λ e. c .if1 .taken (ap (λ (h : Head). h .status) (c .before .before .read-head .ensures) ∙ e))) refl
 
-cast-at : tie.Need-cast-at
-cast-at c = search needs
+cast-read-instruction : tie.Need-cast-read-instruction
+cast-read-instruction c = search needs
 
-mul-at : tie.Need-mul-at
-mul-at c = search needs
+mul-read-instruction : tie.Need-mul-read-instruction
+mul-read-instruction c = search needs
 
-add-at : tie.Need-add-at
+add-read-instruction : tie.Need-add-read-instruction
 unfolding methods word
-add-at c = omega (arith, c .before .before .before .before .before .before .before .pre, c .before .before .before .before .before .before .shared-slice-known .given 0)
+add-read-instruction c = omega (arith, c .before .before .before .before .before .before .before .pre, c .before .before .before .before .before .before .shared-slice-known .given 0)
 
-word-at-requires : tie.Need-word-at-requires
-word-at-requires c κs = search needs
-
-add-word-at : tie.Need-add-word-at
+read-instruction-requires : tie.Need-read-instruction-requires
 unfolding methods word
-add-word-at c = omega (arith, c .before .before .before .before .before .before .before .before .pre, c .before .before .before .before .before .before .before .shared-slice-known .given 0)
-
-word-at-requires-2 : tie.Need-word-at-requires-2
-word-at-requires-2 c κs = search needs
+read-instruction-requires c κs = omega (arith, c .before .before .before .before .before .before .before .pre, c .before .before .before .before .before .before .shared-slice-known .given 0)
 
 cast-act : tie.Need-cast-act
 cast-act c = search needs
@@ -51,7 +45,7 @@ same-length-2 : tie.Need-same-length-2
 same-length-2 c = search needs
 
 returns-2 : tie.Need-returns-2
-returns-2 c = step-acts (c .before .before .before .before .before .before .before .before .before .before .before .before .before .args .p .now) (c .before .before .before .before .before .before .before .before .before .before .before .before .before .args .w .now) (c .before .before .before .before .before .before .before .before .before .before .before .before .before .args .start) (c .before .before .before .before .before .before .before .before .before .read-head .ensures) (c .before .before .before .before .before .before .before .if1 .left) (c .before .before .before .before .before .before .before .before .before .before .before .before .before .pre) (c .before .before .before .before .before .word-at .ensures .0) (c .before .before .before .before .word-at2 .ensures .0) (c .before .before .act .ensures)
+returns-2 c = step-acts (c .before .before .before .before .before .before .before .before .before .before .before .before .before .args .p .now) (c .before .before .before .before .before .before .before .before .before .before .before .before .before .args .w .now) (c .before .before .before .before .before .before .before .before .before .before .before .before .before .args .start) (c .before .before .before .before .before .before .before .before .before .read-head .ensures) (c .before .before .before .before .before .before .before .if1 .left) (c .before .before .before .before .before .before .before .before .before .before .before .before .before .pre) (c .before .before .before .before .before .read-instruction .ensures .0) (c .before .before .before .before .before .read-instruction .ensures .1) (c .before .before .act .ensures)
 
 pub step-spec : {M : Type 1} → statement M
 step-spec =
@@ -60,12 +54,10 @@ step-spec =
     read-head-requires
     same-length
     returns
-    cast-at
-    mul-at
-    add-at
-    word-at-requires
-    add-word-at
-    word-at-requires-2
+    cast-read-instruction
+    mul-read-instruction
+    add-read-instruction
+    read-instruction-requires
     cast-act
     act-requires
     same-length-2
