@@ -82,7 +82,7 @@ fn lose_eight(w: &mut [u32], number: u32, i: usize)
     lose_qubit(w, number, i + 14);
 }
 
-// The same for a qubit, where the first 8 n values are within the part: a value is a qubit only by its tag, so that most
+// `give_away` for a qubit, where the first 8 n values are within the part: a value is a qubit only by its tag, so that most
 // values cost one look.
 pub fn give_qubit(w: &mut [u32], number: u32, n: u16)
     requires { ⌜ 64 + 16 * n ≤ length (now w) ⌝ }

@@ -1,5 +1,5 @@
-// Lines written into a lent trace. A write past its end does nothing, so that no function here asks anything of its
-// caller but an index that can be computed with.
+// Lines written into a lent trace. A write past its end does nothing, so that no function here that others can call asks
+// anything but an index that can be computed with.
 ghost use mathlib.Core.Path.{_≡_};
 ghost use Prim.Native.Nat.{_+_, _*_, _<_};
 ghost use lib.ListN.{length, set};
@@ -32,7 +32,7 @@ fn put_three(t: &mut [u16], at: usize, x: u16, y: u16, z: u16)
     put_word(t, at + 2, z);
 }
 
-// Six words with one test, where all of them are within the trace.
+// The six words of a line, all of them within the trace.
 fn put_six(t: &mut [u16], at: usize, l: TraceLine)
     requires { ⌜ at + 5 < length (now t) ⌝ }
     ensures { λ r. ⌜ now (t .exit) ≡ withSix (now (t .entry)) at l ⌝ }
