@@ -14,10 +14,10 @@ use Rattle.table.specs.Table.{methods, instructions}
 use Rattle.table.specs.Questions.{Verdict, accepted, refused, andThen, whole, firstOf, sizesKept, startOf, pairKept, rowKept, instructionKept, question1, question2, question3, question4, question5, question6, question7, question8, tableQuestions, questions}
 use Rattle.table.proofs.Accepted.{Sizes, Pairs, sizes-kept, pairs-kept, row-kept}
 use Rattle.questions.specs.Check.{inputQuestions, codeQuestions}
-use Rattle.questions.specs.Marks.{marked}
-use Rattle.questions.specs.Rules.{Rows}
-use Rattle.questions.specs.Reading.{Passed}
-use Rattle.questions.proofs.Marks.{marked-length, marked-targets}
+use Rattle.arguments.specs.Marks.{marked}
+use Rattle.reading.specs.Rules.{Rows}
+use Rattle.reading.specs.ReadOn.{Passed}
+use Rattle.arguments.proofs.Marks.{marked-length, marked-targets}
 
 -- The verdict
 

@@ -6,27 +6,17 @@ ghost use Rattle.table.specs.Table.{methods, instructions};
 ghost use Rattle.table.specs.Questions.{questions};
 ghost use Rattle.table.proofs.Accepted.{Sizes, Pairs};
 ghost use Rattle.questions.specs.Check.{verdictOf, inputQuestions, codeQuestions};
-ghost use Rattle.questions.specs.Rules.{Rows};
+ghost use Rattle.reading.specs.Rules.{Rows};
 
-mod arguments;
 mod inputs;
-mod instructions;
-mod owner;
-mod pairs;
-mod pending;
-mod reading;
-mod rows;
-mod sizes;
-mod steps;
-mod words;
 
+use arguments::first_instruction;
 use inputs::first_outcome;
-use instructions::first_instruction;
-use pairs::first_pair;
-use pairs::sum_kept;
 use reading::first_reading;
-use rows::first_row;
-use sizes::sizes_kept;
+use shape::pairs::first_pair;
+use shape::pairs::sum_kept;
+use shape::rows::first_row;
+use shape::sizes::sizes_kept;
 use table::words::word_at;
 
 // The answer: accepted, or the question that says no, with its place where it has one.

@@ -1,4 +1,5 @@
 pub mod Opened
+pub mod Ops
 pub mod Accepted
 pub mod Owners
 pub mod Slots
