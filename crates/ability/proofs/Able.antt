@@ -1,6 +1,6 @@
 -- What the code reads off the words of the store is what the definitions say of the state: each process's stand, the
 -- partner of an offer, who is able to move, and the end that the processes give.
-use Prim.Native.Nat.{ℕ, zero, suc, _+_, _%_, _≤_, _<_}
+use Prim.Native.Nat.{ℕ, zero, suc, _%_, _≤_, _<_}
 use mathlib.Core.Path.{_≡_, refl, sym, _∙_, ap, ap₂, subst}
 use mathlib.Core.Logic.{_≢_, _⊎_, inl, inr, ⊎-elim}
 use mathlib.Core.Bool.{Bool, true, false, cond, not, _&&_, _||_, true≢false}
@@ -9,24 +9,24 @@ use mathlib.Core.Option.{Option, none, some}
 use native.Mathlib.Nat.{mod-eq-of-lt}
 use native.Mathlib.Omega.{arith}
 use lib.ListN.{getD, length}
-use lib.Dec.{T, eqb, leb, ltb}
-use borrow.Author.Tests.{eqb-true, eqb-false, eq-eqb, ne-eqb, ltb-true, ltb-false, leb-true, leb-false, lt-ltb, le-ltb, le-leb, lt-leb}
+use lib.Dec.{eqb, leb, ltb}
+use borrow.Author.Tests.{eqb-true, eqb-false, eq-eqb, ne-eqb, ltb-true, ltb-false, leb-true, leb-false}
 use Rattle.lists.specs.Lists.{any, every, All, below}
-use Rattle.lists.proofs.Tests.{decide, passed, failed}
+use Rattle.lists.proofs.Tests.{decide}
 use Rattle.lists.proofs.Any.{All-getD}
 use Rattle.table.specs.Table.{argAt, opAt}
 use Rattle.table.proofs.Accepted.{Kept}
-use Rattle.machine.specs.Value.{Thing, end, Value, ref, sideNo}
+use Rattle.machine.specs.Value.{end, ref, sideNo}
 use Rattle.machine.specs.State.{Frame, Status, running, finished, stopped, Process, Config, State, processAt, unmade}
 use Rattle.machine.specs.Act.{Offer, sends, receives, Act, idle, stuck, faults, goes, ends, makes, forks, offers, atFrames, byStatus, actOf}
-use Rattle.machine.specs.Entry.{runs, Meeting, joins, offered, meetsWith, meetingOf, isMeeting, moves, able}
+use Rattle.machine.specs.Entry.{runs, Meeting, offered, meetsWith, meetingOf, isMeeting, moves, able}
 use Rattle.machine.specs.Run.{isOver, allOver, noneAble}
 use Rattle.machine.specs.Owner.{valuesOf, reaches, holder}
 use Rattle.machine.specs.Sound.{Made, FrameSound, ProcessSound, ConfigSound}
 use Rattle.machine.proofs.Typing.{ConfigTyped}
 use Rattle.machine.proofs.Standing.{act-typed}
 use Rattle.machine.proofs.Sound.{config-sound}
-use Rattle.machine.proofs.Within.{InReach, OfferWithin, ActWithin, act-within}
+use Rattle.machine.proofs.Within.{OfferWithin, ActWithin, act-within}
 use Rattle.machine.proofs.Partner.{facing, unmade-idle, partner-is}
 use Rattle.machine.proofs.Steps.{ending, able-goes}
 use Rattle.machine.proofs.Ownership as own
@@ -34,7 +34,7 @@ use Rattle.layout.specs.Layout.{processWords, encode, valueWords}
 use Rattle.layout.proofs.Frames.{tagOf, numberOf}
 use Rattle.store.specs.declared.values.Val.{Val}
 use Rattle.store.specs.declared.head.Head.{Head}
-use Rattle.store.specs.Words.{valueAt, topAt, headOf}
+use Rattle.store.specs.Words.{valueAt, topAt}
 use Rattle.ops.specs.Did.{emptyTwo}
 use Rattle.ops.specs.Did as did
 use Rattle.ops.proofs.Places.{head, head-is}

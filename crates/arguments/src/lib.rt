@@ -9,6 +9,7 @@ ghost use Rattle.table.specs.Ops.{opOf};
 ghost use Rattle.table.specs.Questions.{instructionKept};
 ghost use Rattle.table.proofs.Accepted.{Sizes, Pairs};
 ghost use Rattle.arguments.specs.Marks.{marks, marked};
+
 mod ranges;
 
 use instructions::owner::Owner;

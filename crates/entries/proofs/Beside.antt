@@ -11,9 +11,9 @@ use Rattle.parts.specs.Parts.{partOf}
 use Rattle.parts.proofs.Apart.{part-kept, part-other, part-front}
 use Rattle.events.specs.Told.{Left}
 use Rattle.ability.specs.declared.pairing.Pairing.{Pairing}
-use Rattle.entries.specs.declared.came.Count.{Count}
-use Rattle.entries.specs.Came.{Came, came, fullAt}
-use Rattle.entries.specs.Single.{inPart, concludedAt, countedWords, noted, singleOp}
+use Rattle.singles.specs.declared.came.Count.{Count}
+use Rattle.singles.specs.Came.{Came, came, fullAt}
+use Rattle.singles.specs.Single.{inPart, concludedAt, countedWords, noted, singleOp}
 use Rattle.entries.specs.Entries.{oneLine, isOffer, entryOp}
 
 -- the counts stand in front of the parts

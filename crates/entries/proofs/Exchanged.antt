@@ -1,11 +1,10 @@
 -- SEND and RECV: what the code leaves in trace and store is the definitions' effect, where the process meets another and
 -- the lines fit.
-use Prim.Native.Nat.{ℕ, suc, _+_, _*_, _-_, _%_, _≤_, _<_}
+use Prim.Native.Nat.{ℕ, suc, _+_, _*_, _%_, _≤_, _<_}
 use mathlib.Core.Path.{_≡_, refl, sym, _∙_, ap, ap₂, subst}
 use mathlib.Core.Logic.{_≢_}
-use mathlib.Core.Bool.{Bool, true, false, cond, Bool·beq}
+use mathlib.Core.Bool.{Bool, true, false, cond}
 use mathlib.Core.List.{List, [], _∷_, _++_, map, append-assoc}
-use mathlib.Core.Option.{Option, Option·none-ne-some}
 use native.Mathlib.Nat.{mod-eq-of-lt}
 use native.Mathlib.Omega.{arith}
 use lib.ListN.{length, length-append}
@@ -15,13 +14,13 @@ use Rattle.lists.specs.Lists.{All}
 use Rattle.lists.proofs.Any.{All-getD}
 use Rattle.table.specs.Table.{argAt}
 use Rattle.table.proofs.Accepted.{Kept}
-use Rattle.machine.specs.Value.{Thing, qubit, channel, end, Value, empty, int, bool, ref, valueWord}
-use Rattle.machine.specs.State.{Frame, Status, Process, Config, Line, State, Event, processAt, setProcess, unmade, atPlace, withPending, lineOf, met, passed}
-use Rattle.machine.specs.Act.{Offer, sends, receives, Act, offers, atFrame, atFrames, byStatus, actOf}
+use Rattle.machine.specs.Value.{qubit, channel, end, Value, empty, int, bool, ref, valueWord}
+use Rattle.machine.specs.State.{Frame, Process, Config, Line, State, processAt, setProcess, unmade, atPlace, withPending, lineOf, met, passed}
+use Rattle.machine.specs.Act.{sends, receives, offers, atFrame, atFrames, byStatus, actOf}
 use Rattle.machine.specs.Entry.{Effect, Meeting, runs, framesWithout, thingsOf, pushTop, handing, meeting}
 use Rattle.machine.specs.Run.{fits}
 use Rattle.machine.specs.Answer.{traceAfter}
-use Rattle.machine.specs.Sound.{Made, ValueSound, FrameSound, ProcessSound, ConfigSound}
+use Rattle.machine.specs.Sound.{ValueSound, FrameSound, ConfigSound}
 use Rattle.machine.proofs.Typing.{Fits, Frames, ConfigTyped, Typed}
 use Rattle.machine.proofs.Standing.{act-typed}
 use Rattle.machine.proofs.Sound.{frame-sound, callers-sound, config-sound}
@@ -29,20 +28,19 @@ use Rattle.machine.proofs.Giving.{process-same, process-other, count-set}
 use Rattle.layout.specs.Layout.{valueWords, processWords, encode}
 use Rattle.layout.proofs.Frames.{tagOf, numberOf}
 use Rattle.layout.proofs.RoundTrip.{process-length}
-use Rattle.store.specs.declared.values.Val.{Val}
 use Rattle.store.proofs.Vals.{valOf}
-use Rattle.trace.specs.Written.{withLine}
-use Rattle.trace.proofs.LineWritten as written
-use Rattle.parts.proofs.Encoded.{Laid, laid-sound}
+use Rattle.lines.specs.Written.{withLine}
+use Rattle.lines.proofs.LineWritten as written
+use Rattle.parts.proofs.Encoded.{laid-sound}
 use Rattle.offers.proofs.Standing.{sends-from, receives-from}
-use Rattle.giving.specs.Given.{metWords}
-use Rattle.giving.specs.Gifts.{Gifts, giftAdded}
-use Rattle.giving.proofs.Stored.{met-store}
-use Rattle.giving.proofs.Lines.{gift-added}
-use Rattle.entries.specs.Came.{Came, came, movedTo}
-use Rattle.entries.specs.Lines.{metLine, valueLine, metWritten}
+use Rattle.handing.specs.Handed.{metWords}
+use Rattle.handing.specs.ForkLines.{Gifts, giftAdded}
+use Rattle.handing.proofs.Stored.{met-store}
+use Rattle.handing.proofs.Lines.{gift-added}
+use Rattle.singles.specs.Came.{Came, came, movedTo}
+use Rattle.handing.specs.MeetingLines.{metLine, valueLine, metWritten}
 use Rattle.entries.specs.Meetings.{exchangeOp}
-use Rattle.entries.proofs.Singly.{config, sound, laid, trace, count, took, full, tried}
+use Rattle.singles.proofs.Singly.{config, sound, laid, count, took, full, tried}
 
 module _ (p : List ℕ) (kept : Kept p) (narrow : (i : ℕ) → argAt p i < 65536) (outcomes : List ℕ) (bytes : All (λ o. o < 256) outcomes)
     (s : State) (ks : List ℕ) (typed : ConfigTyped p ks (s .config)) (rest t0 : List ℕ) (room : ℕ) (holds : 6 * room ≤ length t0)

@@ -1,23 +1,22 @@
 -- FORK: what the code leaves in trace and store is the definitions' effect, where its lines fit.
-use Prim.Native.Nat.{ℕ, zero, suc, _+_, _*_, _-_, _≤_, _<_}
-use mathlib.Core.Path.{_≡_, refl, sym, _∙_, ap, ap₂, subst}
-use mathlib.Core.Logic.{_≢_, _⊎_, inl, inr, ⊎-elim}
+use Prim.Native.Nat.{ℕ, suc, _+_, _*_, _≤_, _<_}
+use mathlib.Core.Path.{_≡_, refl, sym, _∙_, ap, ap₂}
+use mathlib.Core.Logic.{_≢_}
 use mathlib.Core.Bool.{Bool, true, false, cond, not}
 use mathlib.Core.List.{List, [], _∷_, _++_, map, reverse, append-assoc}
 use native.Mathlib.Omega.{arith}
-use lib.ListN.{getD, take, drop, length, length-append, length-map, length-reverse}
+use lib.ListN.{getD, take, length, length-append, length-map, length-reverse}
 use lib.Seq.{take-all, length-take-le}
-use lib.Dec.{T, leb, ltb, ltb→lt}
-use borrow.Author.Tests.{le-leb, lt-leb, leb-true, leb-false, lt-ltb, le-ltb, ltb-true, ltb-false}
+use lib.Dec.{leb, ltb, ltb→lt}
+use borrow.Author.Tests.{le-leb, lt-leb, leb-true, ltb-true, ltb-false}
 use Rattle.lists.specs.Lists.{any, All}
-use Rattle.lists.proofs.Tests.{decide}
 use Rattle.table.specs.Table.{methods, paramsOf, opAt, argAt}
 use Rattle.table.specs.Ops.{opOf, ops, opFork}
 use Rattle.table.proofs.Accepted.{Kept}
 use Rattle.machine.specs.Value.{Value, isEmpty}
-use Rattle.machine.specs.State.{Frame, Process, Config, Line, State, Event, processAt, setProcess, started, atPlace, withPending, lineOf, forked, gave}
-use Rattle.machine.specs.Act.{Act, stuck, faults, forks, doings, doingOf, doFork, passedBy, atFrame, atFrames, byStatus, actOf}
-use Rattle.machine.specs.Entry.{Effect, runs, framesWithout, thingsOf, joined, forking, applied}
+use Rattle.machine.specs.State.{Frame, Process, Config, Line, State, processAt, lineOf, forked, gave}
+use Rattle.machine.specs.Act.{Act, stuck, faults, forks, doings, doingOf, doFork, passedBy, atFrames, byStatus, actOf}
+use Rattle.machine.specs.Entry.{Effect, runs, thingsOf, forking, applied}
 use Rattle.machine.specs.Run.{fits}
 use Rattle.machine.specs.Answer.{traceAfter}
 use Rattle.machine.specs.Sound.{FrameSound}
@@ -27,22 +26,21 @@ use Rattle.machine.proofs.Sound.{frame-sound, callers-sound}
 use Rattle.layout.specs.Layout.{processWords, encode}
 use Rattle.store.specs.declared.head.Head.{Head}
 use Rattle.store.specs.Words.{headOf, topAt, emptyDown}
-use Rattle.ops.proofs.Places.{head, head-is}
+use Rattle.ops.proofs.Places.{head-is}
 use Rattle.ops.proofs.Meaning.{act-is, taken-by, argument-kept, empty-args}
-use Rattle.trace.specs.Written.{withLine}
-use Rattle.trace.proofs.LineWritten as written
+use Rattle.lines.proofs.LineWritten as written
 use Rattle.parts.specs.Parts.{partOf}
 use Rattle.parts.proofs.Encoded.{processes-word}
-use Rattle.giving.specs.Given.{forkedWords}
-use Rattle.giving.specs.Gifts.{Gifts, gifts, thingsIn, giftsAdded}
-use Rattle.giving.proofs.Stored.{forked-store}
-use Rattle.giving.proofs.Lines.{giftLines, things-counted, gifts-written}
+use Rattle.handing.specs.Handed.{forkedWords}
+use Rattle.handing.specs.ForkLines.{Gifts, gifts, thingsIn, giftsAdded}
+use Rattle.handing.proofs.Stored.{forked-store}
+use Rattle.handing.proofs.Lines.{giftLines, things-counted, gifts-written}
 use Rattle.ability.specs.Reads.{argumentIn, emptyIn}
-use Rattle.entries.specs.Came.{Came, came, movedTo, fullAt}
-use Rattle.entries.specs.Single.{singleOp}
-use Rattle.entries.specs.Lines.{forkLine, forkWritten}
+use Rattle.singles.specs.Came.{Came, came, movedTo}
+use Rattle.singles.specs.Single.{singleOp}
+use Rattle.handing.specs.ForkLines.{forkWritten}
 use Rattle.entries.specs.Forking.{forkDone, startOp, tryOp, forkOp}
-use Rattle.entries.proofs.Singly.{config, sound, laid, work, trace, count, took, full, tried, part-now, fault-law}
+use Rattle.singles.proofs.Singly.{config, sound, laid, count, took, full, tried, part-now, fault-law}
 
 module _ (p : List ℕ) (kept : Kept p) (narrow : (i : ℕ) → argAt p i < 65536) (outcomes : List ℕ) (bytes : All (λ o. o < 256) outcomes)
     (s : State) (ks : List ℕ) (typed : ConfigTyped p ks (s .config)) (rest t0 : List ℕ) (room : ℕ) (holds : 6 * room ≤ length t0)

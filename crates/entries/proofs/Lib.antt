@@ -1,5 +1,4 @@
 pub mod Returns
-pub mod Singly
 pub mod Forked
 pub mod Exchanged
 pub mod Paired

@@ -1,7 +1,7 @@
 -- An entry at SEND or RECV, by what the process and its partner stand at.
-use Prim.Native.Nat.{ℕ, _+_, _*_, _≤_, _<_}
+use Prim.Native.Nat.{ℕ, _*_, _≤_, _<_}
 use mathlib.Core.Path.{_≡_, refl, sym, _∙_, ap, ap₂, subst}
-use mathlib.Core.Logic.{_≢_, _⊎_, ⊎-elim}
+use mathlib.Core.Logic.{_≢_, ⊎-elim}
 use mathlib.Core.Bool.{Bool, true, false, cond, not, _&&_, _||_, Bool·beq, true≢false}
 use mathlib.Core.List.{List, [], _∷_, _++_}
 use mathlib.Core.Option.{Option, none, some, Option·none-ne-some}
@@ -15,9 +15,9 @@ use Rattle.table.specs.Table.{argAt, opAt}
 use Rattle.table.specs.Ops.{opOf, ops, opSend, opRecv}
 use Rattle.table.specs.Reading.{takenAt}
 use Rattle.table.proofs.Accepted.{Kept}
-use Rattle.machine.specs.Value.{Thing, qubit, channel, end, Value, empty, int, bool, ref, isEmpty}
+use Rattle.machine.specs.Value.{qubit, channel, end, Value, empty, int, bool, ref, isEmpty}
 use Rattle.machine.specs.State.{Frame, Status, running, finished, stopped, Process, Config, State, processAt}
-use Rattle.machine.specs.Act.{Offer, sends, receives, Act, idle, stuck, faults, goes, ends, makes, forks, offers, At, doSend, doRecv, doings, doingOf, atFrame, atFrames, byStatus, actOf}
+use Rattle.machine.specs.Act.{Offer, sends, receives, Act, idle, stuck, faults, goes, ends, makes, forks, offers, doSend, doRecv, doings, doingOf, atFrame, atFrames, byStatus, actOf}
 use Rattle.machine.specs.Entry.{Effect, Meeting, joins, offered, meetsWith, meetingOf, isMeeting, runs, meeting, meetingIf, applied, effectOf, moves}
 use Rattle.machine.specs.Owner.{valuesOf}
 use Rattle.machine.specs.Sound.{FrameSound, ProcessSound}
@@ -29,7 +29,6 @@ use Rattle.machine.proofs.Ownership.{cond-some, meets-offer}
 use Rattle.machine.proofs.Ownership as own
 use Rattle.machine.specs.Answer.{traceAfter}
 use Rattle.layout.specs.Layout.{encode}
-use Rattle.store.specs.declared.values.Val.{Val}
 use Rattle.store.specs.declared.head.Head.{Head}
 use Rattle.store.specs.Words.{headOf}
 use Rattle.ops.proofs.Places.{head, head-is}
@@ -42,10 +41,10 @@ use Rattle.offers.proofs.Returns.{offers-send, offers-receive}
 use Rattle.offers.proofs.Standing.{Stands}
 use Rattle.ability.specs.Pairings.{pairingOp}
 use Rattle.ability.proofs.Able.{process-sound, stand-at, found, partner-law, met-with, found-partner}
-use Rattle.entries.specs.Came.{Came, came, stayedAt}
-use Rattle.entries.specs.Single.{singleOp}
+use Rattle.singles.specs.Came.{Came, came, stayedAt}
+use Rattle.singles.specs.Single.{singleOp}
 use Rattle.entries.specs.Meetings.{exchangeOp, meetBy}
-use Rattle.entries.proofs.Singly.{sound, count, tried, part-now, fault-law}
+use Rattle.singles.proofs.Singly.{sound, count, tried, part-now, fault-law}
 use Rattle.entries.proofs.Exchanged.{exchange-law}
 use Rattle.entries.proofs.Paired.{pairBy, pairOp, joinOp, offerOp, standsOp, meetOp, meet-same}
 

@@ -14,9 +14,9 @@ use Rattle.offers.specs.Stands.{standOp, offerOf, meetsOp}
 use Rattle.ability.specs.declared.pairing.Pairing.{Pairing}
 use Rattle.ability.specs.Partner.{oppositeOf, readyOp, partnerOp}
 use Rattle.ability.specs.Pairings.{unpaired, meetingOf, pairedOf, pairWith, pairingOf, pairingOp}
-use Rattle.entries.specs.declared.came.Count.{Count}
-use Rattle.entries.specs.Came.{Came, came, stayedAt}
-use Rattle.entries.specs.Single.{singleOp}
+use Rattle.singles.specs.declared.came.Count.{Count}
+use Rattle.singles.specs.Came.{Came, came, stayedAt}
+use Rattle.singles.specs.Single.{singleOp}
 use Rattle.entries.specs.Forking.{forkOp}
 use Rattle.entries.specs.Meetings.{exchangeOp, meetBy}
 use Rattle.entries.specs.Entries.{isOffer, offerAt, entryOp}

@@ -1,117 +1,30 @@
 -- What an entry's functions have done at their returns, from what their callees did and how their tests came out.
-use Prim.Native.Nat.{ℕ, _+_, _*_, _-_, _%_, _≤_, _<_}
+use Prim.Native.Nat.{ℕ, _+_, _%_, _≤_, _<_}
 use mathlib.Core.Path.{_≡_, refl, sym, _∙_, ap, ap₂}
-use mathlib.Core.Bool.{Bool, true, false, cond, _&&_, true≢false}
+use mathlib.Core.Bool.{Bool, true, false, _&&_, true≢false}
 use mathlib.Core.List.{List}
-use lib.ListN.{getD, set}
-use lib.Dec.{eqb, leb, ltb}
+use lib.ListN.{getD}
+use lib.Dec.{leb, ltb}
 use borrow.Author.Tests.{ltb-true, eq-eqb, ne-eqb, lt-ltb, le-ltb, le-leb, lt-leb}
-use borrow.Rule.Slice.PartMut.{midOf, putMid}
 use Rattle.table.specs.Table.{paramsOf}
 use Rattle.store.specs.declared.values.Val.{Val}
-use Rattle.trace.specs.declared.lines.TraceLine.{TraceLine}
-use Rattle.trace.specs.Written.{withLine}
 use Rattle.ops.proofs.Returns.{took, passed-by}
-use Rattle.events.specs.declared.told.Told.{Told}
-use Rattle.events.specs.Told.{Left, left}
 use Rattle.parts.specs.Parts.{partOf}
-use Rattle.parts.proofs.Lifted.{lifted-words, part-read}
-use Rattle.giving.specs.Gifts.{Gifts, gifts, thingsIn, giftsAdded}
-use Rattle.giving.specs.Given.{forkedWords, metWords}
+use Rattle.handing.specs.ForkLines.{Gifts, gifts, thingsIn}
+use Rattle.handing.specs.Handed.{forkedWords, metWords}
 use Rattle.ability.specs.Reads.{argumentIn, emptyIn}
 use Rattle.ability.specs.declared.pairing.Pairing.{Pairing}
 use Rattle.ability.specs.Pairings.{unpaired, pairingOp}
-use Rattle.entries.specs.declared.came.Count.{Count}
-use Rattle.entries.specs.declared.came.Moved.{Moved}
-use Rattle.entries.specs.Came.{came, movedTo, stayedAt, fullAt}
-use Rattle.entries.specs.Single.{inPart, countedWords, toldLine, noted, concludedAt, singleOp}
-use Rattle.entries.specs.Lines.{forkLine, metLine, passedLine, giftLine, valueLine, forkWritten, metWritten}
+use Rattle.singles.specs.declared.came.Count.{Count}
+use Rattle.singles.specs.declared.came.Moved.{Moved}
+use Rattle.singles.specs.Came.{came, movedTo, stayedAt, fullAt}
+use Rattle.singles.proofs.Returns.{came-to}
+use Rattle.singles.specs.Single.{singleOp}
+use Rattle.handing.specs.ForkLines.{forkWritten}
+use Rattle.handing.specs.MeetingLines.{metWritten}
 use Rattle.entries.specs.Forking.{forkDone, startOp, tryOp, forkOp}
 use Rattle.entries.specs.Meetings.{exchangeOp, meetBy}
 use Rattle.entries.specs.Entries.{isOffer, offerAt, entryOp}
-
--- the answer, the trace and the store each for itself
-pub came-to : {m l : Moved} {t u v w : List ℕ} → m ≡ l → t ≡ u → v ≡ w → came m t v ≡ came l u w
-came-to {l = l} {u = u} {v = v} e f h = ap₂ (λ (x : Moved) (y : List ℕ). came x y v) e f ∙ ap (came l u) h
-
--- what was told of a part that was lent, as told of the store
-pub lifted-left : (work : List ℕ) (n : ℕ) {t : Told} (ys : List ℕ) (f : List ℕ → Left)
-    → left t ys ≡ f (midOf (512 + 512 * n) (512 + 512 * n + 512 - (512 + 512 * n)) work)
-    → left t (putMid (512 + 512 * n) (512 + 512 * n + 512 - (512 + 512 * n)) work ys) ≡ inPart work n (f (partOf work n))
-unfolding inPart
-lifted-left work n ys f e =
-    ap₂ left
-    (ap (λ (l : Left). l .told) e ∙ ap (λ (w : List ℕ). f w .told) (part-read work n))
-    (lifted-words work n ys (λ w. f w .words) (ap (λ (l : Left). l .words) e))
-
--- the lines of two processes
-
-pub met-line : (entry n q : ℕ) (e : Val) {side : ℕ} → side ≡ cond (eqb (e .tag) 6) 1 0
-    → record { entry = entry; process = n; kind = 7; a = q; b = e .number % 65536; c = side } ≡ metLine entry n q e
-unfolding metLine
-met-line entry n q e s =
-    ap {B = TraceLine} (λ (x : ℕ). record { entry = entry; process = n; kind = 7; a = q; b = e .number % 65536; c = x }) s
-
-module _ (entry n q : ℕ) where
-  pub passes : (v : Val) {l : TraceLine} → v .tag < 3 → l ≡ passedLine entry n v → l ≡ valueLine entry n q v
-  unfolding valueLine
-  passes v h e = took _ _ _ refl (lt-ltb (v .tag) 3 h) e
-
-  pub gives : (v : Val) {l : TraceLine} → 3 ≤ v .tag → l ≡ giftLine entry n q v → l ≡ valueLine entry n q v
-  unfolding valueLine
-  gives v h e = passed-by _ _ _ refl (le-ltb (v .tag) 3 h) e
-
-module _ (trace : List ℕ) (line entry n q : ℕ) where
-  pub meeting-lines : (e v : Val) {l m : TraceLine} {u : List ℕ} → l ≡ metLine entry n q e → m ≡ valueLine entry n q v
-      → u ≡ withLine (withLine trace line l) (line + 1) m → u ≡ metWritten trace line entry n q e v
-  unfolding metWritten
-  meeting-lines e v d f h = h ∙ ap₂ (λ (x y : TraceLine). withLine (withLine trace line x) (line + 1) y) d f
-
-  pub fork-lines : (work : List ℕ) (m args : ℕ) {l : TraceLine} {t u : List ℕ} {r : ℕ} → l ≡ forkLine entry n q m args
-      → t ≡ withLine trace line l → gifts r u ≡ giftsAdded (gifts (line + 1) t) work entry n q args args
-      → gifts r u ≡ forkWritten trace work line entry n q m args
-  unfolding forkWritten
-  fork-lines work m args d f h =
-      h
-      ∙ ap (λ (w : List ℕ). giftsAdded (gifts (line + 1) w) work entry n q args args) (f ∙ ap (withLine trace line) d)
-
--- a thing made is counted
-
-module _ (work : List ℕ) (kind : ℕ) where
-  pub counts-qubit : {q x : ℕ} {w : List ℕ} → kind ≡ 1 → q ≡ getD work 1 0 → x ≡ (q + 1) % 4294967296 → w ≡ set work 1 x
-      → w ≡ countedWords work kind
-  unfolding countedWords
-  counts-qubit k e f h =
-      took _ _ _ refl (eq-eqb kind 1 k) (h ∙ ap (set work 1) (f ∙ ap (λ (i : ℕ). (i + 1) % 4294967296) e))
-
-  pub counts-channel : {q x : ℕ} {w : List ℕ} → (kind ≡ 1 → ⊥) → kind ≡ 2 → q ≡ getD work 2 0 → x ≡ (q + 1) % 4294967296
-      → w ≡ set work 2 x → w ≡ countedWords work kind
-  unfolding countedWords
-  counts-channel j k e f h =
-      passed-by _ _ _ refl (ne-eqb kind 1 j)
-      (took _ _ _ refl (eq-eqb kind 2 k) (h ∙ ap (set work 2) (f ∙ ap (λ (i : ℕ). (i + 1) % 4294967296) e)))
-
-  pub counts-nothing : (kind ≡ 1 → ⊥) → (kind ≡ 2 → ⊥) → work ≡ countedWords work kind
-  unfolding countedWords
-  counts-nothing j k = passed-by _ _ _ refl (ne-eqb kind 1 j) (passed-by _ _ _ refl (ne-eqb kind 2 k) refl)
-
--- an entry with one line
-
-module _ (p outcomes trace work : List ℕ) (room : ℕ) (g : Count) (n code : ℕ) where
-  pub single-full : {m : Moved} → room ≤ g .lines → m ≡ fullAt g
-      → came m trace work ≡ singleOp p outcomes trace work room g n code
-  unfolding singleOp
-  single-full h e = took _ _ _ refl (le-leb room (g .lines) h) (came-to e refl refl)
-
-  pub single-noted : {t : Told} {w v ts : List ℕ} {l : TraceLine} {u : ℕ} {m : Moved} → g .lines < room
-      → left t w ≡ concludedAt p work n code outcomes (g .used) → v ≡ countedWords w (t .kind) → l ≡ toldLine (g .entry) n t
-      → ts ≡ withLine trace (g .lines) l → u ≡ (g .used + t .used) % 4294967296 → m ≡ movedTo (g .lines + 1) u
-      → came m ts v ≡ singleOp p outcomes trace work room g n code
-  unfolding singleOp noted
-  single-noted h told counted lined written used moved =
-      passed-by _ _ _ refl (lt-leb room (g .lines) h)
-      (came-to (moved ∙ ap (movedTo (g .lines + 1)) used) (written ∙ ap (withLine trace (g .lines)) lined) counted
-      ∙ ap (noted trace g n) told)
 
 -- an entry at FORK
 

@@ -18,13 +18,13 @@ use Rattle.table.proofs.Accepted.{Kept}
 use Rattle.table.proofs.Methods.{inside-bound}
 use Rattle.table.proofs.Before.{before-height}
 use Rattle.machine.specs.Value.{Thing, qubit, channel, end, Value}
-use Rattle.machine.specs.State.{Frame, Status, running, finished, stopped, Process, Config, State, Event, processAt}
+use Rattle.machine.specs.State.{Frame, Status, running, finished, stopped, Process, Config, State, processAt}
 use Rattle.machine.specs.Act.{Act, idle, stuck, faults, goes, ends, makes, forks, offers, atFrame, atFrames, byStatus, actOf}
 use Rattle.machine.specs.Entry.{Effect, runs, applied, effectOf, moves, able}
 use Rattle.machine.specs.Owner.{valuesOf}
 use Rattle.machine.specs.Answer.{traceAfter}
 use Rattle.machine.specs.Sound.{FrameSound, ProcessSound}
-use Rattle.machine.proofs.Typing.{Fits, FrameTyped, Frames, ConfigTyped}
+use Rattle.machine.proofs.Typing.{FrameTyped, ConfigTyped}
 use Rattle.machine.proofs.Acts.{ActTyped}
 use Rattle.machine.proofs.Standing.{act-typed}
 use Rattle.machine.proofs.Within.{ActWithin, act-within}
@@ -37,7 +37,6 @@ use Rattle.ops.specs.Did.{Did, did, actOp, stepOp}
 use Rattle.ops.proofs.Meaning.{Agrees, Height, isLeft, step-agrees, step-left}
 use Rattle.parts.specs.Parts.{partOf, withPart}
 use Rattle.parts.proofs.Encoded.{part-is, part-put, part-unmade}
-use Rattle.events.specs.Told.{Left}
 use Rattle.events.specs.Concluded.{concludeOp}
 use Rattle.events.proofs.Concluding.{isTelling, Concluded, concluded-op}
 use Rattle.holders.proofs.Holding.{Holding}
@@ -45,12 +44,12 @@ use Rattle.offers.proofs.Alone.{Alone, frame-alone}
 use Rattle.ability.specs.declared.pairing.Pairing.{Pairing}
 use Rattle.ability.specs.Pairings.{unpaired, pairingOp}
 use Rattle.ability.proofs.Able.{process-sound, not-stuck}
-use Rattle.entries.specs.declared.came.Count.{Count}
-use Rattle.entries.specs.Came.{Came, came, stayedAt}
-use Rattle.entries.specs.Single.{singleOp}
+use Rattle.singles.specs.declared.came.Count.{Count}
+use Rattle.singles.specs.Came.{Came, came, stayedAt}
+use Rattle.singles.specs.Single.{singleOp}
 use Rattle.entries.specs.Meetings.{meetBy}
 use Rattle.entries.specs.Entries.{isOffer, offerAt, entryOp}
-use Rattle.entries.proofs.Singly.{sound, laid, count, tried, part-now, fault-as, fault-law, ends-as, ends-law, after-long, line-law, made-law}
+use Rattle.singles.proofs.Singly.{sound, laid, count, tried, part-now, fault-as, fault-law, ends-as, ends-law, after-long, line-law, made-law}
 use Rattle.entries.proofs.Forked.{fork-law}
 use Rattle.entries.proofs.Meets.{went, send-law, receive-law}
 

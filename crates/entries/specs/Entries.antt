@@ -6,9 +6,9 @@ use mathlib.Core.List.{List}
 use lib.Dec.{eqb, ltb}
 use Rattle.ability.specs.declared.pairing.Pairing.{Pairing}
 use Rattle.ability.specs.Pairings.{unpaired, pairingOp}
-use Rattle.entries.specs.declared.came.Count.{Count}
-use Rattle.entries.specs.Came.{Came, came, stayedAt}
-use Rattle.entries.specs.Single.{singleOp}
+use Rattle.singles.specs.declared.came.Count.{Count}
+use Rattle.singles.specs.Came.{Came, came, stayedAt}
+use Rattle.singles.specs.Single.{singleOp}
 use Rattle.entries.specs.Forking.{forkOp}
 use Rattle.entries.specs.Meetings.{meetBy}
 

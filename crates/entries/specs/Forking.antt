@@ -7,13 +7,13 @@ use lib.ListN.{getD}
 use lib.Dec.{leb, ltb}
 use Rattle.table.specs.Table.{paramsOf}
 use Rattle.parts.specs.Parts.{partOf}
-use Rattle.giving.specs.Given.{forkedWords}
-use Rattle.giving.specs.Gifts.{Gifts, thingsIn}
-use Rattle.entries.specs.declared.came.Count.{Count}
-use Rattle.entries.specs.Came.{Came, came, movedTo, fullAt}
+use Rattle.handing.specs.Handed.{forkedWords}
+use Rattle.handing.specs.ForkLines.{Gifts, thingsIn}
+use Rattle.singles.specs.declared.came.Count.{Count}
+use Rattle.singles.specs.Came.{Came, came, movedTo, fullAt}
 use Rattle.ability.specs.Reads.{argumentIn, emptyIn}
-use Rattle.entries.specs.Single.{singleOp}
-use Rattle.entries.specs.Lines.{forkWritten}
+use Rattle.singles.specs.Single.{singleOp}
+use Rattle.handing.specs.ForkLines.{forkWritten}
 
 unfoldable pub forkDone : List ℕ → List ℕ → Count → Gifts → ℕ → ℕ → ℕ → ℕ → Came
 forkDone p work g ls n child m args = came (movedTo (ls .next) (g .used)) (ls .words) (forkedWords p work n child m args)

@@ -1,6 +1,3 @@
-pub mod Came
-pub mod Single
-pub mod Lines
 pub mod Forking
 pub mod Meetings
 pub mod Entries

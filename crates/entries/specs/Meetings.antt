@@ -5,11 +5,11 @@ use mathlib.Core.Bool.{cond}
 use mathlib.Core.List.{List}
 use lib.Dec.{eqb, ltb}
 use Rattle.store.specs.declared.values.Val.{Val}
-use Rattle.giving.specs.Given.{metWords}
-use Rattle.entries.specs.declared.came.Count.{Count}
-use Rattle.entries.specs.Came.{Came, came, movedTo, stayedAt, fullAt}
-use Rattle.entries.specs.Single.{singleOp}
-use Rattle.entries.specs.Lines.{metWritten}
+use Rattle.handing.specs.Handed.{metWords}
+use Rattle.singles.specs.declared.came.Count.{Count}
+use Rattle.singles.specs.Came.{Came, came, movedTo, stayedAt, fullAt}
+use Rattle.singles.specs.Single.{singleOp}
+use Rattle.handing.specs.MeetingLines.{metWritten}
 use Rattle.ability.specs.declared.pairing.Pairing.{Pairing}
 
 unfoldable pub exchangeOp : List ℕ → List ℕ → ℕ → Count → ℕ → ℕ → Val → Val → Came

@@ -3,18 +3,18 @@ ghost use mathlib.Core.Path.{_≡_};
 ghost use Prim.Native.Nat.{_+_, _*_, _<_, _≤_};
 ghost use lib.ListN.{length};
 ghost use Rattle.table.specs.Table.{methods};
-ghost use Rattle.entries.specs.Came.{came};
+ghost use Rattle.singles.specs.Came.{came};
 ghost use Rattle.entries.specs.Entries.{isOffer, offerAt, entryOp, oneLine};
-use super::came::Count;
-use super::came::Moved;
-use super::came::stays;
 use super::forking::fork_entry;
 use super::meeting::meet_entry;
-use super::single::single;
 use ability::pairing::Pairing;
 use ability::pairing::no_meeting;
 use ability::pairing::pair_up;
 use names::ProcessNo;
+use singles::came::Count;
+use singles::came::Moved;
+use singles::came::stays;
+use singles::single::single;
 
 // SEND or RECV.
 pub fn is_offer(code: u32) -> bool

@@ -1,22 +1,22 @@
 // An entry at FORK.
 ghost use mathlib.Core.Path.{_≡_};
 ghost use Prim.Native.Nat.{_+_, _*_, _<_, _≤_};
-ghost use lib.ListN.{length, getD};
+ghost use lib.ListN.{length};
 ghost use Rattle.table.specs.Table.{methods};
-ghost use Rattle.entries.specs.Came.{came};
+ghost use Rattle.singles.specs.Came.{came};
 ghost use Rattle.entries.specs.Forking.{startOp, tryOp, forkOp};
-use super::came::Count;
-use super::came::Moved;
-use super::came::full;
-use super::came::taken;
-use super::lines::write_fork;
-use super::single::single;
 use ability::reads::argument_of;
 use ability::reads::lacks_of;
-use giving::forks::fork;
-use giving::gifts::count_things;
+use handing::fork_lines::count_things;
+use handing::fork_lines::write_fork;
+use handing::forks::fork;
 use names::ProcessNo;
 use ops::calls::params;
+use singles::came::Count;
+use singles::came::Moved;
+use singles::came::full;
+use singles::came::taken;
+use singles::single::single;
 use store::values::get;
 
 // The child started with its arguments, where its lines fit.

@@ -3,18 +3,18 @@ ghost use mathlib.Core.Path.{_≡_};
 ghost use Prim.Native.Nat.{_+_, _*_, _<_, _≤_};
 ghost use lib.ListN.{length};
 ghost use Rattle.table.specs.Table.{methods};
-ghost use Rattle.entries.specs.Came.{came};
+ghost use Rattle.singles.specs.Came.{came};
 ghost use Rattle.entries.specs.Meetings.{exchangeOp, meetBy};
-use super::came::Count;
-use super::came::Moved;
-use super::came::full;
-use super::came::stays;
-use super::came::taken;
-use super::lines::write_meeting;
-use super::single::single;
 use ability::pairing::Pairing;
-use giving::meetings::meet;
+use handing::meeting_lines::write_meeting;
+use handing::meetings::meet;
 use names::ProcessNo;
+use singles::came::Count;
+use singles::came::Moved;
+use singles::came::full;
+use singles::came::stays;
+use singles::came::taken;
+use singles::single::single;
 use store::values::Val;
 
 // The two lines and the two parts, where the lines fit.

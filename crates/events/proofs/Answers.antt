@@ -1,14 +1,14 @@
 -- The functions of the ops that write one line do what document 01's ops do: the answer and the words that each leaves
 -- agree with what the process at that op would do.
-use Prim.Native.Nat.{ℕ, zero, suc, _+_, _*_, _-_, _%_, _≤_, _<_}
+use Prim.Native.Nat.{ℕ, zero, suc, _+_, _%_, _≤_, _<_}
 use mathlib.Core.Path.{_≡_, refl, sym, _∙_, ap, ap₂, subst, subst₂}
-use mathlib.Core.Logic.{_⊎_, inl, inr, ⊎-elim}
+use mathlib.Core.Logic.{⊎-elim}
 use mathlib.Core.Bool.{Bool, true, false, cond, _||_}
 use mathlib.Core.List.{List, [], _∷_}
 use native.Mathlib.Nat.{mod-eq-of-lt, add-mod-right, le-of-suc-le-suc, not-suc-le-zero}
 use native.Mathlib.Omega.{arith}
 use lib.IntN.{pos}
-use lib.ListN.{getD, take, drop, length}
+use lib.ListN.{getD, drop, length}
 use lib.Dec.{eqb, leb, ltb}
 use borrow.Author.Tests.{ltb-true, ltb-false}
 use Rattle.lists.specs.Lists.{All}
@@ -18,7 +18,7 @@ use Rattle.table.specs.Ops.{opOf, ops, opNewQ, opNewC, opGate, opMeas, gateQubi
 use Rattle.table.specs.Reading.{takenAt}
 use Rattle.table.proofs.Accepted.{Kept}
 use Rattle.machine.specs.Value.{Thing, qubit, channel, end, Value, empty, int, bool, ref, isEmpty, word32}
-use Rattle.machine.specs.State.{Frame, State, Event, atPlace, withPending, push, gatedOne, gatedTwo, measured}
+use Rattle.machine.specs.State.{Frame, State, Event, atPlace, withPending, push, gatedTwo, measured}
 use Rattle.machine.specs.Act.{Act, idle, stuck, faults, goes, ends, makes, forks, offers, At, withOutcome, doNewQ, doNewC, doGate, doGateOne, doGateTwo, doMeas, doings, doingOf, passedBy}
 use Rattle.machine.specs.Entry.{runs, making}
 use Rattle.machine.specs.Sound.{ValueSound, FrameSound}
@@ -28,7 +28,7 @@ use Rattle.store.specs.declared.values.Val.{Val}
 use Rattle.store.specs.declared.head.Head.{Head}
 use Rattle.store.specs.Words.{valueAt, topAt, popped}
 use Rattle.store.proofs.Vals.{valOf}
-use Rattle.ops.specs.Did.{intVal, pushOn, onTop, dropTop, dropTo, emptyTwo}
+use Rattle.ops.specs.Did.{intVal, pushOn, onTop, dropTop, emptyTwo}
 use Rattle.ops.proofs.Places.{head, push-words, drop-words, drop-to-words, top-words}
 use Rattle.ops.proofs.Meaning.{Height, w, hd, a, scene, act, act-zero, act-one, act-two, act-short, taken-by, tag-test, read-top, read-second}
 use Rattle.events.specs.declared.told.Told.{Told}

@@ -1,8 +1,8 @@
 -- The words of a process that is over are those of a stopped or of a finished process.
-use Prim.Native.Nat.{ℕ, suc, _<_}
-use mathlib.Core.Path.{_≡_, refl, _∙_, ap}
+use Prim.Native.Nat.{ℕ, _<_}
+use mathlib.Core.Path.{_≡_, ap}
 use mathlib.Core.List.{List, [], _∷_, flatten}
-use lib.ListN.{set, length, replicate}
+use lib.ListN.{set, length}
 use Rattle.lists.specs.Lists.{All}
 use Rattle.table.proofs.Accepted.{Kept}
 use Rattle.machine.specs.State.{Frame, Config, finished, stopped}
@@ -10,7 +10,7 @@ use Rattle.machine.specs.Entry.{runs}
 use Rattle.machine.specs.Sound.{FrameSound}
 use Rattle.layout.specs.Layout.{padded, statusWords, processWords}
 use Rattle.store.specs.declared.head.Head.{Head}
-use Rattle.store.specs.Words.{headOf, clearedFrom, finishedHead, stoppedHead, putStatus}
+use Rattle.store.specs.Words.{finishedHead, stoppedHead, putStatus}
 use Rattle.store.proofs.Cleared.{all-cleared}
 use Rattle.ops.proofs.Places.{head-is}
 use Rattle.events.specs.Ended.{stoppedWords, finishedWords}

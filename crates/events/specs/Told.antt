@@ -6,7 +6,6 @@ use mathlib.Core.List.{List}
 use lib.ListN.{getD, length}
 use lib.Dec.{eqb, ltb}
 use Rattle.table.specs.Ops.{oneQubit}
-use Rattle.store.specs.declared.values.Val.{Val}
 use Rattle.store.specs.declared.head.Head.{Head}
 use Rattle.store.specs.Words.{valueAt, topAt, popped}
 use Rattle.ops.specs.Did.{intVal, pushOn, onTop, dropTop, dropTo, emptyTwo}

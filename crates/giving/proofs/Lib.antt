@@ -1,4 +1,2 @@
 pub mod Laws
 pub mod Parted
-pub mod Stored
-pub mod Lines

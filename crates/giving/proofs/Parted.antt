@@ -1,27 +1,25 @@
 -- What a giving leaves in one process's part is the words of the process that the definitions leave.
 use Prim.Native.Nat.{ℕ, zero, suc, _+_, _*_, _-_, _%_, _≤_, _<_}
-use mathlib.Core.Path.{_≡_, refl, sym, _∙_, ap, ap₂, subst}
+use mathlib.Core.Path.{_≡_, refl, sym, _∙_, ap, ap₂}
 use mathlib.Core.Bool.{Bool, true, false, cond, _||_}
 use mathlib.Core.List.{List, [], _∷_, _++_, map, flatten}
 use native.Mathlib.Nat.{mod-eq-of-lt, le-of-suc-le-suc, not-suc-le-zero}
 use native.Mathlib.Omega.{arith}
 use lib.ListN.{getD, set, take, drop, length, replicate, length-append, length-replicate, length-drop, replicate-append-replicate, List·getD-append}
 use lib.Seq.{take-at, drop-cons, append-snoc, set-append-seam, getD-take}
-use lib.Dec.{ltb}
 use Rattle.lists.specs.Lists.{any, All}
 use Rattle.lists.proofs.Any.{All-drop, All-implies}
-use Rattle.table.specs.Table.{argAt, offsetOf, methods}
+use Rattle.table.specs.Table.{argAt, offsetOf}
 use Rattle.table.proofs.Accepted.{Kept}
 use Rattle.machine.specs.Value.{Thing, qubit, channel, end, Value, empty, int, bool, ref}
-use Rattle.machine.specs.State.{Frame, State, Config, atPlace, withPending, withSlot, push, started}
+use Rattle.machine.specs.State.{Frame, State, Config, atPlace, withPending, started}
 use Rattle.machine.specs.Act.{passedBy}
 use Rattle.machine.specs.Entry.{lostWith, without, frameWithout, framesWithout, thingsOf, runs}
 use Rattle.machine.specs.Sound.{FrameSound}
 use Rattle.layout.specs.Layout.{padded, valueWords, headWords, frameValues, statusWords, processWords}
-use Rattle.layout.proofs.Frames.{tagOf, numberOf}
-use Rattle.store.specs.declared.values.Val.{Val}
+use Rattle.layout.proofs.Frames.{tagOf}
 use Rattle.store.specs.declared.head.Head.{Head}
-use Rattle.store.specs.Words.{valueAt, putValue, headAt, headOf, putTop, slotAt, topAt, movedTo, stepped, startedHead, putStatus, emptiedBy}
+use Rattle.store.specs.Words.{valueAt, putValue, headAt, headOf, putTop, slotAt, movedTo, stepped, startedHead, putStatus, emptiedBy}
 use Rattle.store.proofs.Vals.{valOf}
 use Rattle.store.proofs.Given.{Sized, given-words}
 use Rattle.ops.specs.Did.{onTop, dropTo}

@@ -1,6 +1,6 @@
--- What a giving leaves in the words of the store. These definitions follow the code; that they are document 01's is
--- proved in proofs/.
-use Prim.Native.Nat.{ℕ, zero, suc, _+_, _*_, _-_, _%_}
+-- What a giving leaves in the words of one process's part. These definitions follow the code; that they are document 01's
+-- is proved in proofs/.
+use Prim.Native.Nat.{ℕ, zero, suc, _*_, _%_}
 use mathlib.Core.Bool.{cond}
 use mathlib.Core.List.{List}
 use lib.Dec.{ltb}
@@ -8,12 +8,9 @@ use lib.ListN.{set}
 use Rattle.table.specs.Table.{offsetOf}
 use Rattle.store.specs.declared.values.Val.{Val}
 use Rattle.store.specs.declared.head.Head.{Head}
-use Rattle.store.specs.Words.{valueAt, putValue, headOf, putTop, topAt, stepped, startedHead, putStatus, emptiedBy}
+use Rattle.store.specs.Words.{headOf, putTop, stepped, startedHead, putStatus, emptiedBy}
 use Rattle.ops.specs.Did.{onTop, dropTo}
 use Rattle.events.specs.Told.{dropTwo}
-use Rattle.parts.specs.Parts.{partOf, withPart}
-
--- within one part
 
 unfoldable pub thingGiven : List ℕ → Val → List ℕ
 thingGiven w v = emptiedBy w v ((24 * headOf w .frames) % 65536)
@@ -46,40 +43,3 @@ stayed w = putTop w (stepped (headOf w))
 
 unfoldable pub retiredWords : List ℕ → ℕ → List ℕ
 retiredWords w n = stayed (retiredBy w n)
-
--- two parts of the store
-
-unfoldable pub metWords : List ℕ → ℕ → ℕ → Val → List ℕ
-metWords work sender receiver v =
-    let u = withPart work sender (sentWords (partOf work sender) v) in
-    withPart u receiver (takenWords (partOf u receiver) v)
-
-unfoldable pub operandOf : List ℕ → ℕ → ℕ → Val
-operandOf work n d = valueAt (partOf work n) (topAt (headOf (partOf work n)) d)
-
--- argument j of n handed to the child
-unfoldable pub argHanded : List ℕ → ℕ → ℕ → ℕ → ℕ → List ℕ
-argHanded work n child args j =
-    withPart work child (putValue (partOf work child) (64 + 2 * j) (operandOf work n (args - j)))
-
-unfoldable pub argsHanded : List ℕ → ℕ → ℕ → ℕ → ℕ → List ℕ
-argsHanded work n child args zero = work
-argsHanded work n child args (suc j) = argHanded (argsHanded work n child args j) n child args j
-
--- what the child has in slot j given away by its parent
-unfoldable pub argGiven : List ℕ → ℕ → ℕ → ℕ → List ℕ
-argGiven work n child j = withPart work n (givenWords (partOf work n) (valueAt (partOf work child) (64 + 2 * j)))
-
-unfoldable pub argsGiven : List ℕ → ℕ → ℕ → ℕ → List ℕ
-argsGiven work n child zero = work
-argsGiven work n child (suc j) = argGiven (argsGiven work n child j) n child j
-
-unfoldable pub beganAt : List ℕ → List ℕ → ℕ → ℕ → List ℕ
-beganAt p work child m = withPart work child (beganWords p (partOf work child) m)
-
-unfoldable pub retiredAt : List ℕ → ℕ → ℕ → List ℕ
-retiredAt work n args = withPart work n (retiredWords (partOf work n) args)
-
-unfoldable pub forkedWords : List ℕ → List ℕ → ℕ → ℕ → ℕ → ℕ → List ℕ
-forkedWords p work n child m args =
-    argsGiven (retiredAt (argsHanded (beganAt p (set work 0 (child + 1)) child m) n child args args) n args) n child args

@@ -3,10 +3,10 @@
 ghost use mathlib.Core.Path.{_≡_};
 ghost use Rattle.trace.specs.Read.{asLine};
 ghost use Rattle.holders.specs.Holders.{nobody, holderIn, endGiven, channelGiven, noted};
+use lines::TraceLine;
 use names::ChannelNo;
 use names::EndNo;
 use names::ProcessNo;
-use trace::lines::TraceLine;
 
 pub fn no_holders() -> [[u16; 2]; 16]
     ensures { λ r. ⌜ r ≡ nobody ⌝ }

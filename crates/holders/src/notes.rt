@@ -5,7 +5,7 @@ ghost use lib.ListN.{length};
 ghost use Rattle.trace.specs.Read.{asLine};
 ghost use Rattle.holders.specs.Holders.{noted, tellsHolder, notedFrom, toldFrom};
 use super::ends::note;
-use trace::lines::TraceLine;
+use lines::TraceLine;
 use trace::read::line_at;
 
 // A line of kind 6. A qubit is in no place of the table.

@@ -5,7 +5,7 @@ use Rattle.questions.specs.declared.Check.{Check}
 use Rattle.questions.specs.Check.{verdictOf}
 use Rattle.lanq.specs.declared.LanqAnswer.{LanqAnswer}
 use Rattle.machine.specs.Answer as machine
-use Rattle.run.specs.declared.answer.Answer.{Answer}
+use Rattle.run.specs.declared.Answer.{Answer}
 use Rattle.run.specs.Answers as run
 use Rattle.lanq.specs.Answers.{answerOf, runAnswer}
 

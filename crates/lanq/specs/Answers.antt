@@ -1,5 +1,4 @@
 -- The answers of the C interface for the answers of the definitions.
-use Prim.Native.Nat.{ℕ}
 use Rattle.table.specs.Questions.{Verdict, accepted, refused}
 use Rattle.machine.specs.Answer.{Answer, refusal, ran}
 use Rattle.lanq.specs.declared.LanqAnswer.{LanqAnswer}

@@ -10,8 +10,8 @@ ghost use Rattle.run.specs.Answers.{traceLeft, storeLeft};
 ghost use Rattle.lanq.specs.Answers.{answerOf, runAnswer};
 use questions::Check;
 use questions::ask;
-use run::answer::Answer;
-use run::answer::run;
+use run::Answer;
+use run::run;
 use trace::lookup::qubit_holder;
 use trace::same::same_lines;
 

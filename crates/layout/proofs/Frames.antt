@@ -2,7 +2,6 @@
 -- free place.
 use Prim.Native.Nat.{ℕ, zero, suc, _+_, _*_, _-_, _≤_, _<_}
 use mathlib.Core.Path.{_≡_, refl, sym, _∙_, ap, ap₂, subst}
-use mathlib.Core.Logic.{_≢_}
 use mathlib.Core.List.{List, [], _∷_, _++_, map, reverse, flatten, append-assoc, append-nil, reverse-cons}
 use native.Mathlib.Nat.{le-of-suc-le-suc, not-suc-le-zero, add-assoc}
 use native.Mathlib.Omega.{arith}

@@ -1,11 +1,11 @@
 -- Reads and writes in concatenated and padded lists of words.
-use Prim.Native.Nat.{ℕ, zero, suc, _+_, _*_, _-_, _≤_, _<_}
-use mathlib.Core.Path.{_≡_, refl, sym, _∙_, ap, ap₂, subst}
+use Prim.Native.Nat.{ℕ, suc, _+_, _-_, _<_}
+use mathlib.Core.Path.{_≡_, sym, _∙_, ap, ap₂, subst}
 use mathlib.Core.List.{List, [], _∷_, _++_, append-assoc}
 use native.Mathlib.Nat.{zero-add, suc-add}
 use native.Mathlib.Omega.{arith}
 use lib.ListN.{getD, set, length, replicate, length-append, length-set, List·getD-append}
-use lib.Seq.{getD-append-add, set-append-left, set-append-seam, getD-append-seam}
+use lib.Seq.{getD-append-add, set-append-left, set-append-seam}
 use Rattle.layout.specs.Layout.{padded}
 
 -- behind a prefix

@@ -1,14 +1,14 @@
 -- The words of a running process under reads and writes of its frame at work. That frame is the last of its groups, so
 -- a change of it changes one stretch of heads and one stretch of values, and nothing else.
-use Prim.Native.Nat.{ℕ, zero, suc, _+_, _*_, _-_, _≤_, _<_}
-use mathlib.Core.Path.{_≡_, refl, sym, _∙_, ap, ap₂, subst}
+use Prim.Native.Nat.{ℕ, suc, _+_, _*_, _<_}
+use mathlib.Core.Path.{_≡_, refl, sym, _∙_, ap, ap₂}
 use mathlib.Core.List.{List, [], _∷_, _++_, map, reverse, flatten, append-assoc, append-nil, reverse-cons}
 use native.Mathlib.Omega.{arith}
-use lib.ListN.{getD, set, length, length-append, length-set, length-reverse, length-map, List·getD-append}
+use lib.ListN.{getD, set, length, length-append, length-reverse, length-map, List·getD-append}
 use lib.Seq.{set-append-left}
 use Rattle.lists.specs.Lists.{All}
 use Rattle.lists.proofs.Any.{All-map, All-implies, All-reverse}
-use Rattle.machine.specs.State.{Frame, Status, running, Process, Config}
+use Rattle.machine.specs.State.{Frame, Config}
 use Rattle.machine.specs.Entry.{runs}
 use Rattle.machine.specs.Sound.{FrameSound}
 use Rattle.layout.specs.Layout.{padded, headWords, frameValues, statusWords, processWords}

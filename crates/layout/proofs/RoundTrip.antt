@@ -1,19 +1,19 @@
 -- Whatever configuration a run leaves is read back from its words, and takes exactly 8,192 of them.
-use Prim.Native.Nat.{ℕ, zero, suc, _+_, _*_, _-_, _≤_, _<_}
-use mathlib.Core.Path.{_≡_, refl, sym, _∙_, ap, ap₂, subst}
-use mathlib.Core.Bool.{Bool, true, false, cond}
+use Prim.Native.Nat.{ℕ, _+_, _*_, _-_, _≤_, _<_}
+use mathlib.Core.Path.{_≡_, refl, sym, _∙_, ap, ap₂}
+use mathlib.Core.Bool.{true, false}
 use mathlib.Core.List.{List, [], _∷_, _++_, map, reverse, zipWith, flatten, reverse-reverse, append-assoc, append-nil}
 use native.Mathlib.Omega.{arith}
 use lib.IntN.{ℤ, pos, negsuc}
-use lib.ListN.{getD, take, drop, length, replicate, length-append, length-reverse, length-map}
+use lib.ListN.{getD, drop, length, length-append, length-reverse, length-map}
 use lib.Seq.{drop-drop}
-use lib.Dec.{T, ltb, ltb→lt}
+use lib.Dec.{T, ltb→lt}
 use borrow.Author.Tests.{lt-ltb, le-ltb}
 use Rattle.lists.specs.Lists.{All}
 use Rattle.lists.proofs.Any.{All-map, All-implies, All-reverse}
-use Rattle.machine.specs.Value.{Thing, qubit, channel, end, Value, empty, int, bool, ref, inRange, word32, sideNo, sideOf}
+use Rattle.machine.specs.Value.{qubit, channel, end, Value, empty, int, bool, ref, inRange, word32}
 use Rattle.machine.specs.State.{Frame, Status, running, finished, stopped, Process, Config}
-use Rattle.machine.specs.Sound.{ValueSound, FrameSound, StatusSound, ProcessSound, ConfigSound}
+use Rattle.machine.specs.Sound.{ValueSound, FrameSound, ProcessSound, ConfigSound}
 use Rattle.table.specs.Questions.{Accepted}
 use Rattle.machine.specs.Run.{run}
 use Rattle.machine.proofs.Sound.{sound}

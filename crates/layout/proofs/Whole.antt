@@ -1,6 +1,6 @@
 -- A running process's words as three stretches: its count of frames, the heads, and the values, each padded. Zeros at
 -- the end of a stretch belong to its padding, so a frame may be opened or closed there without a word being moved.
-use Prim.Native.Nat.{ℕ, zero, suc, _+_, _*_, _-_, _≤_, _<_}
+use Prim.Native.Nat.{ℕ, suc, _+_, _-_, _≤_, _<_}
 use mathlib.Core.Path.{_≡_, refl, sym, _∙_, ap, ap₂, subst}
 use mathlib.Core.List.{List, [], _∷_, _++_, append-assoc}
 use native.Mathlib.Omega.{arith}
@@ -9,7 +9,7 @@ use lib.Seq.{set-append-left}
 use Rattle.machine.specs.State.{Frame}
 use Rattle.machine.specs.Entry.{runs}
 use Rattle.machine.specs.Value.{Value}
-use Rattle.layout.specs.Layout.{padded, headWords, frameValues, statusWords, processWords}
+use Rattle.layout.specs.Layout.{padded, headWords, frameValues, processWords}
 use Rattle.layout.proofs.Groups.{padded-length}
 use Rattle.layout.proofs.Padded.{set-behind, get-behind, padded-get, padded-set}
 use Rattle.layout.proofs.Frames.{tagOf, numberOf, write}

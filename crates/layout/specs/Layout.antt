@@ -7,13 +7,13 @@
 --     head f          4 words from 8 + 4 * f on: method, place, number of pending values
 --     values f        48 words from 64 + 48 * f on: 16 slots, then up to 8 pending values, the lowest first
 --   Frame 0 is the root; a value is two words, its tag and its number.
-use Prim.Native.Nat.{ℕ, zero, suc, _+_, _*_, _-_}
-use mathlib.Core.Bool.{Bool, true, false, cond}
+use Prim.Native.Nat.{ℕ, zero, suc, _-_}
+use mathlib.Core.Bool.{true, false, cond}
 use mathlib.Core.List.{List, [], _∷_, _++_, map, reverse, zipWith, flatten}
 use lib.IntN.{ℤ, pos, negsuc}
 use lib.ListN.{getD, take, drop, length, replicate}
 use lib.Dec.{eqb, ltb}
-use Rattle.machine.specs.Value.{Thing, qubit, channel, end, Value, empty, int, bool, ref, word32, sideNo, sideOf}
+use Rattle.machine.specs.Value.{qubit, channel, end, Value, empty, int, bool, ref, word32, sideNo, sideOf}
 use Rattle.machine.specs.State.{Frame, Status, running, finished, stopped, Process, Config}
 
 -- lists of words

@@ -1,12 +1,12 @@
 -- Laws of `any`, `All` and `firstSome`.
-use Prim.Native.Nat.{ℕ, zero, suc, _+_, _<_}
-use mathlib.Core.Path.{_≡_, refl, sym, _∙_, ap, subst}
-use mathlib.Core.Logic.{_⊎_, inl, inr, ⊎-elim}
-use mathlib.Core.Bool.{Bool, true, false, cond, _&&_, _||_, not}
+use Prim.Native.Nat.{ℕ, zero, suc, _<_}
+use mathlib.Core.Path.{_≡_, refl, _∙_}
+use mathlib.Core.Logic.{⊎-elim}
+use mathlib.Core.Bool.{Bool}
 use mathlib.Core.List.{List, [], _∷_, _++_, map, reverse, reverseAux}
 use mathlib.Core.Option.{Option, none, some, orElse, Option·none-ne-some}
 use native.Mathlib.Nat.{le-step, le-refl}
-use lib.ListN.{getD, take, drop, set, length, replicate}
+use lib.ListN.{getD, take, drop, set, replicate}
 use lib.Dec.{T}
 use Rattle.lists.specs.Lists.{any, All, firstSome}
 use Rattle.lists.proofs.Tests.{or-cases, or-left, or-right}

@@ -3,3 +3,4 @@ pub mod Laws
 pub mod Any
 pub mod First
 pub mod Each
+pub mod Put

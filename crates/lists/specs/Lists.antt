@@ -1,9 +1,10 @@
 -- The definitions on lists that the library of the logic lacks. Nothing here knows of programs or processes.
-use Prim.Native.Nat.{ℕ, zero, suc, _+_}
+use Prim.Native.Nat.{ℕ, zero, suc}
 use mathlib.Core.Bool.{Bool, true, false, cond, _&&_, _||_}
 use mathlib.Core.List.{List, [], _∷_, _++_}
-use mathlib.Core.Option.{Option, none, some, orElse}
+use mathlib.Core.Option.{Option, none, orElse}
 use lib.Dec.{eqb, ltb}
+use lib.ListN.{set}
 
 -- some element passes the test
 abbrev pub any : {A : Type 0} → (A → Bool) → List A → Bool
@@ -47,3 +48,8 @@ firstSome f (suc n) = orElse (firstSome f n) (f n)
 unfoldable pub below : ℕ → List ℕ
 below zero = []
 below (suc n) = below n ++ (n ∷ [])
+
+-- a list with elements written from an index on; one past its end is not written
+unfoldable pub putFrom : List ℕ → ℕ → List ℕ → List ℕ
+putFrom out at [] = out
+putFrom out at (x ∷ xs) = putFrom (set out at x) (suc at) xs

@@ -1,9 +1,8 @@
 -- P1 to P12 of document 01, by computing the definitions.
-use Prim.Native.Nat.{ℕ}
 use mathlib.Core.Path.{_≡_, refl}
-use mathlib.Core.List.{List, []}
+use mathlib.Core.List.{[]}
 use lib.ListN.{replicate}
-use Rattle.machine.specs.Answer.{Answer, ran}
+use Rattle.machine.specs.Answer.{ran}
 use Rattle.machine.specs.Cases.{Cases, answer, silentLoop}
 use Rattle.machine.proofs.Opened.{machine-opened}
 

@@ -1,13 +1,13 @@
 -- What a giving leaves in reach: nothing that the giver keeps is covered by a thing given, and what the new holder
 -- gets is covered by one.
-use Prim.Native.Nat.{ℕ, zero, suc, _<_, _≤_}
-use mathlib.Core.Path.{_≡_, refl, sym, _∙_, ap, subst}
+use Prim.Native.Nat.{ℕ, _<_, _≤_}
+use mathlib.Core.Path.{_≡_, sym, _∙_, ap, subst}
 use mathlib.Core.Logic.{_≢_, _⊎_, inl, inr, ⊎-elim}
-use mathlib.Core.Bool.{Bool, true, false, cond, _||_}
+use mathlib.Core.Bool.{false}
 use mathlib.Core.List.{List, [], _∷_, _++_, map}
-use mathlib.Core.Option.{Option, none, some, Option·some-injective}
+use mathlib.Core.Option.{Option·some-injective}
 use native.Mathlib.Nat.{lt-of-not-le}
-use lib.ListN.{getD, set, length, length-set, length-append, List·getD-eq-default, List·getD-append}
+use lib.ListN.{length, length-set, length-append, List·getD-eq-default, List·getD-append}
 use lib.Seq.{getD-set-same, getD-set-other, getD-append-seam}
 use native.Mathlib.Omega.{arith}
 use lib.Dec.{T, eqb, ltb}
@@ -16,7 +16,7 @@ use Rattle.lists.specs.Lists.{any, All}
 use Rattle.lists.proofs.Tests.{decide, clash, or-cases, or-left, or-right, cond-each}
 use Rattle.lists.proofs.Any.{any-mono, any-elim, All-append, All-map, All-implies}
 use Rattle.machine.specs.Value.{Thing, Value, empty, int, bool, ref, covers}
-use Rattle.machine.specs.State.{Frame, Process, Config, State, processAt, setProcess, started, unmade}
+use Rattle.machine.specs.State.{Frame, Process, Config, processAt, setProcess, started, unmade}
 use Rattle.machine.specs.Entry.{lostWith, without, frameWithout, framesWithout, thingsOf, pushTop, joined}
 use Rattle.machine.specs.Owner.{names, valuesOf, reaches, Holds}
 use Rattle.machine.specs.State.{Line}

@@ -8,7 +8,6 @@ use mathlib.Core.Option.{Option, none, some}
 use native.Mathlib.Nat.{le-of-suc-le-suc, not-suc-le-zero}
 use native.Mathlib.Omega.{arith}
 use lib.ListN.{getD, take, length}
-use lib.Dec.{T, eqb}
 use borrow.Author.Tests.{ne-eqb}
 use Rattle.lists.specs.Lists.{any, All}
 use Rattle.machine.specs.Value.{Thing, qubit, channel, end, Value, empty, int, bool, ref, covers, thingKind, thingNo}

@@ -5,7 +5,7 @@ use mathlib.Core.Bool.{Bool}
 use mathlib.Core.List.{List, [], _∷_}
 use Prim.Native.Nat.{ℕ}
 use lib.IntN.{ℤ}
-use Rattle.machine.specs.Value.{Thing, qubit, channel, end, Value, empty, int, bool, ref}
+use Rattle.machine.specs.Value.{qubit, channel, end, Value, empty, int, bool, ref}
 use Rattle.machine.specs.Act.{Act, stuck, faults, asInt, asBool, asQubit, asChannel, asEnd, present, withOutcome}
 
 module _ (P : Act → Type 0) where

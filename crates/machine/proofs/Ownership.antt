@@ -1,26 +1,26 @@
 -- Demand 3 over the whole schedule. The invariant: whatever a process reaches, the lines so far name it as holder, and
 -- it was made; and every line is lawful by the lines above it. One lemma carries it over any entry: whatever the entry
 -- did, some things went to one process by its lines, and beyond them nobody reaches more than before.
-use Prim.Native.Nat.{ℕ, zero, suc, _+_, _<_, _≤_}
+use Prim.Native.Nat.{ℕ, zero, suc, _<_}
 use mathlib.Core.Path.{_≡_, refl, sym, _∙_, ap, subst}
 use mathlib.Core.Logic.{_≢_, _⊎_, inl, inr, ⊎-elim}
 use mathlib.Core.Bool.{Bool, true, false, cond, not, _&&_, _||_, Bool·beq}
-use mathlib.Core.List.{List, [], _∷_, _++_, map, foldl, append-nil}
+use mathlib.Core.List.{List, [], _∷_, _++_, map, foldl}
 use mathlib.Core.Option.{Option, none, some, Option·some-injective, Option·none-ne-some}
 use native.Mathlib.Nat.{le-step, le-refl, lt-irrefl}
 use native.Mathlib.Omega.{arith}
-use lib.ListN.{getD, take, length}
-use lib.Dec.{T, eqb, eqb→eq, eqb-refl}
-use borrow.Author.Tests.{eqb-true, eqb-false}
-use Rattle.lists.specs.Lists.{any, All, firstSome}
-use Rattle.lists.proofs.Tests.{decide, passed, passes, failed, clash, or-cases, or-left, and-left, and-right, cond-both}
+use lib.ListN.{take, length}
+use lib.Dec.{T, eqb, eqb→eq}
+use borrow.Author.Tests.{eqb-false}
+use Rattle.lists.specs.Lists.{any, All}
+use Rattle.lists.proofs.Tests.{or-cases, or-left, and-left, and-right, cond-both}
 use Rattle.lists.proofs.Any.{any-elim, firstSome-found}
-use Rattle.machine.specs.Value.{Thing, qubit, channel, end, Value, empty, int, bool, ref, covers, sideNo, sideOf}
-use Rattle.machine.specs.State.{Frame, Status, running, finished, stopped, Process, Config, Line, State, Event, processAt, setProcess, started, startConfig, start, unmade, lineOf, gave, forked, met, finishes, stops}
+use Rattle.machine.specs.Value.{Thing, qubit, channel, end, Value, ref, covers}
+use Rattle.machine.specs.State.{Frame, finished, stopped, Process, Config, Line, State, Event, processAt, setProcess, started, startConfig, start, lineOf, gave, forked, met, finishes, stops}
 use Rattle.machine.specs.Act.{Offer, sends, receives, Act, idle, stuck, faults, goes, ends, makes, forks, offers, actOf}
-use Rattle.machine.specs.Entry.{Effect, Meeting, joins, offered, meetsWith, meetingOf, meetingIf, meeting, nothing, changes, runs, counted, making, joined, forking, framesWithout, thingsOf, pushTop, handing, applied, effectOf}
-use Rattle.machine.specs.Run.{Result, allOver, noneAble, fits, afterEffect, ended, runFrom, run}
-use Rattle.machine.specs.Owner.{names, valuesOf, reaches, holder, holderAfter, Holds, LineHeld, MeetingHeld, noLine, Owned}
+use Rattle.machine.specs.Entry.{Effect, Meeting, joins, offered, meetsWith, meetingOf, meetingIf, meeting, runs, counted, making, joined, forking, framesWithout, thingsOf, pushTop, handing, applied, effectOf}
+use Rattle.machine.specs.Run.{Result, allOver, noneAble, fits, afterEffect, runFrom, run}
+use Rattle.machine.specs.Owner.{names, valuesOf, reaches, holder, holderAfter, Holds, LineHeld, MeetingHeld, Owned}
 use Rattle.machine.specs.Sound.{Made}
 use Rattle.machine.proofs.Things.{beq-eq}
 use Rattle.machine.proofs.Within.{InReach, Within, FramesWithin, Quiet, Next, OfferWithin, ActWithin, frames-own, frame-started, act-within}

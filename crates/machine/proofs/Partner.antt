@@ -2,21 +2,21 @@
 -- whoever reaches it.
 use Prim.Native.Nat.{ℕ, zero, suc, _≤_, _<_}
 use mathlib.Core.Path.{_≡_, refl, sym, _∙_, ap, ap₂, subst}
-use mathlib.Core.Logic.{_≢_, _⊎_, inl, inr, ⊎-elim}
+use mathlib.Core.Logic.{_≢_, ⊎-elim}
 use mathlib.Core.Bool.{Bool, true, false, cond, not, _&&_, Bool·beq}
-use mathlib.Core.List.{List, [], _∷_}
+use mathlib.Core.List.{List}
 use mathlib.Core.Option.{Option, none, some, orElse, Option·none-ne-some}
 use native.Mathlib.Omega.{arith}
 use lib.ListN.{length}
-use lib.Dec.{T, eqb, ltb}
-use borrow.Author.Tests.{eqb-true, eqb-false, eq-eqb, ne-eqb, ltb-true, ltb-false}
-use Rattle.lists.specs.Lists.{any, firstSome}
+use lib.Dec.{eqb, ltb}
+use borrow.Author.Tests.{eqb-true, eqb-false, ltb-true, ltb-false}
+use Rattle.lists.specs.Lists.{firstSome}
 use Rattle.lists.proofs.Tests.{decide}
 use Rattle.machine.specs.Value.{Thing, end}
 use Rattle.machine.specs.State.{Process, Config, State, processAt}
-use Rattle.machine.specs.Act.{Offer, sends, receives, Act, idle, stuck, faults, goes, ends, makes, forks, offers, atFrames, byStatus, actOf}
+use Rattle.machine.specs.Act.{Offer, sends, receives, Act, idle, atFrames, byStatus, actOf}
 use Rattle.machine.specs.Entry.{Meeting, joins, offered, meetsWith, meetingOf}
-use Rattle.machine.specs.Owner.{valuesOf, reaches, holder, Holds}
+use Rattle.machine.specs.Owner.{valuesOf, reaches, holder}
 use Rattle.machine.proofs.Within.{InReach, OfferWithin, ActWithin, act-within}
 use Rattle.machine.proofs.Giving.{process-beyond}
 use Rattle.machine.proofs.Ownership.{Kept, cond-some, opposite, meets-offer}

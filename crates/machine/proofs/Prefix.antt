@@ -1,14 +1,13 @@
 -- The run entry by entry: the run on the schedule's first k + 1 entries is the run on its first k followed by one
 -- entry, or by nothing where it had ended.
-use Prim.Native.Nat.{ℕ, zero, suc, _<_}
-use mathlib.Core.Path.{_≡_, refl, sym, _∙_, ap}
+use Prim.Native.Nat.{ℕ, suc, _<_}
+use mathlib.Core.Path.{_≡_, refl, _∙_, ap}
 use mathlib.Core.Bool.{Bool, true, false, cond}
 use mathlib.Core.List.{List, [], _∷_, _++_}
 use lib.ListN.{getD, take, length}
 use lib.Seq.{take-suc}
-use lib.Dec.{eqb}
 use Rattle.machine.specs.State.{State, start}
-use Rattle.machine.specs.Entry.{Effect, effectOf}
+use Rattle.machine.specs.Entry.{effectOf}
 use Rattle.machine.specs.Run.{Result, allOver, noneAble, fits, afterEffect, ended, runFrom, run, followed}
 
 module _ (p outcomes : List ℕ) (room : ℕ) where

@@ -1,8 +1,8 @@
 -- The state before each entry, and how the run goes on or ends there. What a loop over the schedule needs to know.
-use Prim.Native.Nat.{ℕ, zero, suc, _+_, _≤_, _<_}
-use mathlib.Core.Path.{_≡_, refl, sym, _∙_, ap, ap₂, subst}
-use mathlib.Core.Bool.{Bool, true, false, cond, not, _&&_, true≢false}
-use mathlib.Core.List.{List, [], _∷_, _++_}
+use Prim.Native.Nat.{ℕ, zero, suc, _≤_, _<_}
+use mathlib.Core.Path.{_≡_, refl, _∙_, ap, ap₂, subst}
+use mathlib.Core.Bool.{Bool, true, false, cond, not, _&&_}
+use mathlib.Core.List.{List, [], _∷_}
 use native.Mathlib.Nat.{le-of-suc-le-suc, not-suc-le-zero}
 use native.Mathlib.Omega.{arith}
 use lib.ListN.{getD, drop, length}
@@ -12,9 +12,9 @@ use Rattle.lists.specs.Lists.{any, every, All, below}
 use Rattle.lists.proofs.Tests.{passed, passes}
 use Rattle.lists.proofs.First.{any-below}
 use Rattle.table.proofs.Accepted.{Kept}
-use Rattle.machine.specs.State.{Status, running, finished, stopped, Process, Config, State, processAt, start, unmade}
-use Rattle.machine.specs.Act.{Act, idle, atFrames, byStatus, actOf}
-use Rattle.machine.specs.Entry.{Effect, effectOf, moves, able}
+use Rattle.machine.specs.State.{Status, running, finished, stopped, Process, State, processAt, start, unmade}
+use Rattle.machine.specs.Act.{Act, byStatus, actOf}
+use Rattle.machine.specs.Entry.{effectOf, moves, able}
 use Rattle.machine.specs.Run.{Result, isOver, allOver, noneAble, fits, afterEffect, ended, runFrom, run}
 use Rattle.machine.proofs.Typing.{Typed}
 use Rattle.machine.proofs.Effects.{effect-typed}

@@ -2,8 +2,8 @@
 -- comparable, which is what makes a giving safe: whatever still reaches a given thing is emptied with it.
 use Prim.Native.Nat.{ℕ}
 use mathlib.Core.Path.{_≡_, refl, sym, _∙_, subst}
-use mathlib.Core.Logic.{_⊎_, inl, inr, ⊎-elim}
-use mathlib.Core.Bool.{Bool, true, false, cond, _&&_, _||_, not, Bool·beq}
+use mathlib.Core.Logic.{_⊎_, inl, inr}
+use mathlib.Core.Bool.{Bool, true, false, Bool·beq}
 use lib.Dec.{T, eqb, eqb→eq, eqb-refl}
 use Rattle.lists.proofs.Tests.{and-left, and-right, and-both}
 use Rattle.machine.specs.Value.{Thing, qubit, channel, end, covers}

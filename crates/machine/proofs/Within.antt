@@ -1,23 +1,23 @@
 -- What an act leaves in reach was in reach before it: one fact for each op, then one for every act. Only NEWQ and NEWC
 -- add a thing, the next one to be made.
-use Prim.Native.Nat.{ℕ, zero, suc, _+_, _≤_, _<_}
-use mathlib.Core.Path.{_≡_, refl, sym, _∙_, ap, subst}
-use mathlib.Core.Logic.{_⊎_, inl, inr, ⊎-elim, _≢_}
-use mathlib.Core.Bool.{Bool, true, false, cond, not, _||_, Bool·beq, true≢false}
+use Prim.Native.Nat.{ℕ, suc, _+_}
+use mathlib.Core.Path.{_≡_, refl, sym, _∙_, subst}
+use mathlib.Core.Logic.{_≢_}
+use mathlib.Core.Bool.{Bool, true, false, not, Bool·beq, true≢false}
 use mathlib.Core.List.{List, [], _∷_, _++_, reverse}
 use native.Mathlib.Omega.{arith}
-use lib.ListN.{getD, take, drop, length, replicate}
+use lib.ListN.{getD, take, length, replicate}
 use lib.IntN.{ℤ, pos, _+ℤ_, _-ℤ_}
 use lib.Signed.{ltZ}
-use lib.Dec.{T, eqb, leb, ltb, eqb→eq, eqb-refl}
+use lib.Dec.{T, eqb, leb, ltb}
 use Rattle.lists.specs.Lists.{any, All}
 use Rattle.lists.proofs.Tests.{cond-both, cond-each, and-left, or-left, or-right}
 use Rattle.lists.proofs.Any.{any-append-left, any-append-right, All-append, All-take, All-drop, All-set, All-getD, All-replicate, All-reverse, All-implies}
 use Rattle.machine.specs.Value.{Thing, qubit, channel, end, Value, empty, int, bool, ref, covers, isEmpty, inRange, signed16, eqZ, sideOf}
-use Rattle.machine.specs.State.{Frame, Status, running, finished, stopped, Process, Config, State, Event, processAt, started, push, atPlace, withPending, withSlot, gatedOne, gatedTwo, measured}
+use Rattle.machine.specs.State.{Frame, Status, running, finished, stopped, State, Event, processAt, started, push, atPlace, withSlot, gatedOne, gatedTwo, measured}
 use Rattle.machine.specs.Act.{Offer, sends, receives, Act, idle, stuck, faults, goes, ends, makes, forks, offers, At, operand, asInt, onward, pushes, jump, returnTo, twoInts, result, doInt, doBool, doGet, doPut, doDrop, doClear, doNewQ, doNewC, doEnd, doGateOne, doGateTwo, doGate, doMeas, doCall, doRet, doFork, doSend, doRecv, doJump, doJFalse, doAdd, doSub, doEq, doLess, doNot, doNothing, doings, doingOf, passedBy, sceneOf, atFrame, atFrames, byStatus, actOf}
 use Rattle.machine.specs.Owner.{names, valuesOf}
-use Rattle.machine.proofs.Things.{covers-refl, covers-end}
+use Rattle.machine.proofs.Things.{covers-refl}
 use Rattle.machine.proofs.Operands.{on-int, on-bool, on-qubit, on-channel, on-end, on-present, on-outcome}
 use Rattle.table.specs.Table.{offsetOf, opAt}
 use Rattle.table.specs.Ops.{oneQubit}

@@ -3,19 +3,19 @@
 -- An act is a value. Applying it, and whether an offer to send or to receive finds a partner, is in Entry.antt; end 2,
 -- meetings and faults all read the same value. Where 01's rules have no case, as for an operand of another kind, the
 -- act is `stuck`; for a table that passes questions 1 to 5 no process is ever stuck (proofs/Sound.antt).
-use Prim.Native.Nat.{ℕ, zero, suc, _+_, _*_, _-_}
-use mathlib.Core.Bool.{Bool, true, false, cond, _&&_, _||_, not}
+use Prim.Native.Nat.{ℕ, suc, _+_}
+use mathlib.Core.Bool.{Bool, cond, not}
 use mathlib.Core.List.{List, [], _∷_, _++_, reverse}
-use lib.IntN.{ℤ, pos, negsuc, _+ℤ_, _-ℤ_}
+use lib.IntN.{ℤ, pos, _+ℤ_, _-ℤ_}
 use lib.Signed.{ltZ}
 use lib.ListN.{getD, take, drop, length}
 use lib.Dec.{eqb, leb, ltb}
 use Rattle.lists.specs.Lists.{any}
-use Rattle.table.specs.Table.{offsetOf, opAt, argAt, ownerOf}
+use Rattle.table.specs.Table.{offsetOf, opAt, argAt}
 use Rattle.table.specs.Ops.{oneQubit}
 use Rattle.table.specs.Reading.{takenAt}
 use Rattle.machine.specs.Value.{Thing, qubit, channel, end, Value, empty, int, bool, ref, isEmpty, inRange, signed16, eqZ, sideOf}
-use Rattle.machine.specs.State.{Frame, Status, running, finished, stopped, Process, Config, State, Event, processAt, started, atPlace, withPending, withSlot, push, gatedOne, gatedTwo, measured}
+use Rattle.machine.specs.State.{Frame, Status, running, finished, stopped, State, Event, processAt, started, atPlace, withPending, withSlot, push, gatedOne, gatedTwo, measured}
 
 -- An offer names the channel and the side of the end that it is made on.
 pub data Offer : Type 0 where

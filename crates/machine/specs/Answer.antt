@@ -4,7 +4,7 @@ use Prim.Native.Nat.{ℕ, _/_}
 use mathlib.Core.List.{List, [], _∷_, _++_}
 use lib.ListN.{length, drop}
 use Rattle.table.specs.Questions.{Verdict, accepted, refused, questions}
-use Rattle.machine.specs.State.{Line, State}
+use Rattle.machine.specs.State.{Line}
 use Rattle.machine.specs.Run.{Result, run}
 
 -- "A refusal gives number and place"; "A run answers end, entries used (idle ones too), lines written, outcomes used."

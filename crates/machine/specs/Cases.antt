@@ -1,15 +1,13 @@
 -- The programs of document 01's worked run and of its cases P1 to P12, and what each case says of its run. The cases
 -- are proved together in proofs/Cases.antt.
 use Prim.Native.Nat.{ℕ, zero, suc, _+_, _*_}
-use mathlib.Core.Bool.{Bool, true, false}
 use mathlib.Core.Path.{_≡_}
 use mathlib.Core.List.{List, [], _∷_, _++_}
 use lib.ListN.{length, take, drop, replicate, getD}
 use lib.IntN.{pos}
-use Rattle.table.specs.Questions.{Verdict, refused}
-use Rattle.machine.specs.Value.{Value, int, ref, qubit}
-use Rattle.machine.specs.State.{State, Line, Frame, Process, processAt}
-use Rattle.machine.specs.Run.{Result, run}
+use Rattle.machine.specs.Value.{Value, int}
+use Rattle.machine.specs.State.{Frame, processAt}
+use Rattle.machine.specs.Run.{run}
 use Rattle.machine.specs.Answer.{Answer, refusal, ran, answerOf, traceWords}
 
 -- A method as it is written down: return type, parameter count, the slots used, the code as op and argument.

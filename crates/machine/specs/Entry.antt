@@ -1,14 +1,14 @@
 -- One entry of the schedule: giving away, meeting, and what the named process's act does to the configuration and to
 -- the trace.
-use Prim.Native.Nat.{ℕ, zero, suc, _+_}
+use Prim.Native.Nat.{ℕ, suc}
 use mathlib.Core.Bool.{Bool, true, false, cond, _&&_, _||_, not, Bool·beq}
 use mathlib.Core.List.{List, [], _∷_, _++_, map}
 use mathlib.Core.Option.{Option, none, some}
-use lib.ListN.{getD, set, length}
-use lib.Dec.{eqb, leb, ltb}
+use lib.ListN.{length}
+use lib.Dec.{eqb}
 use Rattle.lists.specs.Lists.{any, firstSome}
 use Rattle.machine.specs.Value.{Thing, qubit, channel, end, Value, empty, int, bool, ref, covers}
-use Rattle.machine.specs.State.{Frame, Status, running, finished, stopped, Process, Config, Line, State, Event, processAt, setProcess, started, withPending, push, madeQubit, madeChannel, forked, gave, met, passed, finishes, stops, lineOf}
+use Rattle.machine.specs.State.{Frame, running, finished, stopped, Process, Config, Line, State, Event, processAt, setProcess, started, push, madeQubit, madeChannel, forked, gave, met, passed, finishes, stops, lineOf}
 use Rattle.machine.specs.Act.{Offer, sends, receives, Act, idle, stuck, faults, goes, ends, makes, forks, offers, actOf}
 
 -- "Giving away": "Every slot and every pending value of the giver, in all frames, that holds the thing is emptied.

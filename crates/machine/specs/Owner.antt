@@ -1,16 +1,16 @@
 -- Reach, and the holder by lines alone.
-use Prim.Native.Nat.{ℕ, zero, suc, _+_, _<_}
+use Prim.Native.Nat.{ℕ, _<_}
 use mathlib.Core.Path.{_≡_}
 use mathlib.Core.Logic.{_≢_}
-use mathlib.Core.Bool.{Bool, true, false, cond, _&&_, _||_, not}
+use mathlib.Core.Bool.{Bool, true, false, cond, not}
 use mathlib.Core.List.{List, [], _∷_, _++_, foldl}
 use mathlib.Core.Option.{Option, none, some}
 use lib.ListN.{getD, take, length}
-use lib.Dec.{T, eqb, leb, ltb}
+use lib.Dec.{T, eqb}
 use Rattle.lists.specs.Lists.{any}
 use Rattle.table.specs.Ops.{oneQubit}
 use Rattle.machine.specs.Value.{Thing, qubit, channel, end, Value, empty, int, bool, ref, covers, sideOf}
-use Rattle.machine.specs.State.{Frame, Process, Config, Line, State, processAt}
+use Rattle.machine.specs.State.{Frame, Process, Config, Line, processAt}
 
 -- Reach: "in a slot or pending value of any frame, a stopped process's too; an end also through its channel".
 unfoldable pub names : Thing → Value → Bool

@@ -1,11 +1,11 @@
 -- The run: the four ends, and the entries of a schedule one after the other.
-use Prim.Native.Nat.{ℕ, zero, suc, _+_}
-use mathlib.Core.Bool.{Bool, true, false, cond, _&&_, _||_, not}
+use Prim.Native.Nat.{ℕ, suc, _+_}
+use mathlib.Core.Bool.{Bool, true, false, cond, not}
 use mathlib.Core.List.{List, [], _∷_, _++_}
-use lib.ListN.{getD, length}
-use lib.Dec.{eqb, leb, ltb}
+use lib.ListN.{length}
+use lib.Dec.{eqb, leb}
 use Rattle.lists.specs.Lists.{any, every, below}
-use Rattle.machine.specs.State.{Status, running, finished, stopped, Process, Config, Line, State, start}
+use Rattle.machine.specs.State.{Status, running, finished, stopped, Process, State, start}
 use Rattle.machine.specs.Entry.{Effect, effectOf, able}
 
 -- What a run leaves: "A run answers end, entries used (idle ones too), lines written, outcomes used." The lines and

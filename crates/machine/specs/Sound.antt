@@ -11,7 +11,7 @@ use Rattle.lists.specs.Lists.{All}
 use Rattle.table.specs.Table.{methods, offsetOf, endOf}
 use Rattle.machine.specs.Value.{Thing, qubit, channel, end, Value, empty, int, bool, ref, inRange}
 use Rattle.machine.specs.State.{Frame, Status, running, finished, stopped, Process, Config, State}
-use Rattle.machine.specs.Act.{Act, stuck, actOf}
+use Rattle.machine.specs.Act.{stuck, actOf}
 
 -- the thing was made
 abbrev pub Made : Config → Thing → Type 0

@@ -1,10 +1,10 @@
 -- Frames, processes, the configuration, trace lines, and the state of a run.
-use Prim.Native.Nat.{ℕ, zero, suc, _+_, _*_, _-_, _/_, _%_}
-use mathlib.Core.Bool.{Bool, true, false, cond}
-use mathlib.Core.List.{List, [], _∷_, _++_, map}
-use lib.ListN.{getD, set, take, length, replicate}
+use Prim.Native.Nat.{ℕ, _/_, _%_}
+use mathlib.Core.Bool.{Bool}
+use mathlib.Core.List.{List, [], _∷_, _++_}
+use lib.ListN.{getD, set, take, replicate}
 use Rattle.table.specs.Table.{offsetOf}
-use Rattle.machine.specs.Value.{Thing, Value, empty, ref, thingKind, thingNo, valueWord, sideNo}
+use Rattle.machine.specs.Value.{Thing, Value, empty, thingKind, thingNo, valueWord, sideNo}
 
 -- "each frame's method, place, slots and pending values". The place is the instruction that the frame stands at,
 -- counted over the table. Pending values are listed from the top down.

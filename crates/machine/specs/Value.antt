@@ -4,11 +4,11 @@
 -- Choices: the two ends of a channel are told apart by a boolean (side 1 is true), so that a channel has two ends by
 -- its type; an int is a signed integer, its range being the ops' concern; an emptied slot or pending value is a value
 -- of its own, because it keeps its place.
-use Prim.Native.Nat.{ℕ, zero, suc, _+_, _*_, _-_, _/_, _%_}
-use mathlib.Core.Bool.{Bool, true, false, cond, _&&_, _||_, not, Bool·beq}
+use Prim.Native.Nat.{ℕ, _+_, _-_}
+use mathlib.Core.Bool.{Bool, true, false, cond, _&&_, Bool·beq}
 use lib.IntN.{ℤ, pos, negsuc}
-use lib.Signed.{mag, ltZ}
-use lib.Dec.{eqb, leb, ltb}
+use lib.Signed.{mag}
+use lib.Dec.{eqb, ltb}
 
 -- What is held, given and reached: a qubit, a channel, or one end of a channel.
 pub data Thing : Type 0 where

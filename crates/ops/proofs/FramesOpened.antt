@@ -1,27 +1,25 @@
 -- CALL and RET open and close a frame at the end of the process's words.
 use Prim.Native.Nat.{ℕ, zero, suc, _+_, _*_, _-_, _%_, _≤_, _<_}
-use mathlib.Core.Path.{_≡_, refl, sym, _∙_, ap, ap₂, subst}
-use mathlib.Core.Bool.{Bool, true, false, cond, not, _||_}
+use mathlib.Core.Path.{_≡_, refl, sym, _∙_, ap, ap₂}
 use mathlib.Core.List.{List, [], _∷_, _++_, reverse, append-assoc, reverse-append, flatten}
 use native.Mathlib.Nat.{mod-eq-of-lt, add-mod-right, le-of-suc-le, le-of-suc-le-suc, not-suc-le-zero, sub-zero}
 use lib.Seq.{set-at, take-suc, take-append-add, length-take-le, drop-cons}
 use native.Mathlib.Omega.{arith}
 use lib.ListN.{getD, set, take, drop, length, replicate, length-append, length-replicate, length-set, length-reverse, length-drop, replicate-append-replicate}
-use lib.Dec.{T, eqb, leb, ltb}
-use Rattle.lists.specs.Lists.{any, All}
-use Rattle.table.specs.Table.{offsetOf, argAt}
+use Rattle.lists.specs.Lists.{All}
+use Rattle.table.specs.Table.{offsetOf}
 use Rattle.table.proofs.Accepted.{Kept}
-use Rattle.machine.specs.Value.{Value, empty, isEmpty}
-use Rattle.machine.specs.State.{Frame, Config, atPlace, withPending, withSlot, push, started}
+use Rattle.machine.specs.Value.{Value, empty}
+use Rattle.machine.specs.State.{Frame, Config, atPlace, withPending, push, started}
 use Rattle.machine.specs.Entry.{runs}
 use Rattle.machine.specs.Sound.{FrameSound}
 use Rattle.layout.specs.Layout.{padded, valueWords, headWords, frameValues, processWords}
-use Rattle.layout.proofs.Frames.{tagOf, numberOf, write, frame-slot-set, frame-pop, frame-push, frame-pending-get, frame-size}
+use Rattle.layout.proofs.Frames.{tagOf, numberOf, write, frame-slot-set, frame-pop, frame-pending-get, frame-size}
 use Rattle.layout.proofs.Process.{Fitting, headsBelow, valuesBelow, process-fitting, below-heads, below-values}
 use Rattle.layout.proofs.Whole.{whole, process-whole, whole-zeros, whole-count, whole-head, whole-value, whole-get, last-head-set, last-value-set, mid-set, mid-get}
 use Rattle.store.specs.declared.values.Val.{Val}
 use Rattle.store.specs.declared.head.Head.{Head}
-use Rattle.store.specs.Words.{valueAt, putValue, headAt, headOf, putTop, topAt, stepped, pushed, lessBy, emptyDown, moveOne, movedDown, clearedFrom}
+use Rattle.store.specs.Words.{valueAt, putValue, headAt, putTop, topAt, stepped, pushed, lessBy, moveOne, movedDown, clearedFrom}
 use Rattle.store.proofs.Cleared.{blank, blank-all, values-cleared, heads-cleared}
 use Rattle.ops.specs.Did.{none, frameAt, begun, opened, closed, handed}
 use Rattle.store.proofs.Vals.{valOf}

@@ -2,26 +2,26 @@
 -- at that op would do.
 use Prim.Native.Nat.{ℕ, zero, suc, _+_, _*_, _-_, _%_, _≤_, _<_}
 use mathlib.Core.Path.{_≡_, refl, sym, _∙_, ap, ap₂, subst, subst₂}
-use mathlib.Core.Logic.{_≢_, _⊎_, inl, inr, ⊎-elim}
-use mathlib.Core.Bool.{Bool, true, false, cond, not, _&&_, _||_, true≢false}
-use mathlib.Core.List.{List, [], _∷_, _++_, reverse}
+use mathlib.Core.Logic.{⊎-elim}
+use mathlib.Core.Bool.{Bool, true, false, cond, not, _||_, true≢false}
+use mathlib.Core.List.{List, [], _∷_, reverse}
 use native.Mathlib.Omega.{arith}
 use lib.IntN.{ℤ, pos, negsuc, _+ℤ_, _-ℤ_}
 use lib.Signed.{ltZ}
-use lib.ListN.{getD, set, take, drop, length}
+use lib.ListN.{getD, take, drop, length}
 use lib.Dec.{T, eqb, leb, ltb, ltb→lt, leb→le, leb·zero}
-use borrow.Author.Tests.{eq-eqb, ne-eqb, lt-ltb, le-ltb, le-leb, lt-leb, leb-true, leb-false, ltb-true, ltb-false, eqb-true}
+use borrow.Author.Tests.{ne-eqb, le-leb, lt-leb, leb-true, leb-false, ltb-true, ltb-false, eqb-true}
 use Rattle.lists.specs.Lists.{any, All}
 use Rattle.lists.proofs.Tests.{and-left, decide}
 use Rattle.table.specs.Table.{methods, offsetOf, returnOf, paramsOf, opAt, argAt, ownerOf, slotType}
-use Rattle.table.specs.Ops.{Op, opOf, ops, opInt, opBool, opGet, opPut, opDrop, opClear, opEnd, opJump, opJFalse, opArith, opCompare, opNot, opCall, opRet, returned, unlisted}
-use Rattle.table.specs.Reading.{takenAt, opThere}
+use Rattle.table.specs.Ops.{opOf, ops, opInt, opBool, opGet, opPut, opDrop, opClear, opEnd, opJump, opJFalse, opArith, opCompare, opNot, opCall, opRet, returned, unlisted}
+use Rattle.table.specs.Reading.{takenAt}
 use Rattle.table.proofs.Accepted.{Kept}
-use Rattle.table.proofs.Methods.{Inside, inside-bound, inside-owner}
+use Rattle.table.proofs.Methods.{inside-bound, inside-owner}
 use native.Mathlib.Nat.{le-of-suc-le, le-of-suc-le-suc, not-suc-le-zero}
-use Rattle.machine.specs.Value.{Thing, qubit, channel, end, Value, empty, int, bool, ref, isEmpty, inRange, signed16, word32, eqZ, sideNo, sideOf}
-use Rattle.machine.specs.State.{Frame, Process, Config, State, Event, atPlace, withPending, withSlot, push, started}
-use Rattle.machine.specs.Act.{Act, idle, stuck, faults, goes, ends, makes, forks, offers, At, asInt, asBool, present, pushes, onward, twoInts, result, doInt, doBool, doGet, doPut, doDrop, doClear, doEnd, doJump, doJFalse, doAdd, doSub, doEq, doLess, doNot, doCall, doRet, returnTo, doings, doingOf, passedBy, sceneOf, atFrame}
+use Rattle.machine.specs.Value.{qubit, channel, end, Value, empty, int, bool, ref, isEmpty, inRange, signed16, word32, eqZ, sideOf}
+use Rattle.machine.specs.State.{Frame, State, atPlace, withPending, withSlot, started}
+use Rattle.machine.specs.Act.{Act, idle, stuck, faults, goes, ends, makes, forks, offers, At, present, pushes, twoInts, result, doInt, doBool, doGet, doPut, doDrop, doClear, doEnd, doJump, doJFalse, doAdd, doSub, doEq, doLess, doNot, doCall, doRet, returnTo, doings, doingOf, passedBy, sceneOf, atFrame}
 use Rattle.machine.specs.Entry.{runs}
 use Rattle.machine.specs.Sound.{ValueSound, FrameSound}
 use Rattle.layout.specs.Layout.{valueWords, processWords}
@@ -29,11 +29,11 @@ use Rattle.layout.proofs.Frames.{tagOf, numberOf}
 use Rattle.store.specs.declared.values.Val.{Val}
 use Rattle.store.specs.declared.head.Head.{Head}
 use Rattle.store.specs.Words.{valueAt, slotAt, topAt, emptyDown}
-use Rattle.ops.specs.Did.{Did, did, none, intVal, boolVal, unlessEmpty, pushOn, onTop, dropTop, dropTo, overTwo, inSlot, signExtended, getOp, putOp, dropOp, endOp, targetOf, jumpOp, jfalseOp, biased, resultOp, emptyTwo, twoOp, addOp, subOp, bit, eqOp, lessOp, notOp, opened, callOp, closed, handed, retOp, intOp, boolOp, clearOp, noOp, opFunctions, actOp, stepOp}
+use Rattle.ops.specs.Did.{Did, did, none, intVal, boolVal, unlessEmpty, pushOn, onTop, dropTop, dropTo, overTwo, inSlot, signExtended, getOp, putOp, dropOp, endOp, targetOf, jumpOp, jfalseOp, biased, resultOp, emptyTwo, twoOp, addOp, subOp, bit, eqOp, lessOp, notOp, opened, callOp, closed, handed, retOp, intOp, boolOp, clearOp, opFunctions, actOp, stepOp}
 use Rattle.ops.proofs.Ints.{Shifted, sum-shifted, difference-shifted, less-same, words-same}
 use Rattle.ops.proofs.FramesOpened.{opened-words, closed-words, handed-words}
 use Rattle.store.proofs.Vals.{valOf}
-use Rattle.ops.proofs.Places.{head, head-is, words, slot-read, top-read, push-words, slot-words, drop-words, drop-to-words, move-words, top-words, two-words}
+use Rattle.ops.proofs.Places.{head, head-is, slot-read, top-read, push-words, slot-words, drop-words, drop-to-words, move-words, top-words, two-words}
 
 -- What an act within one process that writes no line leaves, as code and words; the root frame's return is left to the
 -- caller, as 113. No other act agrees with anything.

@@ -1,23 +1,21 @@
 -- What the reads and writes of the ops' functions find and leave in the words of a running process.
-use Prim.Native.Nat.{ℕ, zero, suc, _+_, _*_, _-_, _%_, _≤_, _<_}
-use mathlib.Core.Path.{_≡_, refl, sym, _∙_, ap, ap₂, subst}
-use mathlib.Core.List.{List, [], _∷_, _++_}
+use Prim.Native.Nat.{ℕ, suc, _+_, _*_, _-_, _%_, _<_}
+use mathlib.Core.Path.{_≡_, refl, sym, _∙_, ap, ap₂}
+use mathlib.Core.List.{List, [], _∷_}
 use native.Mathlib.Nat.{mod-eq-of-lt, add-zero, add-mod-right}
 use native.Mathlib.Omega.{arith}
-use lib.ListN.{getD, set, drop, length, length-set}
+use lib.ListN.{getD, set, length, length-set}
 use Rattle.lists.specs.Lists.{All}
-use Rattle.table.specs.Table.{methods, instructions, endOf}
 use Rattle.table.proofs.Accepted.{Kept}
 use Rattle.table.proofs.Methods.{end-within}
 use Rattle.machine.specs.Value.{Value, empty}
-use Rattle.machine.specs.State.{Frame, Process, Config, atPlace, withPending, withSlot, push}
+use Rattle.machine.specs.State.{Frame, Config, atPlace, withPending, withSlot, push}
 use Rattle.machine.specs.Act.{passedBy}
 use Rattle.machine.specs.Entry.{runs}
 use Rattle.machine.specs.Sound.{FrameSound}
-use Rattle.layout.specs.Layout.{padded, valueWords, headWords, frameValues, processWords}
+use Rattle.layout.specs.Layout.{valueWords, headWords, frameValues, processWords}
 use Rattle.layout.proofs.Frames.{tagOf, numberOf, write, frame-slot-get, frame-slot-set, frame-pending-get, frame-pending-set, frame-push, frame-pop}
 use Rattle.layout.proofs.Process.{part, Fitting, headsBelow, valuesBelow, process-part, process-fitting, part-count, part-status, part-fault, part-head-get, part-head-set, part-value-get, part-value-set}
-use Rattle.store.specs.declared.values.Val.{Val}
 use Rattle.store.specs.declared.head.Head.{Head}
 use Rattle.store.specs.Words.{valueAt, putValue, headAt, headOf, putTop, slotAt, topAt, movedTo, stepped, pushed, popped}
 use Rattle.store.proofs.Vals.{valOf}

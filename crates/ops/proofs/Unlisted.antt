@@ -2,7 +2,6 @@
 use Prim.Native.Nat.{ℕ, zero, suc}
 use mathlib.Core.Path.{_≡_, refl}
 use mathlib.Core.List.{List}
-use lib.ListN.{getD}
 use Rattle.store.specs.declared.head.Head.{Head}
 use Rattle.ops.specs.Did.{did, noOp, opFunctions, actOp}
 

@@ -1,6 +1,6 @@
 -- What the functions of the ops do to the words of a process's part. These definitions follow the code; that they are
 -- document 01's ops is proved in proofs/.
-use Prim.Native.Nat.{ℕ, zero, suc, _+_, _*_, _-_, _%_}
+use Prim.Native.Nat.{ℕ, _+_, _*_, _-_, _%_}
 use mathlib.Core.Bool.{Bool, true, false, cond, _||_}
 use mathlib.Core.List.{List, [], _∷_}
 use lib.ListN.{getD, set}

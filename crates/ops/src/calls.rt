@@ -1,7 +1,7 @@
 // CALL and RET.
 ghost use mathlib.Core.Path.{_≡_};
 ghost use Prim.Native.Nat.{_+_, _<_};
-ghost use Rattle.table.specs.Table.{paramsOf, returnOf, offsetOf};
+ghost use Rattle.table.specs.Table.{paramsOf, returnOf};
 ghost use lib.Dec.{eqb};
 ghost use Rattle.ops.specs.Did.{did, begun, opened, callOp, closed, handed, retOp};
 use store::blocks::any_empty;

@@ -1,7 +1,6 @@
 // JUMP and JFALSE.
 ghost use mathlib.Core.Path.{_≡_};
-ghost use Prim.Native.Nat.{_<_};
-ghost use Rattle.ops.specs.Did.{did, none, targetOf, dropTo, jumpOp, jfalseOp};
+ghost use Rattle.ops.specs.Did.{did, targetOf, dropTo, jumpOp, jfalseOp};
 use super::moves::discard;
 use store::head::Head;
 use store::head::put_top;

@@ -1,6 +1,6 @@
 // Values pushed, taken and stored. Each function that can fault answers 20 and changes nothing, or 0.
 ghost use mathlib.Core.Path.{_≡_};
-ghost use Rattle.ops.specs.Did.{did, none, pushOn, onTop, dropTop, overTwo, inSlot, signExtended, intOp, boolOp, clearOp, getOp, putOp, dropOp, endOp};
+ghost use Rattle.ops.specs.Did.{did, pushOn, onTop, dropTop, overTwo, inSlot, signExtended, intOp, boolOp, clearOp, getOp, putOp, dropOp, endOp};
 use store::head::Head;
 use store::head::put_top;
 use store::values::Val;

@@ -2,8 +2,6 @@
 // negative, so that sums and differences are taken in 64 bits with one test of range.
 ghost use mathlib.Core.Path.{_≡_};
 ghost use Prim.Native.Nat.{_+_, _-_, _<_};
-ghost use lib.Dec.{eqb, ltb};
-ghost use mathlib.Core.Bool.{Bool};
 ghost use Rattle.store.specs.Words.{valueAt, topAt};
 ghost use Rattle.ops.specs.Did.{did, boolVal, bit, biased, emptyTwo, resultOp, addOp, subOp, eqOp, lessOp, notOp};
 use super::moves::replace;

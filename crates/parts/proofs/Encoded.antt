@@ -5,7 +5,7 @@ use mathlib.Core.List.{List, [], _∷_, _++_, map, flatten, append-assoc, append
 use native.Mathlib.Nat.{le-of-suc-le-suc, not-suc-le-zero, mul-suc}
 use native.Mathlib.Omega.{arith}
 use lib.ListN.{getD, set, replicate, take, drop, length, length-append, length-map, length-set, length-replicate, replicate-append-replicate}
-use lib.Seq.{take-at, drop-at, drop-drop, take-append-le, take-append-add, drop-append-add, drop-append-le, take-take}
+use lib.Seq.{take-at, drop-at, drop-drop, take-append-add, drop-append-add}
 use Rattle.lists.specs.Lists.{All}
 use Rattle.lists.proofs.Any.{All-map, All-implies, All-set, All-append}
 use Rattle.machine.specs.State.{Process, Config, processAt, setProcess, unmade}
@@ -14,9 +14,8 @@ use Rattle.machine.specs.Entry.{counted, joined}
 use Rattle.machine.specs.Sound.{ProcessSound, ConfigSound}
 use Rattle.layout.specs.Layout.{padded, processWords, encode}
 use Rattle.layout.proofs.Groups.{padded-length, flatten-length}
-use Rattle.layout.proofs.RoundTrip.{process-length, encode-length}
-use Rattle.ops.specs.Did.{Did, did}
-use Rattle.parts.specs.Parts.{partAt, partOf, withPart, onPart}
+use Rattle.layout.proofs.RoundTrip.{process-length}
+use Rattle.parts.specs.Parts.{partAt, partOf, withPart}
 
 -- groups of equal size
 

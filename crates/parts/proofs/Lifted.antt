@@ -1,12 +1,11 @@
 -- One law lifts whatever is done to a lent part to the store.
 use Prim.Native.Nat.{ℕ, _+_, _*_, _-_}
-use mathlib.Core.Path.{_≡_, refl, sym, _∙_, ap, ap₂}
-use mathlib.Core.List.{List, _++_}
+use mathlib.Core.Path.{_≡_, _∙_, ap}
+use mathlib.Core.List.{List}
 use native.Mathlib.Omega.{arith}
-use lib.ListN.{take, drop}
 use borrow.Rule.Slice.PartMut.{midOf, putMid}
 use Rattle.ops.specs.Did.{Did, did}
-use Rattle.parts.specs.Parts.{partAt, partOf, withPart, onPart}
+use Rattle.parts.specs.Parts.{partOf, withPart, onPart}
 
 size : (a : ℕ) → a + 512 - a ≡ 512
 size a = omega arith

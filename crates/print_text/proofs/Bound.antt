@@ -5,11 +5,11 @@ use mathlib.Core.List.{List}
 use native.Mathlib.Omega.{arith}
 use lib.ListN.{length, length-append}
 use Rattle.lists.proofs.Tests.{cond-both}
-use Rattle.machine.specs.State.{Line, State}
-use Rattle.machine.specs.Run.{Result, run}
+use Rattle.machine.specs.State.{Line}
+use Rattle.machine.specs.Run.{run}
 use Rattle.machine.specs.Answer.{Answer, refusal, ran, answerOf}
 use Rattle.text.specs.Text.{refusedWord, endWord, wellBuilt, wordsOf, partOf, refusedText, answerText, runText, printed}
-use Rattle.printing.proofs.PutLaws.{putBytes-length}
+use Rattle.lists.proofs.Put.{putFrom-length}
 use Rattle.printing.proofs.Texts.{spaced-length}
 use Rattle.printing.proofs.TraceText.{linesText-length}
 use Rattle.print_text.proofs.Fitting.{lines-fit}
@@ -44,4 +44,4 @@ printed-length bytes =
 -- so a buffer of 524,288 bytes holds it
 pub text-fits : (bytes out : List ℕ) {out' : List ℕ} {r : ℕ} → length out ≡ 524288 → Prints out (printed bytes) out' r → r ≤ length out'
 text-fits bytes out h (p, q) =
-    omega (arith, h, q, printed-length bytes, ap length p, putBytes-length out 0 (printed bytes))
+    omega (arith, h, q, printed-length bytes, ap length p, putFrom-length out 0 (printed bytes))

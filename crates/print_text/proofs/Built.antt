@@ -8,9 +8,9 @@ use borrow.Author.Tests.{eqb-true, leb-true}
 use lib.Dec.{eqb, leb}
 use lib.ListN.{take, drop, length}
 use Rattle.text.specs.Text.{offsetAt, lengthAt, wellBuilt, wordsOf, partOf, refusedText, runText, printed}
-use Rattle.printing.specs.Put.{putBytes}
-use Rattle.printing.proofs.PutLaws.{putBytes-length, putBytes-take}
-use Rattle.printing.proofs.FileLaws.{wordsOf-length, part-length}
+use Rattle.lists.specs.Lists.{putFrom}
+use Rattle.lists.proofs.Put.{putFrom-length, putFrom-take}
+use Rattle.input.proofs.FileLaws.{wordsOf-length, part-length}
 
 -- "adjacent from byte 24 to the file's end"
 pub record Built (bytes : List ℕ) : Type 0 where
@@ -56,15 +56,15 @@ module _ (bytes : List ℕ) (b : Built bytes) where
     few : length words ≤ 32768
     few = omega (arith, wordsOf-length (take size (drop from bytes)), part-length bytes from size, b .short)
 
-    pub words-fit : {n : ℕ} {left : List ℕ} → left ≡ putBytes buffer 0 words → n ≡ length words → n ≤ length left
-    words-fit e f = omega (arith, few, room, f, ap length e, putBytes-length buffer 0 words)
+    pub words-fit : {n : ℕ} {left : List ℕ} → left ≡ putFrom buffer 0 words → n ≡ length words → n ≤ length left
+    words-fit e f = omega (arith, few, room, f, ap length e, putFrom-length buffer 0 words)
 
-    pub words-read : {n : ℕ} {left : List ℕ} → left ≡ putBytes buffer 0 words → n ≡ length words
+    pub words-read : {n : ℕ} {left : List ℕ} → left ≡ putFrom buffer 0 words → n ≡ length words
         → from ≡ offsetAt bytes 0 → size ≡ lengthAt bytes 0 → take n left ≡ wordsOf (partOf bytes 0)
     unfolding partOf
     words-read {n} {left} e f p q =
         ap₂ (λ (k : ℕ) (l : List ℕ). take k l) {x = n} {y = 0 + length words} (omega (arith, f)) e
-        ∙ putBytes-take buffer 0 words (omega (arith, few, room))
+        ∙ putFrom-take buffer 0 words (omega (arith, few, room))
         ∙ ap₂ (λ (i k : ℕ). wordsOf (take k (drop i bytes))) p q
 
   pub schedule-read : {a e : ℕ} → a ≡ offsetAt bytes 1 → e ≡ offsetAt bytes 2 → take (e - a) (drop a bytes) ≡ partOf bytes 1

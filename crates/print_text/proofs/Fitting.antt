@@ -9,13 +9,13 @@ use lib.ListN.{take, drop, length, length-append}
 use lib.Seq.{ext-getD, getD-take, length-take-le}
 use Rattle.lists.proofs.Tests.{cond-both, cond-each}
 use Rattle.machine.specs.State.{Line, State, start}
-use Rattle.machine.specs.Entry.{Effect, effectOf}
+use Rattle.machine.specs.Entry.{effectOf}
 use Rattle.machine.specs.Owner.{noLine}
 use Rattle.machine.specs.Run.{Result, allOver, noneAble, fits, afterEffect, runFrom, run}
 use Rattle.machine.specs.Answer.{traceWords, traceAfter}
 use Rattle.trace.specs.Trace.{linesOf}
 use Rattle.trace.proofs.LinesOf.{linesOf-length, linesOf-at}
-use Rattle.trace.proofs.LineWritten.{trace-length}
+use Rattle.lines.proofs.LineWritten.{trace-length}
 use Rattle.holders.proofs.Holding.{trace-line}
 
 -- the lines behind an entry that fits

@@ -5,28 +5,29 @@ use mathlib.Core.List.{List, _++_, append-assoc}
 use native.Mathlib.Omega.{arith}
 use lib.ListN.{take, length}
 use Rattle.table.specs.Questions.{Verdict, accepted, refused, questions}
-use Rattle.machine.specs.State.{Line, State}
+use Rattle.machine.specs.State.{Line}
 use Rattle.machine.specs.Run.{Result, run}
 use Rattle.machine.specs.Answer.{Answer, ran, answered, answerOf, linesIn, traceAfter}
 use Rattle.machine.specs.Answer as machine
 use Rattle.trace.specs.Trace.{linesOf}
 use Rattle.text.specs.Text.{linesText, answerText, runText}
-use Rattle.printing.specs.Put.{putBytes, endText}
-use Rattle.printing.proofs.PutLaws.{Put}
+use Rattle.lists.specs.Lists.{putFrom}
+use Rattle.printing.specs.Texts.{endText}
+use Rattle.lists.proofs.Put.{Put}
 use Rattle.run.specs.Answers.{unlessRefused, traceLeft}
 use Rattle.run.specs.Answers.{linesNo}
 use Rattle.print_text.proofs.Fitting.{lines-fit, lines-held, lines-read}
 
 -- what a function here ensures: this text is put from the buffer's start, and the answer is its length
 abbrev pub Prints : List ℕ → List ℕ → List ℕ → ℕ → Type 0
-Prints out text out' r = (out' ≡ putBytes out 0 text) × (r ≡ length text)
+Prints out text out' r = (out' ≡ putFrom out 0 text) × (r ≡ length text)
 
 pub from-start : (out text : List ℕ) {out' : List ℕ} {r : ℕ} → Put out 0 text out' r → Prints out text out' r
 from-start out text (p, q) = (p, omega (arith, q))
 
 -- the same text under another name
 pub prints-same : (out : List ℕ) {xs ys out' : List ℕ} {r : ℕ} → xs ≡ ys → Prints out xs out' r → Prints out ys out' r
-prints-same out e (p, q) = (p ∙ ap (putBytes out 0) e, q ∙ ap length e)
+prints-same out e (p, q) = (p ∙ ap (putFrom out 0) e, q ∙ ap length e)
 
 pub ran-text : (ls : List Line) (e k l o : ℕ) → linesText ls ++ endText e k l o ≡ answerText ls (ran e k l o)
 unfolding endText answerText

@@ -5,13 +5,13 @@ ghost use lib.ListN.{length, take};
 ghost use Rattle.machine.specs.Answer.{ran};
 ghost use Rattle.trace.specs.Trace.{linesOf};
 ghost use Rattle.text.specs.Text.{answerText};
-ghost use Rattle.printing.specs.Put.{putBytes};
+ghost use Rattle.lists.specs.Lists.{putFrom};
 ghost use Rattle.run.specs.Answers.{answered};
 ghost use Rattle.run.specs.Answers.{linesNo};
-use printing::lines::put_lines;
+use printing::traces::put_lines;
 use printing::writing::put_end;
 use printing::writing::put_refused;
-use run::answer::Answer;
+use run::Answer;
 
 // The lines and the last line.
 fn put_ended(
@@ -24,7 +24,7 @@ fn put_ended(
 ) -> usize
     requires { ⌜ (lines ≤ length (linesOf (now trace))) × (126 * lines < 4294967296) ⌝ }
     ensures { λ r. ⌜
-        (now (out .exit) ≡ putBytes (now (out .entry)) 0 (answerText (take lines (linesOf (now (trace .entry)))) (ran end entries lines outcomes)))
+        (now (out .exit) ≡ putFrom (now (out .entry)) 0 (answerText (take lines (linesOf (now (trace .entry)))) (ran end entries lines outcomes)))
         × (r ≡ length (answerText (take lines (linesOf (now (trace .entry)))) (ran end entries lines outcomes))) ⌝ }
 {
     let at = put_lines(out, 0, trace, lines);
@@ -35,7 +35,7 @@ fn put_ended(
 pub fn put_answer(out: &mut [u8], a: Answer, trace: &[u16]) -> usize
     requires { ⌜ (linesNo (answered a) ≤ length (linesOf (now trace))) × (126 * linesNo (answered a) < 4294967296) ⌝ }
     ensures { λ r. ⌜
-        (now (out .exit) ≡ putBytes (now (out .entry)) 0 (answerText (take (linesNo (answered a)) (linesOf (now (trace .entry)))) (answered a)))
+        (now (out .exit) ≡ putFrom (now (out .entry)) 0 (answerText (take (linesNo (answered a)) (linesOf (now (trace .entry)))) (answered a)))
         × (r ≡ length (answerText (take (linesNo (answered a)) (linesOf (now (trace .entry)))) (answered a))) ⌝ }
 {
     match a {

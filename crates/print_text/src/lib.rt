@@ -7,18 +7,18 @@ ghost use mathlib.Core.Path.{_≡_};
 ghost use mathlib.Core.Bool.{true};
 ghost use lib.ListN.{length};
 ghost use Rattle.text.specs.Text.{wellBuilt, wordsOf, partOf, runText, printed};
-ghost use Rattle.printing.specs.Put.{putBytes};
+ghost use Rattle.lists.specs.Lists.{putFrom};
 use answer::put_answer;
-use printing::file::number_at;
-use printing::file::put_words;
-use printing::file::well_built;
+use input::number_at;
+use input::put_words;
+use input::well_built;
 use printing::writing::put_refused;
-use run::answer::run;
+use run::run;
 
 // "Its trace holds 4,096 lines." The work store has the 8,192 words that a run asks for.
 fn put_run(program: &[u16], schedule: &[u8], outcomes: &[u8], out: &mut [u8]) -> usize
     ensures { λ r. ⌜
-        (now (out .exit) ≡ putBytes (now (out .entry)) 0 (runText (now (program .entry)) (now (schedule .entry)) (now (outcomes .entry))))
+        (now (out .exit) ≡ putFrom (now (out .entry)) 0 (runText (now (program .entry)) (now (schedule .entry)) (now (outcomes .entry))))
         × (r ≡ length (runText (now (program .entry)) (now (schedule .entry)) (now (outcomes .entry)))) ⌝ }
 {
     let mut trace = [0u16; 24576];
@@ -31,7 +31,7 @@ fn put_run(program: &[u16], schedule: &[u8], outcomes: &[u8], out: &mut [u8]) ->
 fn put_parts(file: &[u8], out: &mut [u8]) -> usize
     requires { ⌜ wellBuilt (now file) ≡ true ⌝ }
     ensures { λ r. ⌜
-        (now (out .exit) ≡ putBytes (now (out .entry)) 0 (runText (wordsOf (partOf (now (file .entry)) 0)) (partOf (now (file .entry)) 1) (partOf (now (file .entry)) 2)))
+        (now (out .exit) ≡ putFrom (now (out .entry)) 0 (runText (wordsOf (partOf (now (file .entry)) 0)) (partOf (now (file .entry)) 1) (partOf (now (file .entry)) 2)))
         × (r ≡ length (runText (wordsOf (partOf (now (file .entry)) 0)) (partOf (now (file .entry)) 1) (partOf (now (file .entry)) 2))) ⌝ }
 {
     let mut words = [0u16; 32768];
@@ -47,7 +47,7 @@ fn put_parts(file: &[u8], out: &mut [u8]) -> usize
 // "A file otherwise built, longer, or with an odd program length prints "refused 9 0"".
 pub fn print_text(file: &[u8], out: &mut [u8]) -> usize
     ensures { λ r. ⌜
-        (now (out .exit) ≡ putBytes (now (out .entry)) 0 (printed (now (file .entry))))
+        (now (out .exit) ≡ putFrom (now (out .entry)) 0 (printed (now (file .entry))))
         × (r ≡ length (printed (now (file .entry)))) ⌝ }
 {
     if !well_built(file) {

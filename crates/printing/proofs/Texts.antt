@@ -1,5 +1,5 @@
 -- The texts that are put: how long they can be, a line's halves, and the columns that a kind of line uses.
-use Prim.Native.Nat.{ℕ, zero, suc, _+_, _≤_}
+use Prim.Native.Nat.{ℕ, zero, suc, _≤_}
 use mathlib.Core.Path.{_≡_, refl}
 use mathlib.Core.Bool.{Bool, true, false, cond, _&&_}
 use mathlib.Core.List.{List, [], _∷_, _++_, append-assoc}
@@ -8,10 +8,10 @@ use borrow.Author.Tests.{ne-eqb}
 use lib.Dec.{eqb, leb, ltb}
 use lib.ListN.{getD, length, length-append}
 use Rattle.machine.specs.State.{Line}
-use Rattle.trace.specs.declared.lines.TraceLine.{TraceLine}
+use Rattle.lines.specs.declared.TraceLine.{TraceLine}
 use Rattle.trace.specs.Read.{asLine}
-use Rattle.text.specs.Text.{decimal, spaced, column, columnsUsed, lineText}
-use Rattle.printing.specs.Put.{headText, columnsText}
+use Rattle.text.specs.Text.{spaced, column, columnsUsed, lineText}
+use Rattle.printing.specs.Texts.{headText, columnsText}
 use Rattle.printing.proofs.Decimal.{decimal-length}
 
 -- how long they can be

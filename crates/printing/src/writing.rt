@@ -6,12 +6,13 @@ ghost use Prim.Native.Nat.{_+_, _<_};
 ghost use lib.ListN.{length};
 ghost use Rattle.trace.specs.Read.{asLine};
 ghost use Rattle.text.specs.Text.{decimal, spaced, column, columnsUsed, lineText, refusedWord, refusedText};
-ghost use Rattle.printing.specs.Put.{putBytes, headText, columnsText, endText};
-use trace::lines::TraceLine;
+ghost use Rattle.lists.specs.Lists.{putFrom};
+ghost use Rattle.printing.specs.Texts.{headText, columnsText, endText};
+use lines::TraceLine;
 
 fn put_byte(out: &mut [u8], at: usize, b: u8) -> usize
     requires { ⌜ at < 9000000000 ⌝ }
-    ensures { λ r. ⌜ (now (out .exit) ≡ putBytes (now (out .entry)) at (b ∷ [])) × (r ≡ at + length (b ∷ [])) ⌝ }
+    ensures { λ r. ⌜ (now (out .exit) ≡ putFrom (now (out .entry)) at (b ∷ [])) × (r ≡ at + length (b ∷ [])) ⌝ }
 {
     if at < out.len() {
         out[at] = b;
@@ -23,7 +24,7 @@ fn put_byte(out: &mut [u8], at: usize, b: u8) -> usize
 // The digits before the last one first: at most 20 calls deep.
 pub fn put_number(out: &mut [u8], at: usize, n: u64) -> usize
     requires { ⌜ at < 8000000000 ⌝ }
-    ensures { λ r. ⌜ (now (out .exit) ≡ putBytes (now (out .entry)) at (decimal n)) × (r ≡ at + length (decimal n)) ⌝ }
+    ensures { λ r. ⌜ (now (out .exit) ≡ putFrom (now (out .entry)) at (decimal n)) × (r ≡ at + length (decimal n)) ⌝ }
 {
     if n < 10 {
         return put_byte(out, at, 48 + (n as u8));
@@ -35,7 +36,7 @@ pub fn put_number(out: &mut [u8], at: usize, n: u64) -> usize
 // A blank and a number.
 pub fn put_spaced(out: &mut [u8], at: usize, n: u64) -> usize
     requires { ⌜ at < 7000000000 ⌝ }
-    ensures { λ r. ⌜ (now (out .exit) ≡ putBytes (now (out .entry)) at (spaced n)) × (r ≡ at + length (spaced n)) ⌝ }
+    ensures { λ r. ⌜ (now (out .exit) ≡ putFrom (now (out .entry)) at (spaced n)) × (r ≡ at + length (spaced n)) ⌝ }
 {
     let i = put_byte(out, at, b' ');
     put_number(out, i, n)
@@ -45,7 +46,7 @@ pub fn put_spaced(out: &mut [u8], at: usize, n: u64) -> usize
 pub fn put_column(out: &mut [u8], at: usize, used: bool, n: u64) -> usize
     requires { ⌜ at < 6000000000 ⌝ }
     ensures { λ r. ⌜
-        (now (out .exit) ≡ putBytes (now (out .entry)) at (column used n))
+        (now (out .exit) ≡ putFrom (now (out .entry)) at (column used n))
         × (r ≡ at + length (column used n)) ⌝ }
 {
     if used {
@@ -59,7 +60,7 @@ pub fn put_column(out: &mut [u8], at: usize, used: bool, n: u64) -> usize
 fn put_head(out: &mut [u8], at: usize, l: TraceLine) -> usize
     requires { ⌜ at < 5000000000 ⌝ }
     ensures { λ r. ⌜
-        (now (out .exit) ≡ putBytes (now (out .entry)) at (headText l))
+        (now (out .exit) ≡ putFrom (now (out .entry)) at (headText l))
         × (r ≡ at + length (headText l)) ⌝ }
 {
     let i = put_number(out, at, l.entry as u64);
@@ -71,7 +72,7 @@ fn put_head(out: &mut [u8], at: usize, l: TraceLine) -> usize
 fn put_columns(out: &mut [u8], at: usize, used: u16, l: TraceLine) -> usize
     requires { ⌜ at < 5000000000 ⌝ }
     ensures { λ r. ⌜
-        (now (out .exit) ≡ putBytes (now (out .entry)) at (columnsText used l))
+        (now (out .exit) ≡ putFrom (now (out .entry)) at (columnsText used l))
         × (r ≡ at + length (columnsText used l)) ⌝ }
 {
     let i = put_column(out, at, 0 < used, l.a as u64);
@@ -98,7 +99,7 @@ pub fn columns_used(l: TraceLine) -> u16
 pub fn put_line(out: &mut [u8], at: usize, l: TraceLine) -> usize
     requires { ⌜ at < 4294967296 ⌝ }
     ensures { λ r. ⌜
-        (now (out .exit) ≡ putBytes (now (out .entry)) at (lineText (asLine l)))
+        (now (out .exit) ≡ putFrom (now (out .entry)) at (lineText (asLine l)))
         × (r ≡ at + length (lineText (asLine l))) ⌝ }
 {
     let i = put_head(out, at, l);
@@ -109,7 +110,7 @@ pub fn put_line(out: &mut [u8], at: usize, l: TraceLine) -> usize
 fn put_three(out: &mut [u8], at: usize, x: u8, y: u8, z: u8) -> usize
     requires { ⌜ at < 8000000000 ⌝ }
     ensures { λ r. ⌜
-        (now (out .exit) ≡ putBytes (now (out .entry)) at (x ∷ y ∷ z ∷ []))
+        (now (out .exit) ≡ putFrom (now (out .entry)) at (x ∷ y ∷ z ∷ []))
         × (r ≡ at + length (x ∷ y ∷ z ∷ [])) ⌝ }
 {
     let i = put_byte(out, at, x);
@@ -120,7 +121,7 @@ fn put_three(out: &mut [u8], at: usize, x: u8, y: u8, z: u8) -> usize
 // "refused"
 fn put_refused_word(out: &mut [u8], at: usize) -> usize
     requires { ⌜ at < 5000000000 ⌝ }
-    ensures { λ r. ⌜ (now (out .exit) ≡ putBytes (now (out .entry)) at refusedWord) × (r ≡ at + length refusedWord) ⌝ }
+    ensures { λ r. ⌜ (now (out .exit) ≡ putFrom (now (out .entry)) at refusedWord) × (r ≡ at + length refusedWord) ⌝ }
 {
     let i = put_three(out, at, b'r', b'e', b'f');
     let j = put_three(out, i, b'u', b's', b'e');
@@ -131,7 +132,7 @@ fn put_refused_word(out: &mut [u8], at: usize) -> usize
 pub fn put_refused(out: &mut [u8], at: usize, n: u64, place: u64) -> usize
     requires { ⌜ at < 4294967296 ⌝ }
     ensures { λ r. ⌜
-        (now (out .exit) ≡ putBytes (now (out .entry)) at (refusedText n place))
+        (now (out .exit) ≡ putFrom (now (out .entry)) at (refusedText n place))
         × (r ≡ at + length (refusedText n place)) ⌝ }
 {
     let i = put_refused_word(out, at);
@@ -144,7 +145,7 @@ pub fn put_refused(out: &mut [u8], at: usize, n: u64, place: u64) -> usize
 pub fn put_end(out: &mut [u8], at: usize, e: u64, k: u64, l: u64, o: u64) -> usize
     requires { ⌜ at < 4294967296 ⌝ }
     ensures { λ r. ⌜
-        (now (out .exit) ≡ putBytes (now (out .entry)) at (endText e k l o))
+        (now (out .exit) ≡ putFrom (now (out .entry)) at (endText e k l o))
         × (r ≡ at + length (endText e k l o)) ⌝ }
 {
     let i0 = put_three(out, at, b'e', b'n', b'd');

@@ -5,6 +5,7 @@ ghost use Rattle.table.specs.Ops.{opOf};
 ghost use Rattle.table.specs.Reading.{reads};
 ghost use Rattle.reading.specs.Pending.{Held, outcome};
 ghost use Rattle.reading.specs.ReadOn.{readOn, Before, Passed};
+
 mod pending;
 mod steps;
 

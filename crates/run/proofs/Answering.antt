@@ -1,22 +1,25 @@
 -- The answer and the buffers at the end of `run`, from the questions' verdict and from what an accepted run leaves.
-use Prim.Native.Nat.{ℕ, zero, suc}
+use Prim.Native.Nat.{ℕ}
 use mathlib.Core.Path.{_≡_, refl, sym, _∙_, ap}
 use mathlib.Core.List.{List}
 use native.Mathlib.Omega.{arith}
 use lib.ListN.{length}
 use Rattle.table.specs.Questions.{Verdict, accepted, refused, questions}
-use Rattle.machine.specs.State.{State}
-use Rattle.machine.specs.Run.{Result, run}
+use Rattle.machine.specs.Run.{run}
 use Rattle.machine.specs.Answer.{refusal, ran, answered, answerOf, linesIn, traceAfter}
 use Rattle.machine.specs.Answer as machine
 use Rattle.layout.specs.Layout.{storeAfter}
 use Rattle.questions.specs.declared.Check.{Check}
 use Rattle.questions.specs.declared.Check.the-variants.{Accepted, Sizes, Pairs, Rows, Instruction, Reading, Outcome, Schedule, Work}
 use Rattle.questions.specs.Check.{verdictOf}
-use Rattle.run.specs.declared.answer.Refusal.{Refusal}
-use Rattle.run.specs.declared.turns.Over.{Over}
-use Rattle.run.specs.Left.{Left, leftAs, leaves}
+use Rattle.run.specs.declared.Refusal.{Refusal}
+use Rattle.schedule.specs.declared.rounds.Over.{Over}
+use Rattle.schedule.specs.Left.{Left, leftAs, leaves}
 use Rattle.run.specs.Answers.{refusalOf, unlessRefused, traceLeft, storeLeft}
+
+-- the number and place of a case of the check's
+pub refused-as : (a k : Check) {r : Refusal} → a ≡ k → r ≡ refusalOf (verdictOf k) → r ≡ refusalOf (verdictOf a)
+refused-as a k e q = q ∙ ap (λ (x : Check). refusalOf (verdictOf x)) (sym e)
 
 -- only acceptance has the number 0
 number-zero : (c : Check) → refusalOf (verdictOf c) .number ≡ 0 → verdictOf c ≡ accepted

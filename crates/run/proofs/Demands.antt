@@ -1,16 +1,15 @@
 -- The three demands, of what `run` leaves in the lent trace and the lent work store. Its contract (src/answer.rt) says that
 -- its answer is `answerOf`, the trace `traceLeft` and the store `storeLeft`; here is what follows, for any inputs.
-use Prim.Native.Nat.{ℕ, zero, suc, _+_, _*_, _≤_, _<_}
-use mathlib.Core.Path.{_≡_, refl, sym, _∙_, ap, ap₂, subst, subst₂}
-use mathlib.Core.Logic.{_≢_, _⊎_, inl, inr}
-use mathlib.Core.Bool.{Bool, true, false, cond}
+use Prim.Native.Nat.{ℕ, suc, _*_, _≤_, _<_}
+use mathlib.Core.Path.{_≡_, refl, sym, _∙_, ap, ap₂, subst₂}
+use mathlib.Core.Logic.{_≢_}
 use mathlib.Core.List.{List, [], _∷_, _++_}
 use native.Mathlib.Omega.{arith}
 use lib.ListN.{take, drop, length}
 use lib.Seq.{take-at, drop-at}
 use Rattle.lists.proofs.Tests.{cond-both}
 use Rattle.table.specs.Questions.{Verdict, accepted, refused, questions}
-use Rattle.machine.specs.State.{Config, Line, State, processAt, stopped}
+use Rattle.machine.specs.State.{Line, State, processAt, stopped}
 use Rattle.machine.specs.Act.{actOf, faults}
 use Rattle.machine.specs.Entry.{effectOf, applied}
 use Rattle.machine.specs.Run.{Result, allOver, noneAble, fits, afterEffect, runFrom, run}
@@ -23,9 +22,9 @@ use Rattle.machine.proofs.Sound.{sound}
 use Rattle.layout.specs.Layout.{encode, storeAfter, decode}
 use Rattle.layout.proofs.RoundTrip.{encode-length, run-back}
 use Rattle.trace.specs.Trace.{linesOf}
-use Rattle.trace.proofs.LineWritten.{trace-length}
+use Rattle.lines.proofs.LineWritten.{trace-length}
 use Rattle.run.specs.Answers.{unlessRefused, traceLeft, storeLeft, linesNo, configRead, linesRead}
-use Rattle.run.proofs.Accepting.{table-kept, outcomes-small, shorter-accepted}
+use Rattle.schedule.proofs.Accepting.{table-kept, outcomes-small, shorter-accepted}
 
 lines-back : (ls : List Line) → linesOf (traceWords ls) ≡ ls
 unfolding linesOf traceWords lineWords

@@ -1,10 +1,2 @@
-pub mod Knowing
-pub mod Steps
-pub mod Returns
-pub mod Modest
-pub mod Ready
-pub mod Began
-pub mod Accepting
-pub mod Turning
 pub mod Answering
 pub mod Demands

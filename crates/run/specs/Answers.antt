@@ -3,15 +3,15 @@ use Prim.Native.Nat.{ℕ, _*_}
 use mathlib.Core.List.{List}
 use lib.ListN.{take, length}
 use Rattle.table.specs.Questions.{Verdict, accepted, refused, questions}
-use Rattle.machine.specs.State.{Config, Line, State}
-use Rattle.machine.specs.Run.{Result, run}
+use Rattle.machine.specs.State.{Config, Line}
+use Rattle.machine.specs.Run.{run}
 use Rattle.machine.specs.Answer.{refusal, ran, answerOf, linesIn, traceAfter}
 use Rattle.machine.specs.Answer as machine
 use Rattle.layout.specs.Layout.{storeAfter, decode}
 use Rattle.trace.specs.Trace.{linesOf}
-use Rattle.run.specs.declared.answer.Answer.{Answer}
-use Rattle.run.specs.declared.answer.Answer.the-variants.{Refused, Ran}
-use Rattle.run.specs.declared.answer.Refusal.{Refusal}
+use Rattle.run.specs.declared.Answer.{Answer}
+use Rattle.run.specs.declared.Answer.the-variants.{Refused, Ran}
+use Rattle.run.specs.declared.Refusal.{Refusal}
 
 -- "A refusal gives number and place"; "A run answers end, entries used (idle ones too), lines written, outcomes used."
 unfoldable pub answered : Answer → machine.Answer

@@ -1,6 +1,1 @@
-pub mod Begun
-pub mod Knowing
-pub mod Bursts
-pub mod Turned
-pub mod Left
 pub mod Answers

@@ -1,11 +1,11 @@
 -- Words cleared at the end of the heads or of the values of a process.
-use Prim.Native.Nat.{ℕ, zero, suc, _+_, _*_, _-_, _≤_, _<_}
-use mathlib.Core.Path.{_≡_, refl, sym, _∙_, ap, ap₂, subst}
-use mathlib.Core.List.{List, [], _∷_, _++_, append-nil}
-use native.Mathlib.Nat.{le-of-suc-le, add-assoc}
+use Prim.Native.Nat.{ℕ, zero, suc, _+_, _≤_, _<_}
+use mathlib.Core.Path.{_≡_, _∙_, ap, ap₂}
+use mathlib.Core.List.{List, _++_, append-nil}
+use native.Mathlib.Nat.{le-of-suc-le}
 use native.Mathlib.Numerals.{add-one}
 use native.Mathlib.Omega.{arith}
-use lib.ListN.{getD, set, drop, length, replicate, length-append, length-drop, length-replicate, drop-of-length-le}
+use lib.ListN.{set, drop, length, replicate, length-append, length-drop, length-replicate, drop-of-length-le}
 use borrow.Author.Fill.{fill-none, fill-more}
 use Rattle.layout.proofs.Whole.{whole, last-head-set, last-value-set}
 use Rattle.store.specs.Words.{clearedFrom}

@@ -1,26 +1,24 @@
 -- Giving a thing away empties, in the words of a process, just the values that the definitions empty.
 use Prim.Native.Nat.{ℕ, zero, suc, _+_, _*_, _-_, _≤_, _<_}
 use mathlib.Core.Path.{_≡_, refl, sym, _∙_, ap, ap₂, subst}
-use mathlib.Core.Bool.{Bool, true, false, cond, _&&_, _||_, Bool·beq}
-use mathlib.Core.List.{List, [], _∷_, _++_, map, reverse, flatten, append-assoc, append-nil, reverse-append, reverse-cons}
+use mathlib.Core.Bool.{Bool, true, false, cond, _&&_, _||_}
+use mathlib.Core.List.{List, [], _∷_, _++_, map, reverse, flatten, append-nil, reverse-cons}
 use native.Mathlib.Nat.{le-of-suc-le-suc, not-suc-le-zero, le-of-suc-le}
 use native.Mathlib.Omega.{arith}
 use lib.ListN.{getD, set, take, drop, length, replicate, length-append, length-map, length-reverse, length-replicate, length-drop, length-set, List·getD-append}
 use lib.Seq.{length-take-le, take-length, drop-length, set-append-left, set-getD}
 use Rattle.layout.proofs.Padded.{set-behind, get-behind}
-use lib.Dec.{T, eqb, leb}
+use lib.Dec.{eqb}
 use borrow.Author.Tests.{eqb-true, eqb-false, eq-eqb, ne-eqb}
-use Rattle.lists.specs.Lists.{any, All}
+use Rattle.lists.specs.Lists.{All}
 use Rattle.lists.proofs.Any.{All-reverse}
 use Rattle.layout.proofs.Groups.{padded-length, flatten-length}
 use Rattle.layout.proofs.RoundTrip.{head-lengths}
 use Rattle.machine.specs.Value.{Thing, qubit, channel, end, Value, empty, int, bool, ref, covers, word32}
-use Rattle.machine.specs.State.{Frame, Process, Config}
+use Rattle.machine.specs.State.{Frame}
 use Rattle.machine.specs.Entry.{lostWith, without, frameWithout, framesWithout, runs}
-use Rattle.machine.specs.Sound.{FrameSound}
 use Rattle.layout.specs.Layout.{padded, valueWords, headWords, frameValues, statusWords, processWords}
 use Rattle.layout.proofs.Frames.{tagOf, numberOf, write, run-of, run-length, run-get, run-set, run-append, pending-run, frame-parts}
-use Rattle.store.specs.declared.values.Val.{Val}
 use Rattle.store.specs.Words.{valueAt, putValue, tagsMeet, lostVal, emptiedOne, emptiedBy}
 use Rattle.store.proofs.Vals.{valOf}
 

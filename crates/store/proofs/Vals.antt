@@ -1,5 +1,4 @@
 -- Values as the store has them.
-use Prim.Native.Nat.{ℕ}
 use Rattle.machine.specs.Value.{Value}
 use Rattle.layout.proofs.Frames.{tagOf, numberOf}
 use Rattle.store.specs.declared.values.Val.{Val}

@@ -1,13 +1,12 @@
 -- Document 01, the eight questions, in their order: "a no gives the number, with the place in brackets".
 use Prim.Native.Nat.{ℕ, zero, suc, _+_, _*_, _-_}
-use mathlib.Core.Bool.{Bool, true, false, cond, _&&_, _||_, not}
-use mathlib.Core.List.{List, [], _∷_, _++_}
+use mathlib.Core.Bool.{Bool, cond, _&&_, _||_, not}
+use mathlib.Core.List.{List}
 use mathlib.Core.Path.{_≡_}
 use lib.ListN.{getD, length}
 use lib.Dec.{eqb, leb, ltb}
 use Rattle.lists.specs.Lists.{firstFalse, allBelow}
-use Rattle.table.specs.Table.{methods, instructions, offsetOf, lengthOf, endOf, returnOf, paramsOf, slotType, opAt, argAt, ownerOf, isType}
-use Rattle.table.specs.Ops.{Op, opOf}
+use Rattle.table.specs.Table.{methods, instructions, offsetOf, lengthOf, endOf, returnOf, paramsOf, slotType, argAt, ownerOf, isType}
 use Rattle.table.specs.Reading.{opThere, reads}
 
 -- The answer to the questions: accepted, or refused by question n with place i.

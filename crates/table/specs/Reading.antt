@@ -5,12 +5,12 @@
 -- The types pending before each instruction are a function of its place alone, because every method is read from its
 -- first instruction to its last and starts with nothing pending. That the machine's pending values have just these types
 -- is the invariant of its soundness proof (crate machine, proofs/Typing.antt).
-use Prim.Native.Nat.{ℕ, zero, suc, _+_, _*_, _-_}
+use Prim.Native.Nat.{ℕ, zero, suc, _+_}
 use mathlib.Core.Bool.{Bool, true, false, cond, _&&_, _||_, not}
 use mathlib.Core.List.{List, [], _∷_, _++_}
 use mathlib.Core.Option.{Option, none, some, Option·getD}
-use lib.ListN.{getD, length, take, drop}
-use lib.Dec.{eqb, leb, ltb}
+use lib.ListN.{length, take, drop}
+use lib.Dec.{eqb, leb}
 use Rattle.lists.specs.Lists.{any, below}
 use Rattle.table.specs.Table.{instructions, offsetOf, endOf, opAt, argAt, ownerOf}
 use Rattle.table.specs.Ops.{Op, opOf}

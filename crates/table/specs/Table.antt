@@ -1,11 +1,11 @@
 -- Document 01, "Program table": where each part of a table stands, and the codes of the types.
 -- A table is a list of 16-bit words. A word past its end reads as 0, so that every definition is total;
 -- question 1 settles the length before anything else is asked.
-use Prim.Native.Nat.{ℕ, zero, suc, _+_, _*_, _-_}
-use mathlib.Core.Bool.{Bool, true, false, cond, _&&_, _||_, not}
-use mathlib.Core.List.{List, [], _∷_, reverse}
+use Prim.Native.Nat.{ℕ, _+_, _*_, _-_}
+use mathlib.Core.Bool.{Bool, _&&_, _||_}
+use mathlib.Core.List.{List}
 use lib.ListN.{getD, take, drop}
-use lib.Dec.{eqb, leb, ltb}
+use lib.Dec.{leb}
 use Rattle.lists.specs.Lists.{firstFalse}
 
 -- "16-bit words, numbered from 0."

@@ -1,6 +1,6 @@
 -- What the printing program prints for the bytes of a file: document 01, "A run given whole".
 use Prim.Native.Nat.{ℕ, zero, suc, _+_, _*_, _/_, _%_}
-use mathlib.Core.Bool.{Bool, true, false, cond, _&&_}
+use mathlib.Core.Bool.{Bool, cond, _&&_}
 use mathlib.Core.List.{List, [], _∷_, _++_}
 use lib.ListN.{getD, take, drop, length}
 use lib.Dec.{eqb, leb, ltb}

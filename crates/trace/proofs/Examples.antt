@@ -1,7 +1,7 @@
 -- The look-up and the same-lines answer on small traces, by computing.
 use Prim.Native.Nat.{ℕ}
 use mathlib.Core.Path.{_≡_, refl}
-use mathlib.Core.Bool.{Bool, true, false}
+use mathlib.Core.Bool.{true, false}
 use mathlib.Core.List.{List, [], _∷_}
 use Rattle.machine.proofs.Opened.{machine-opened}
 use Rattle.trace.specs.Trace.{linesOf, lookUp, sameLine, sameAll, sameLines}

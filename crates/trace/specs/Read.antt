@@ -3,7 +3,7 @@ use Prim.Native.Nat.{ℕ, _+_}
 use mathlib.Core.List.{List}
 use lib.ListN.{getD}
 use Rattle.machine.specs.State.{Line}
-use Rattle.trace.specs.declared.lines.TraceLine.{TraceLine}
+use Rattle.lines.specs.declared.TraceLine.{TraceLine}
 
 -- the line of the definitions that a line of the code is
 abbrev pub asLine : TraceLine → Line

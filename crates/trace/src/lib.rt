@@ -1,10 +1,8 @@
 // Traces, six 16-bit words to a line, a part of a line at the end ignored.
 // `lookup::qubit_holder` answers who holds a qubit by the first k lines, 65535 for nobody. `same::same_lines` answers
 // whether two traces have the same lines, column 0 left out. Each answer is its definition's (specs/Trace.antt), for any
-// words, and nothing is asked of the caller. `lines::write_line` leaves a lent trace with one line written and every
-// other word kept; a word past the trace's end is not written.
+// words, and nothing is asked of the caller.
 // The contracts say nothing of the time taken: an answer goes through the lines once.
-pub mod lines;
 pub mod lookup;
 pub mod read;
 pub mod same;

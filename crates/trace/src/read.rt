@@ -5,7 +5,7 @@ ghost use lib.ListN.{length, getD};
 ghost use Rattle.machine.specs.Owner.{noLine};
 ghost use Rattle.trace.specs.Trace.{linesOf};
 ghost use Rattle.trace.specs.Read.{asLine, lineFrom};
-use super::lines::TraceLine;
+use lines::TraceLine;
 
 // How many whole lines there are.
 pub fn line_count(t: &[u16]) -> usize

@@ -2,9 +2,9 @@
 ghost use mathlib.Core.Path.{_≡_};
 ghost use Rattle.trace.specs.Trace.{sameLine, sameLines};
 ghost use Rattle.trace.specs.Read.{asLine};
-use super::lines::TraceLine;
 use super::read::line_at;
 use super::read::line_count;
+use lines::TraceLine;
 
 // Columns 1 to 5 agree.
 fn same_line(l: TraceLine, m: TraceLine) -> bool

@@ -1,7 +1,7 @@
 -- `lanq_run` gives each case of the run its numbers.
 use Rattle.lanq.proofs.Answered.{ran}
 use Rattle.lanq.specs.Answers.{runAnswer}
-use Rattle.run.specs.declared.answer.Answer.the-variants.{Refused, Ran}
+use Rattle.run.specs.declared.Answer.the-variants.{Refused, Ran}
 use Rattle.run.specs.Answers.{answered}
 use Rattle.machine.specs.Answer.{answerOf, linesIn}
 use lib.ListN.{length}
@@ -12,7 +12,7 @@ use Rattle.lanq.proofs.lanq_run.Reads as reads
 use Rattle.lanq.proofs.lanq_run.Lts as lts
 use Rattle.lanq.proofs.ended.Reads as ended-reads
 use Rattle.lanq.proofs.refusal.Reads as refusal-reads
-use Rattle.run.proofs.answer.run.Reads as run-reads
+use Rattle.run.proofs.run.Reads as run-reads
 
 -- src/lib.rt:92:9
 run-requires : tie.Need-run-requires

@@ -2,7 +2,7 @@
 use Prim.Native.Nat.{ℕ}
 use native.Mathlib.Omega.{arith}
 use lib.ListN.{replicate, length-replicate}
-use Rattle.print_text.proofs.Telling.{Told, told, prints-same}
+use Rattle.print_text.proofs.Telling.{told, prints-same}
 use borrow.Author.Needs.{needs}
 use Rattle.print_text.proofs.put_run.Statement.{statement}
 use Rattle.print_text.proofs.put_run.Tie as tie

@@ -2,7 +2,7 @@
 use Rattle.events.specs.Told.{gateOne, left, lineTold}
 use Rattle.ops.proofs.Returns.{took, passed-by}
 use Rattle.store.specs.declared.values.Val.{Val}
-use Rattle.store.specs.Words.{valueAt, topAt}
+use Rattle.store.specs.Words.{valueAt}
 use mathlib.Core.Path.{refl, _∙_, ap, ap₂}
 use lib.Dec.{eqb}
 use borrow.Author.Tests.{eq-eqb, ne-eqb}

@@ -1,7 +1,7 @@
 -- `gate_two` goes by whether a qubit is emptied, and whether the two are one.
 use Rattle.events.specs.Told.{gateTwo, left, lineTold}
 use Rattle.ops.proofs.Returns.{took, passed-by}
-use mathlib.Core.Path.{refl, _∙_, ap, ap₂}
+use mathlib.Core.Path.{refl, _∙_, ap₂}
 use lib.Dec.{eqb}
 use borrow.Author.Tests.{eq-eqb, ne-eqb}
 use borrow.Author.Needs.{needs}

@@ -3,7 +3,7 @@ use Rattle.events.specs.Told.{measOp, left, measuredTold}
 use Rattle.ops.proofs.Returns.{took, passed-by}
 use native.Mathlib.Omega.{arith}
 use Rattle.store.specs.declared.values.Val.{Val}
-use Rattle.store.specs.Words.{valueAt, topAt}
+use Rattle.store.specs.Words.{valueAt}
 use mathlib.Core.Path.{refl, _∙_, ap, ap₂}
 use lib.Dec.{eqb}
 use lib.ListN.{getD}

@@ -3,7 +3,7 @@ use Rattle.ops.proofs.Returns.{took, passed-by}
 use Rattle.ops.specs.Did.{callOp, did, opened}
 use Rattle.store.specs.Words.{emptyDown}
 use borrow.Author.Tests.{le-leb, lt-leb}
-use mathlib.Core.Path.{_∙_, ap, ap₂, refl, sym}
+use mathlib.Core.Path.{_∙_, ap, ap₂, refl}
 use borrow.Author.Needs.{needs}
 use Rattle.ops.proofs.calls.op_call.Statement.{statement}
 use Rattle.ops.proofs.calls.op_call.Tie as tie

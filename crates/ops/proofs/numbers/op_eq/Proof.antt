@@ -1,8 +1,7 @@
 -- `op_eq` goes by whether an operand is emptied, and compares the words.
-use Rattle.ops.specs.Did.{eqOp, did, overTwo, boolVal, bit, resultOp}
+use Rattle.ops.specs.Did.{eqOp, did, overTwo}
 use Rattle.ops.proofs.Returns.{two-stop, two-go}
-use Prim.Native.Nat.{ℕ, _+_, _-_}
-use mathlib.Core.Path.{_∙_, ap, ap₂}
+use mathlib.Core.Path.{_∙_, ap}
 use borrow.Author.Needs.{needs}
 use Rattle.ops.proofs.numbers.op_eq.Statement.{statement}
 use Rattle.ops.proofs.numbers.op_eq.Tie as tie

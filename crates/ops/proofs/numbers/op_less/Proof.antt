@@ -1,7 +1,7 @@
 -- `op_less` goes by whether an operand is emptied, and compares what was moved up.
-use Rattle.ops.specs.Did.{lessOp, did, overTwo, boolVal, bit, resultOp}
+use Rattle.ops.specs.Did.{lessOp, did, overTwo, boolVal, bit}
 use Rattle.ops.proofs.Returns.{two-stop, two-go}
-use Prim.Native.Nat.{ℕ, _+_, _-_}
+use Prim.Native.Nat.{ℕ}
 use mathlib.Core.Path.{_∙_, ap, ap₂}
 use borrow.Author.Needs.{needs}
 use lib.Dec.{ltb}

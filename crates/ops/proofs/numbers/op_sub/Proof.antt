@@ -1,8 +1,8 @@
 -- `op_sub` goes by whether an operand is emptied, and leaves the range to `result`.
-use Rattle.ops.specs.Did.{subOp, did, overTwo, boolVal, bit, resultOp}
+use Rattle.ops.specs.Did.{subOp, resultOp}
 use Rattle.ops.proofs.Returns.{two-stop, two-go}
 use Prim.Native.Nat.{ℕ, _+_, _-_}
-use mathlib.Core.Path.{_∙_, ap, ap₂}
+use mathlib.Core.Path.{_∙_, ap₂}
 use borrow.Author.Needs.{needs}
 use Rattle.ops.proofs.numbers.op_sub.Statement.{statement}
 use Rattle.ops.proofs.numbers.op_sub.Tie as tie

@@ -4,7 +4,7 @@ use native.Mathlib.Omega.{arith}
 use lib.ListN.{take}
 use Rattle.trace.specs.Trace.{linesOf}
 use Rattle.text.specs.Text.{answerText}
-use Rattle.run.specs.declared.answer.Answer.{Answer}
+use Rattle.run.specs.declared.Answer.{Answer}
 use Rattle.run.specs.Answers.{answered}
 use Rattle.run.specs.Answers.{linesNo}
 use Rattle.print_text.proofs.Telling.{from-start, prints-same}

@@ -3,8 +3,8 @@ use native.Mathlib.Omega.{arith}
 use lib.ListN.{take}
 use Rattle.trace.specs.Trace.{linesOf}
 use Rattle.text.specs.Text.{linesText}
-use Rattle.printing.specs.Put.{endText}
-use Rattle.printing.proofs.PutLaws.{put-then, put-same}
+use Rattle.printing.specs.Texts.{endText}
+use Rattle.lists.proofs.Put.{put-then, put-same}
 use Rattle.printing.proofs.TraceText.{first-length}
 use Rattle.print_text.proofs.Telling.{from-start, ran-text}
 use borrow.Author.Needs.{needs}

@@ -3,7 +3,7 @@ use mathlib.Core.Path.{sym}
 use mathlib.Core.List.{[], _∷_}
 use native.Mathlib.Omega.{arith}
 use Rattle.text.specs.Text.{decimal}
-use Rattle.printing.proofs.PutLaws.{put-same, put-then}
+use Rattle.lists.proofs.Put.{put-same, put-then}
 use Rattle.printing.proofs.Decimal.{decimal-one, decimal-more, decimal-length}
 use borrow.Author.Needs.{needs}
 use Prim.Native.Nat.{ℕ, _+_, _/_, _%_, _<_}

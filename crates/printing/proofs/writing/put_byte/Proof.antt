@@ -1,7 +1,7 @@
 -- `put_byte` stores the byte where there is room for it.
 use mathlib.Core.Path.{sym}
 use lib.Seq.{set-out}
-use Rattle.printing.specs.Put.{putBytes}
+use Rattle.lists.specs.Lists.{putFrom}
 use borrow.Author.Needs.{needs}
 use Rattle.printing.proofs.writing.put_byte.Statement.{statement}
 use Rattle.printing.proofs.writing.put_byte.Tie as tie
@@ -16,14 +16,14 @@ same-length : tie.Need-same-length
 same-length c = search needs
 
 returns : tie.Need-returns
-unfolding putBytes
+unfolding putFrom
 returns c = search needs
 
 add-result-2 : tie.Need-add-result-2
 add-result-2 c = search needs
 
 returns-2 : tie.Need-returns-2
-unfolding putBytes
+unfolding putFrom
 returns-2 c =
     let args = c .before .args in
     (sym (set-out (args .out .now) (args .at) (args .b) (c .if1 .left)), search needs)

@@ -1,7 +1,7 @@
 -- `put_column` puts the number of a used column, and "-" otherwise.
 use mathlib.Core.List.{[], _∷_}
 use Rattle.text.specs.Text.{column}
-use Rattle.printing.proofs.PutLaws.{put-same, put-then}
+use Rattle.lists.proofs.Put.{put-same, put-then}
 use mathlib.Core.Path.{sym, ap}
 use mathlib.Core.Bool.{Bool}
 use borrow.Author.Needs.{needs}

@@ -1,8 +1,8 @@
 -- `put_columns` puts three columns.
 use mathlib.Core.List.{_++_}
 use Rattle.text.specs.Text.{column}
-use Rattle.printing.specs.Put.{columnsText}
-use Rattle.printing.proofs.PutLaws.{put-then}
+use Rattle.printing.specs.Texts.{columnsText}
+use Rattle.lists.proofs.Put.{put-then}
 use native.Mathlib.Omega.{arith}
 use Rattle.printing.proofs.Texts.{column-length}
 use lib.Dec.{ltb}

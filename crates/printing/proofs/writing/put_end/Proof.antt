@@ -1,8 +1,8 @@
 -- `put_end` puts the word and four numbers.
 use mathlib.Core.List.{[], _∷_, _++_}
 use Rattle.text.specs.Text.{endWord, spaced}
-use Rattle.printing.specs.Put.{endText}
-use Rattle.printing.proofs.PutLaws.{put-then}
+use Rattle.printing.specs.Texts.{endText}
+use Rattle.lists.proofs.Put.{put-then}
 use native.Mathlib.Omega.{arith}
 use Rattle.printing.proofs.Texts.{spaced-length}
 use borrow.Author.Needs.{needs}

@@ -1,8 +1,8 @@
 -- `put_head` puts three numbers.
 use mathlib.Core.List.{_++_}
 use Rattle.text.specs.Text.{decimal, spaced}
-use Rattle.printing.specs.Put.{headText}
-use Rattle.printing.proofs.PutLaws.{put-then}
+use Rattle.printing.specs.Texts.{headText}
+use Rattle.lists.proofs.Put.{put-then}
 use native.Mathlib.Omega.{arith}
 use Rattle.printing.proofs.Decimal.{decimal-length}
 use Rattle.printing.proofs.Texts.{spaced-length}

@@ -2,8 +2,8 @@
 use Prim.Native.Nat.{ℕ}
 use mathlib.Core.Path.{_∙_, ap}
 use mathlib.Core.List.{[], _∷_, _++_}
-use Rattle.printing.specs.Put.{headText, columnsText}
-use Rattle.printing.proofs.PutLaws.{put-same, put-then}
+use Rattle.printing.specs.Texts.{headText, columnsText}
+use Rattle.lists.proofs.Put.{put-same, put-then}
 use native.Mathlib.Omega.{arith}
 use Rattle.printing.proofs.Texts.{headText-length, columnsText-length, lineText-halves}
 use borrow.Author.Needs.{needs}

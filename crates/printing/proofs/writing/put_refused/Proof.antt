@@ -1,7 +1,7 @@
 -- `put_refused` puts the word, the number and the place.
 use mathlib.Core.List.{[], _∷_, _++_}
 use Rattle.text.specs.Text.{refusedWord, spaced, refusedText}
-use Rattle.printing.proofs.PutLaws.{put-then}
+use Rattle.lists.proofs.Put.{put-then}
 use native.Mathlib.Omega.{arith}
 use Rattle.printing.proofs.Texts.{spaced-length}
 use borrow.Author.Needs.{needs}

@@ -1,7 +1,7 @@
 -- `put_refused_word` puts seven letters.
 use mathlib.Core.List.{[], _∷_, _++_}
 use Rattle.text.specs.Text.{refusedWord}
-use Rattle.printing.proofs.PutLaws.{put-then}
+use Rattle.lists.proofs.Put.{put-then}
 use borrow.Author.Needs.{needs}
 use Rattle.printing.proofs.writing.put_refused_word.Statement.{statement}
 use Rattle.printing.proofs.writing.put_refused_word.Tie as tie

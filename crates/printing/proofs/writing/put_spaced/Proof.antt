@@ -1,7 +1,7 @@
 -- `put_spaced` puts a blank and then the digits.
 use mathlib.Core.List.{[], _∷_}
 use Rattle.text.specs.Text.{decimal, spaced}
-use Rattle.printing.proofs.PutLaws.{put-then}
+use Rattle.lists.proofs.Put.{put-then}
 use borrow.Author.Needs.{needs}
 use Rattle.printing.proofs.writing.put_spaced.Statement.{statement}
 use Rattle.printing.proofs.writing.put_spaced.Tie as tie

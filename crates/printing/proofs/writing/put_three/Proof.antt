@@ -1,6 +1,6 @@
 -- `put_three` puts three bytes.
 use mathlib.Core.List.{[], _∷_, _++_}
-use Rattle.printing.proofs.PutLaws.{put-then}
+use Rattle.lists.proofs.Put.{put-then}
 use borrow.Author.Needs.{needs}
 use Rattle.printing.proofs.writing.put_three.Statement.{statement}
 use Rattle.printing.proofs.writing.put_three.Tie as tie

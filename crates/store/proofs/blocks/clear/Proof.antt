@@ -3,7 +3,7 @@ use borrow.Author.Needs.{needs}
 use Rattle.store.proofs.Laws.{cleared-more}
 use Rattle.store.specs.Words.{clearedFrom}
 use lib.ListN.{length}
-use mathlib.Core.Path.{_≡_, refl, sym, _∙_, subst}
+use mathlib.Core.Path.{_≡_, refl, _∙_, subst}
 use native.Mathlib.Omega.{arith}
 use Prim.Native.Nat.{ℕ, _≤_, _-_}
 use Rattle.store.proofs.blocks.clear.Statement.{statement}

@@ -3,7 +3,7 @@ use Rattle.store.proofs.Laws.{emptied-more}
 use Rattle.store.specs.Words.{emptiedBy}
 use lib.ListN.{length}
 use native.Mathlib.Omega.{arith}
-use mathlib.Core.Path.{_≡_, refl, sym, _∙_, subst}
+use mathlib.Core.Path.{_≡_, refl, _∙_, subst}
 use Prim.Native.Nat.{ℕ, _≤_, _-_}
 use borrow.Author.Needs.{needs}
 use Rattle.store.proofs.giving.give_away.Statement.{statement}

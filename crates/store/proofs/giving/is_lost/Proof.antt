@@ -1,5 +1,4 @@
 -- `is_lost` compares the numbers only where the tags meet.
-use Rattle.store.specs.Words.{lostVal}
 use Rattle.store.proofs.Laws.{lost-by-number, lost-by-tag}
 use borrow.Author.Needs.{needs}
 use Rattle.store.proofs.giving.is_lost.Statement.{statement}

@@ -1,0 +1,238 @@
+-- The entries with one line: what the code leaves in trace and store is the definitions' effect, where its line fits.
+use Prim.Native.Nat.{ℕ, _+_, _*_, _%_, _≤_, _<_}
+use mathlib.Core.Path.{_≡_, refl, sym, _∙_, ap, ap₂, subst}
+use mathlib.Core.Logic.{_≢_}
+use mathlib.Core.Bool.{Bool, true, false, cond}
+use mathlib.Core.List.{List, [], _∷_, _++_}
+use native.Mathlib.Nat.{mod-eq-of-lt}
+use native.Mathlib.Omega.{arith}
+use lib.ListN.{getD, set, length, length-append}
+use lib.Dec.{leb}
+use borrow.Author.Tests.{ne-eqb, le-leb, lt-leb, leb-true, leb-false}
+use Rattle.lists.specs.Lists.{All}
+use Rattle.lists.proofs.Any.{All-getD}
+use Rattle.table.specs.Table.{argAt}
+use Rattle.table.proofs.Accepted.{Kept}
+use Rattle.machine.specs.Value.{Thing, qubit, channel, end}
+use Rattle.machine.specs.State.{Frame, finished, stopped, Process, Config, Line, State, Event, processAt, setProcess, unmade, lineOf, finishes, stops}
+use Rattle.machine.specs.Act.{Act, faults, goes, ends, makes, actOf}
+use Rattle.machine.specs.Entry.{Effect, runs, counted, making, applied, effectOf}
+use Rattle.machine.specs.Run.{fits}
+use Rattle.machine.specs.Answer.{traceAfter}
+use Rattle.machine.specs.Sound.{FrameSound, ConfigSound}
+use Rattle.machine.proofs.Typing.{ConfigTyped, Typed}
+use Rattle.machine.proofs.Effects.{effect-typed}
+use Rattle.machine.proofs.Sound.{config-sound}
+use Rattle.machine.proofs.Giving.{process-same}
+use Rattle.layout.specs.Layout.{processWords, encode}
+use Rattle.layout.proofs.RoundTrip.{process-length}
+use Rattle.lines.specs.Written.{withLine}
+use Rattle.lines.proofs.LineWritten as written
+use Rattle.parts.specs.Parts.{partOf}
+use Rattle.parts.proofs.Encoded.{Laid, laid-sound, part-is, part-put, qubits-word, channels-word, qubit-counted, channel-counted}
+use Rattle.events.specs.declared.told.Told.{Told}
+use Rattle.events.specs.Told.{Left, left, faultTold}
+use Rattle.events.specs.Concluded.{concludeOp}
+use Rattle.events.proofs.Answers.{toldOf}
+use Rattle.events.proofs.Concluding.{concluded-fault, concluded-ends}
+use Rattle.singles.specs.declared.came.Count.{Count}
+use Rattle.singles.specs.Came.{Came, came, movedTo, fullAt}
+use Rattle.singles.specs.Single.{inPart, concludedAt, countedWords, toldLine, noted, singleOp}
+
+module _ (p : List ℕ) (kept : Kept p) (narrow : (i : ℕ) → argAt p i < 65536) (outcomes : List ℕ) (bytes : All (λ o. o < 256) outcomes)
+    (s : State) (ks : List ℕ) (typed : ConfigTyped p ks (s .config)) (rest t0 : List ℕ) (room : ℕ) (holds : 6 * room ≤ length t0)
+    (small : s .used < 4000000000) (k n : ℕ) where
+  abbrev pub config : Config
+  config = s .config
+
+  pub sound : ConfigSound p config
+  sound = config-sound p kept ks config typed
+
+  pub laid : Laid config
+  laid = laid-sound p config sound
+
+  abbrev pub work : List ℕ
+  work = encode config ++ rest
+
+  abbrev pub trace : List ℕ
+  trace = traceAfter (s .lines) t0
+
+  abbrev pub count : Count
+  count = record { entry = k; lines = length (s .lines); used = s .used }
+
+  -- what a taken entry leaves, and what an entry leaves by whether its lines fit
+  abbrev pub took : Effect → Came
+  took e =
+      came (movedTo (length (s .lines ++ e .lines)) (s .used + e .used)) (traceAfter (s .lines ++ e .lines) t0) (encode (e .config) ++ rest)
+
+  abbrev pub full : Came
+  full = came (fullAt count) trace work
+
+  abbrev pub tried : Effect → Came
+  tried e = cond (fits room s e) (took e) full
+
+  -- one line
+
+  module _ (made : n < length (config .processes)) where
+    single-law : (code : ℕ) (told : Told) (pr : Process) (ev : Event) (e : Effect)
+        → concludeOp p (partOf work n) code (config .qubits) (config .channels) outcomes (s .used) ≡ left told (processWords pr)
+        → length (processWords pr) ≡ 512
+        → toldLine k n told ≡ written.lineOf (lineOf k n ev)
+        → e .lines ≡ lineOf k n ev ∷ [] → e .used ≡ told .used → told .used ≤ 1
+        → countedWords (encode (setProcess config n pr) ++ rest) (told .kind) ≡ encode (e .config) ++ rest
+        → singleOp p outcomes trace work room count n code ≡ tried e
+    unfolding singleOp concludedAt inPart noted fits
+    single-law code told pr ev e conc long line ls us one cw = go (leb room (length (s .lines))) refl
+      where
+        stored : noted trace count n (concludedAt p work n code outcomes (s .used))
+            ≡ came (movedTo (length (s .lines) + 1) ((s .used + told .used) % 4294967296))
+            (withLine trace (length (s .lines)) (toldLine k n told)) (countedWords (encode (setProcess config n pr) ++ rest) (told .kind))
+        stored =
+            ap₂ (λ (q c : ℕ). noted trace count n (inPart work n (concludeOp p (partOf work n) code q c outcomes (s .used)))) (qubits-word config rest) (channels-word config rest)
+            ∙ ap (λ (l : Left). noted trace count n (inPart work n l)) conc
+            ∙ ap (λ (w : List ℕ). noted trace count n (left told w)) (part-put config laid rest n pr made long)
+
+        lines-count : length (s .lines) + 1 ≡ length (s .lines ++ e .lines)
+        lines-count = sym (length-append (s .lines) (e .lines) ∙ ap (λ (l : List Line). length (s .lines) + length l) ls)
+
+        go : (b : Bool) → leb room (length (s .lines)) ≡ b
+            → cond b full (noted trace count n (concludedAt p work n code outcomes (s .used)))
+            ≡ cond (leb (length (s .lines) + length (e .lines)) room) (took e) full
+        go true h =
+            sym (ap (λ (b : Bool). cond b (took e) full)
+            (lt-leb (length (s .lines) + length (e .lines)) room (omega (arith, leb-true room (length (s .lines)) h, ap length ls))))
+        go false h =
+            stored
+            ∙ (λ i. came (movedTo (lines-count i) (used-same i)) (trace-same i) (cw i))
+            ∙ sym (ap (λ (b : Bool). cond b (took e) full)
+            (le-leb (length (s .lines) + length (e .lines)) room (omega (arith, leb-false room (length (s .lines)) h, ap length ls))))
+          where
+            used-same : (s .used + told .used) % 4294967296 ≡ s .used + e .used
+            used-same = mod-eq-of-lt (omega (arith, small, one)) ∙ ap (λ (u : ℕ). s .used + u) (sym us)
+
+            trace-same : withLine trace (length (s .lines)) (toldLine k n told) ≡ traceAfter (s .lines ++ e .lines) t0
+            trace-same =
+                ap (withLine trace (length (s .lines))) line
+                ∙ written.line-written (s .lines) t0 (lineOf k n ev) (omega (arith, holds, leb-false room (length (s .lines)) h))
+                ∙ ap (λ (l : List Line). traceAfter (s .lines ++ l) t0) (sym ls)
+
+    -- a running process
+
+    module _ (f : Frame) (fs : List Frame) (fine : All (FrameSound p config) (f ∷ fs)) (deep : length fs < 8) (stands : processAt config n ≡ runs (f ∷ fs)) where
+      pub part-now : partOf work n ≡ processWords (runs (f ∷ fs))
+      part-now = part-is config laid rest n made ∙ ap processWords stands
+
+      abbrev pub words : List ℕ
+      words = processWords (runs (f ∷ fs))
+
+      -- a fault, by whatever code it came
+      pub fault-as : (code m : ℕ) → 20 ≤ m → m ≤ 27
+          → concludeOp p words code (config .qubits) (config .channels) outcomes (s .used) ≡ left (faultTold m) (processWords (record { status = stopped m; frames = f ∷ fs }))
+          → singleOp p outcomes trace work room count n code ≡ tried (applied p outcomes k s n (faults m))
+      unfolding applied countedWords
+      fault-as code m low high conc =
+          single-law code (faultTold m) halted (stops m) (applied p outcomes k s n (faults m))
+          (ap (λ (w : List ℕ). concludeOp p w code (config .qubits) (config .channels) outcomes (s .used)) part-now
+          ∙ conc
+          ∙ ap (λ (gs : List Frame). left (faultTold m) (processWords (record { status = stopped m; frames = gs }))) (sym frames-are))
+          (process-length p config halted (record { status = (low, high, some); depth = deep-now; frames = fine-now }))
+          refl refl refl (omega arith) refl
+        where
+          halted : Process
+          halted = record { status = stopped m; frames = processAt config n .frames }
+
+          frames-are : processAt config n .frames ≡ f ∷ fs
+          frames-are = ap (λ (pr : Process). pr .frames) stands
+
+          some : 0 < length (processAt config n .frames)
+          some = subst (λ (gs : List Frame). 0 < length gs) (sym frames-are) (omega arith)
+
+          deep-now : length (processAt config n .frames) ≤ 8
+          deep-now = subst (λ (gs : List Frame). length gs ≤ 8) (sym frames-are) (omega arith)
+
+          fine-now : All (FrameSound p config) (processAt config n .frames)
+          fine-now = subst (All (FrameSound p config)) (sym frames-are) fine
+
+      pub fault-law : (m : ℕ) → 20 ≤ m → m ≤ 27 → singleOp p outcomes trace work room count n m ≡ tried (applied p outcomes k s n (faults m))
+      fault-law m low high =
+          fault-as m m low high
+          (concluded-fault p kept outcomes s f fs fine deep (narrow (f .place)) (sound .qubitCount) m (omega arith) (omega arith) (config .qubits) (config .channels) outcomes (s .used))
+
+      -- the root frame's return
+      pub ends-as : (code : ℕ)
+          → concludeOp p words code (config .qubits) (config .channels) outcomes (s .used) ≡ left (toldOf 0 finishes) (processWords (record { status = finished; frames = [] }))
+          → singleOp p outcomes trace work room count n code ≡ tried (applied p outcomes k s n ends)
+      unfolding applied countedWords
+      ends-as code conc =
+          single-law code (toldOf 0 finishes) gone finishes (applied p outcomes k s n ends)
+          (ap (λ (w : List ℕ). concludeOp p w code (config .qubits) (config .channels) outcomes (s .used)) part-now ∙ conc)
+          (process-length p config gone (record { status = refl; depth = omega arith; frames = tt }))
+          refl refl refl (omega arith) refl
+        where
+          gone : Process
+          gone = record { status = finished; frames = [] }
+
+      pub ends-law : singleOp p outcomes trace work room count n 113 ≡ tried (applied p outcomes k s n ends)
+      ends-law =
+          ends-as 113
+          (concluded-ends p kept outcomes s f fs fine deep (narrow (f .place)) (sound .qubitCount) (config .qubits) (config .channels) outcomes (s .used))
+
+      -- the words of a process after its entry fill its part
+      module _ (a : Act) (does : actOf p outcomes s n ≡ a) where
+        after-typed : Typed p (applied p outcomes k s n a .config)
+        unfolding effectOf
+        after-typed =
+            subst (λ (x : Act). Typed p (applied p outcomes k s n x .config)) does (effect-typed p kept outcomes bytes s ks typed k n)
+
+        after-sound : ConfigSound p (applied p outcomes k s n a .config)
+        after-sound = config-sound p kept (after-typed .0) (applied p outcomes k s n a .config) (after-typed .1)
+
+        after-laid : Laid (applied p outcomes k s n a .config)
+        after-laid = laid-sound p (applied p outcomes k s n a .config) after-sound
+
+        pub after-long : (q : ℕ) (pr : Process) → processAt (applied p outcomes k s n a .config) q ≡ pr → length (processWords pr) ≡ 512
+        unfolding processAt
+        after-long q pr e =
+            subst (λ (x : Process). length (processWords x) ≡ 512) e
+            (All-getD (λ x. length (processWords x) ≡ 512) (applied p outcomes k s n a .config .processes) q unmade after-laid
+            (process-length p config unmade (record { status = refl; depth = omega arith; frames = tt })))
+
+      -- an op that goes on with one line of its own process
+      pub line-law : (code : ℕ) (gs : List Frame) (ev : Event) (u : ℕ) → actOf p outcomes s n ≡ goes gs (ev ∷ []) u
+          → concludeOp p words code (config .qubits) (config .channels) outcomes (s .used) ≡ left (toldOf u ev) (processWords (runs gs))
+          → ev .kind ≢ 1 → ev .kind ≢ 2 → u ≤ 1
+          → singleOp p outcomes trace work room count n code ≡ tried (applied p outcomes k s n (goes gs (ev ∷ []) u))
+      unfolding applied countedWords
+      line-law code gs ev u does conc one two few =
+          single-law code (toldOf u ev) (runs gs) ev (applied p outcomes k s n (goes gs (ev ∷ []) u))
+          (ap (λ (w : List ℕ). concludeOp p w code (config .qubits) (config .channels) outcomes (s .used)) part-now ∙ conc)
+          (after-long (goes gs (ev ∷ []) u) does n (runs gs) (process-same config n (runs gs) made))
+          refl refl refl few
+          (ap₂ (λ (x y : Bool). cond x (set w 1 ((getD w 1 0 + 1) % 4294967296)) (cond y (set w 2 ((getD w 2 0 + 1) % 4294967296)) w)) (ne-eqb (ev .kind) 1 one) (ne-eqb (ev .kind) 2 two))
+        where
+          w : List ℕ
+          w = encode (setProcess config n (runs gs)) ++ rest
+
+      -- a thing made
+      pub made-law : (code : ℕ) (t : Thing) (gs : List Frame) → actOf p outcomes s n ≡ makes t gs
+          → concludeOp p words code (config .qubits) (config .channels) outcomes (s .used) ≡ left (toldOf 0 (making t)) (processWords (runs gs))
+          → ((i : ℕ) (d : Bool) → t ≢ end i d)
+          → singleOp p outcomes trace work room count n code ≡ tried (applied p outcomes k s n (makes t gs))
+      unfolding applied countedWords making counted setProcess processAt
+      made-law code (qubit q) gs does conc never =
+          single-law code (toldOf 0 (making (qubit q))) (runs gs) (making (qubit q)) (applied p outcomes k s n (makes (qubit q) gs))
+          (ap (λ (w : List ℕ). concludeOp p w code (config .qubits) (config .channels) outcomes (s .used)) part-now ∙ conc)
+          (after-long (makes (qubit q) gs) does n (runs gs) (process-same config n (runs gs) made))
+          refl refl refl (omega arith)
+          (ap (set (encode (setProcess config n (runs gs)) ++ rest) 1)
+          (ap (λ (i : ℕ). (i + 1) % 4294967296) (qubits-word (setProcess config n (runs gs)) rest) ∙ mod-eq-of-lt (omega (arith, sound .qubitCount)) ∙ omega arith)
+          ∙ qubit-counted (setProcess config n (runs gs)) q rest)
+      made-law code (channel q) gs does conc never =
+          single-law code (toldOf 0 (making (channel q))) (runs gs) (making (channel q)) (applied p outcomes k s n (makes (channel q) gs))
+          (ap (λ (w : List ℕ). concludeOp p w code (config .qubits) (config .channels) outcomes (s .used)) part-now ∙ conc)
+          (after-long (makes (channel q) gs) does n (runs gs) (process-same config n (runs gs) made))
+          refl refl refl (omega arith)
+          (ap (set (encode (setProcess config n (runs gs)) ++ rest) 2)
+          (ap (λ (i : ℕ). (i + 1) % 4294967296) (channels-word (setProcess config n (runs gs)) rest) ∙ mod-eq-of-lt (omega (arith, sound .channelCount)) ∙ omega arith)
+          ∙ channel-counted (setProcess config n (runs gs)) q rest)
+      made-law code (end i d) gs does conc never = absurd (never i d refl)

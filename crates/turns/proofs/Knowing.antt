@@ -1,0 +1,120 @@
+-- What is known of the processes, by what was read and how the tests came out.
+use Prim.Native.Nat.{ℕ, _≤_, _<_}
+use mathlib.Core.Path.{_≡_, refl, sym, _∙_, ap}
+use mathlib.Core.Bool.{Bool, true, false, cond, not, true≢false}
+use mathlib.Core.List.{List}
+use lib.ListN.{replicate}
+use lib.Dec.{eqb, leb}
+use borrow.Author.Tests.{eq-eqb, ne-eqb, le-leb, lt-leb, leb-false}
+use Rattle.ops.proofs.Returns.{took, passed-by}
+use Rattle.parts.specs.Parts.{partOf}
+use Rattle.offers.specs.Stands.{standOp, offersNothing}
+use Rattle.offers.proofs.Returns.{nothing-alone}
+use Rattle.ability.specs.Ending.{endingOp}
+use Rattle.ability.proofs.Idle.{alone-goes}
+use Rattle.entries.specs.Entries.{oneLine}
+use Rattle.turns.specs.declared.known.Known.{Known}
+use Rattle.turns.specs.Knowing.{unknown, marked, withIdle, alone, stillKnown, enteredKnown, unlessTold}
+
+-- a test that was negated
+
+no-longer : (b : Bool) → not b ≡ true → b ≡ false
+no-longer true e = sym e
+no-longer false e = refl
+
+still : (b : Bool) → not b ≡ false → b ≡ true
+still true e = refl
+still false e = sym e
+
+-- the marks
+
+module _ (known : Known) (n : ℕ) where
+  pub marks-on : {idle : List Bool} → known .some ≡ true → idle ≡ marked (known .idle) n → record { some = true; idle = idle } ≡ withIdle known n
+  unfolding withIdle
+  marks-on e h = ap with-marks (h ∙ ap (λ (l : List Bool). marked l n) (took _ _ (replicate 8 false) refl e refl))
+    where
+      with-marks : List Bool → Known
+      with-marks l = record { some = true; idle = l }
+
+  pub marks-anew : {idle : List Bool} → known .some ≡ false → idle ≡ marked (replicate 8 false) n → record { some = true; idle = idle } ≡ withIdle known n
+  unfolding withIdle
+  marks-anew e h = ap with-marks (h ∙ ap (λ (l : List Bool). marked l n) (passed-by _ (known .idle) _ refl e refl))
+    where
+      with-marks : List Bool → Known
+      with-marks l = record { some = true; idle = l }
+
+-- what is known still
+
+module _ (p work : List ℕ) (n : ℕ) (known : Known) (code : ℕ) where
+  pub knew-nothing : not (known .some) ≡ true → known ≡ stillKnown p work n known code
+  unfolding stillKnown
+  knew-nothing e = λ i. record { some = passed-by (known .some) (cond (eqb code 0) (alone p work n) true) false refl (no-longer (known .some) e) (no-longer (known .some) e) i; idle = known .idle }
+
+  pub no-step : not (known .some) ≡ false → (code ≡ 0 → ⊥) → known ≡ stillKnown p work n known code
+  unfolding stillKnown
+  no-step e h = λ i. record {
+    some = took (known .some) (cond (eqb code 0) (alone p work n) true) false refl (still (known .some) e) (passed-by (eqb code 0) (alone p work n) true refl (ne-eqb code 0 h) (still (known .some) e)) i;
+    idle = known .idle;
+  }
+
+  pub looked-at : not (known .some) ≡ false → code ≡ 0 → {b : Bool} → b ≡ alone p work n
+      → record { some = b; idle = known .idle } ≡ stillKnown p work n known code
+  unfolding stillKnown
+  looked-at e h {b} q = λ i. record {
+    some = took (known .some) (cond (eqb code 0) (alone p work n) true) false refl (still (known .some) e) (took (eqb code 0) (alone p work n) true refl (eq-eqb code 0 h) q) i;
+    idle = known .idle;
+  }
+
+-- a process was looked at
+
+pub beyond-alone : (p work : List ℕ) (n : ℕ) → 8 ≤ n → false ≡ alone p work n
+unfolding alone
+beyond-alone p work n h = took _ _ _ refl (le-leb 8 n h) refl
+
+pub stand-alone : (p work : List ℕ) (n : ℕ) {b : Bool} → n < 8 → b ≡ offersNothing p (partOf work n) → b ≡ alone p work n
+unfolding alone
+stand-alone p work n h e = passed-by _ _ _ refl (lt-leb 8 n h) e
+
+-- a process that moves by itself can be, and its stand says so
+pub alone-so : (p work : List ℕ) (n : ℕ) → alone p work n ≡ true → (n < 8) × (standOp p (partOf work n) .kind ≡ 1)
+unfolding alone
+alone-so p work n e = go (leb 8 n) refl e
+  where
+    go : (b : Bool) → leb 8 n ≡ b → cond b false (offersNothing p (partOf work n)) ≡ true → (n < 8) × (standOp p (partOf work n) .kind ≡ 1)
+    go true i h = absurd (true≢false (sym h))
+    go false i h = (leb-false 8 n i, nothing-alone p (partOf work n) h)
+
+pub ends-alone : (p work : List ℕ) (t : List (List ℕ)) (n : ℕ) {b : Bool} → b ≡ alone p work n → b ≡ true → 0 ≡ endingOp p work t 8
+ends-alone p work t n e h = alone-goes p work t n (alone-so p work n (sym e ∙ h) .0) (alone-so p work n (sym e ∙ h) .1)
+
+-- after an entry with lines
+
+module _ (p work : List ℕ) (n : ℕ) (known : Known) (code : ℕ) {b : Bool} (e : b ≡ oneLine code) where
+  pub one-entered : b ≡ true → {k : Known} → k ≡ stillKnown p work n known 0 → k ≡ enteredKnown p work n known code
+  unfolding enteredKnown
+  one-entered h q = took _ _ _ e h q
+
+  pub more-entered : b ≡ false → {k : Known} → k ≡ unknown → k ≡ enteredKnown p work n known code
+  unfolding enteredKnown
+  more-entered h q = passed-by _ _ _ e h q
+
+pub forgotten : (known : Known) {told : Bool} → told ≡ true → {k : Known} → k ≡ unknown → k ≡ unlessTold known told
+unfolding unlessTold
+forgotten known h q = took _ _ _ refl h q
+
+pub not-forgotten : (known : Known) {told : Bool} → told ≡ false → known ≡ unlessTold known told
+unfolding unlessTold
+not-forgotten known h = passed-by _ _ _ refl h refl
+
+-- what is known after an entry with lines was known before it
+pub entered-so : (p work : List ℕ) (n : ℕ) (known : Known) (code : ℕ) (told : Bool) → unlessTold (enteredKnown p work n known code) told .some ≡ true
+    → (told ≡ false) × (oneLine code ≡ true) × (known .some ≡ true) × (alone p work n ≡ true)
+unfolding unlessTold enteredKnown stillKnown unknown
+entered-so p work n known code told z = go told (oneLine code) (known .some) z
+  where
+    go : (a b c : Bool) → cond a unknown (cond b (record { some = cond c (alone p work n) false; idle = known .idle }) unknown) .some ≡ true
+        → (a ≡ false) × (b ≡ true) × (c ≡ true) × (alone p work n ≡ true)
+    go true b c z = absurd (true≢false (sym z))
+    go false true true z = (refl, refl, refl, z)
+    go false true false z = absurd (true≢false (sym z))
+    go false false c z = absurd (true≢false (sym z))
