@@ -14,7 +14,7 @@ use borrow.Author.Tests.{eqb-true, eqb-false, eq-eqb, ne-eqb, ltb-true, ltb-fals
 use Rattle.lists.specs.Lists.{any, every, All, below}
 use Rattle.lists.proofs.Tests.{decide}
 use Rattle.lists.proofs.Any.{All-getD}
-use Rattle.table.specs.Table.{argAt, opAt}
+use Rattle.table.specs.Table.{opAt}
 use Rattle.table.proofs.Accepted.{Kept}
 use Rattle.machine.specs.Value.{end, ref, sideNo}
 use Rattle.machine.specs.State.{Frame, Status, running, finished, stopped, Process, Config, State, processAt, unmade}
@@ -23,7 +23,7 @@ use Rattle.machine.specs.Entry.{runs, Meeting, offered, meetsWith, meetingOf, i
 use Rattle.machine.specs.Run.{isOver, allOver, noneAble}
 use Rattle.machine.specs.Owner.{valuesOf, reaches, holder}
 use Rattle.machine.specs.Sound.{Made, FrameSound, ProcessSound, ConfigSound}
-use Rattle.machine.proofs.Typing.{ConfigTyped}
+use Rattle.machine.proofs.Reached.{Reached}
 use Rattle.machine.proofs.Standing.{act-typed}
 use Rattle.machine.proofs.Sound.{config-sound}
 use Rattle.machine.proofs.Within.{OfferWithin, ActWithin, act-within}
@@ -49,13 +49,12 @@ use Rattle.offers.proofs.Standing.{Stands, stand-is, finished-stand, stopped-st
 use Rattle.ability.specs.Partner.{oppositeOf, readyOp, partnerOp}
 use Rattle.ability.specs.Ending.{abilityOf, abilityOp, someIs, endingOp}
 
-module _ (p : List ℕ) (kept : Kept p) (narrow : (i : ℕ) → argAt p i < 65536) (outcomes : List ℕ) (bytes : All (λ o. o < 256) outcomes)
-    (s : State) (ks : List ℕ) (typed : ConfigTyped p ks (s .config)) (rest : List ℕ) where
+module _ {p outcomes : List ℕ} {s : State} (reached : Reached p outcomes s) (rest : List ℕ) where
   abbrev config : Config
   config = s .config
 
   pub sound : ConfigSound p config
-  sound = config-sound p kept ks config typed
+  sound = config-sound p (reached .kept) (reached .kinds) config (reached .typed)
 
   pub laid : Laid config
   laid = laid-sound p config sound
@@ -69,7 +68,7 @@ module _ (p : List ℕ) (kept : Kept p) (narrow : (i : ℕ) → argAt p i < 6553
       → Stands (byStatus st (atFrames p outcomes s fs)) (standOp p (processWords (record { status = st; frames = fs })))
   unfolding byStatus atFrames
   stand-process running [] h = absurd (omega (arith, h .status))
-  stand-process running (f ∷ fs) h = stand-is p kept outcomes s f fs (h .frames) (omega (arith, h .depth)) (narrow (f .place))
+  stand-process running (f ∷ fs) h = stand-is p (reached .kept) outcomes s f fs (h .frames) (omega (arith, h .depth)) (reached .narrow (f .place))
   stand-process finished fs h =
       ap (λ (gs : List Frame). standOp p (processWords (record { status = finished; frames = gs }))) (h .status) ∙ finished-stand p
   stand-process (stopped n) fs h = stopped-stand p n fs
@@ -96,7 +95,7 @@ module _ (p : List ℕ) (kept : Kept p) (narrow : (i : ℕ) → argAt p i < 6553
           (ap (standOp p) (part-unmade config laid rest q l h) ∙ unmade-stand p)
 
   pub not-stuck : (q : ℕ) → actOf p outcomes s q ≢ stuck
-  not-stuck q e = rw e at (act-typed p kept outcomes bytes s ks typed q)
+  not-stuck q e = rw e at (act-typed p (reached .kept) outcomes (reached .bytes) s (reached .kinds) (reached .typed) q)
 
   -- partners
 
@@ -290,14 +289,14 @@ module _ (p : List ℕ) (kept : Kept p) (narrow : (i : ℕ) → argAt p i < 6553
         busy (eqb (opAt p (f .place)) 15) (eqb (opAt p (f .place)) 16) (emptyTwo w h) (eqb (valueAt w (topAt h 1) .tag) 0)
         (valueAt w (topAt h 2)) (valueAt w (topAt h 1)) (valueAt w (topAt h 1)) did.none
         (sym (ap (λ (g : Head). cond (eqb (g .status) 1) (cond (eqb (opAt p (g .place)) 15) (sendOf w g) (cond (eqb (opAt p (g .place)) 16) (receiveOf w g) (standing 1))) (standing 0))
-        (head-is p kept config f fs fine deep))
-        ∙ subst (λ (a : Act). Stands a (standOp p w)) e (stand-is p kept outcomes s f fs fine deep (narrow (f .place))))
+        (head-is p (reached .kept) config f fs fine deep))
+        ∙ subst (λ (a : Act). Stands a (standOp p w)) e (stand-is p (reached .kept) outcomes s f fs fine deep (reached .narrow (f .place))))
       where
         w : List ℕ
         w = processWords (runs (f ∷ fs))
 
         h : Head
-        h = head p kept config f fs fine deep
+        h = head p (reached .kept) config f fs fine deep
 
         busy : (a b c d : Bool) (x y z u : Val)
             → cond a (cond c (standing 1) (record { kind = 2; end = x; value = y })) (cond b (cond d (standing 1) (record { kind = 3; end = z; value = u })) (standing 1)) ≡ standing 0 → ⊥

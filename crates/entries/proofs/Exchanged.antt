@@ -12,8 +12,6 @@ use lib.Dec.{leb, ltb}
 use borrow.Author.Tests.{le-leb, lt-leb, ltb-true, ltb-false}
 use Rattle.lists.specs.Lists.{All}
 use Rattle.lists.proofs.Any.{All-getD}
-use Rattle.table.specs.Table.{argAt}
-use Rattle.table.proofs.Accepted.{Kept}
 use Rattle.machine.specs.Value.{qubit, channel, end, Value, empty, int, bool, ref, valueWord}
 use Rattle.machine.specs.State.{Frame, Process, Config, Line, State, processAt, setProcess, unmade, atPlace, withPending, lineOf, met, passed}
 use Rattle.machine.specs.Act.{sends, receives, offers, atFrame, atFrames, byStatus, actOf}
@@ -21,7 +19,8 @@ use Rattle.machine.specs.Entry.{Effect, Meeting, runs, framesWithout, thingsOf,
 use Rattle.machine.specs.Run.{fits}
 use Rattle.machine.specs.Answer.{traceAfter}
 use Rattle.machine.specs.Sound.{ValueSound, FrameSound, ConfigSound}
-use Rattle.machine.proofs.Typing.{Fits, Frames, ConfigTyped, Typed}
+use Rattle.machine.proofs.Reached.{Reached}
+use Rattle.machine.proofs.Typing.{Fits, Frames, Typed}
 use Rattle.machine.proofs.Standing.{act-typed}
 use Rattle.machine.proofs.Sound.{frame-sound, callers-sound, config-sound}
 use Rattle.machine.proofs.Giving.{process-same, process-other, count-set}
@@ -40,11 +39,13 @@ use Rattle.handing.proofs.Lines.{gift-added}
 use Rattle.singles.specs.Came.{Came, came, movedTo}
 use Rattle.handing.specs.MeetingLines.{metLine, valueLine, metWritten}
 use Rattle.entries.specs.Meetings.{exchangeOp}
+use Rattle.singles.proofs.Here.{Here}
 use Rattle.singles.proofs.Singly.{config, sound, laid, count, took, full, tried}
 
-module _ (p : List ℕ) (kept : Kept p) (narrow : (i : ℕ) → argAt p i < 65536) (outcomes : List ℕ) (bytes : All (λ o. o < 256) outcomes)
-    (s : State) (ks : List ℕ) (typed : ConfigTyped p ks (s .config)) (rest t0 : List ℕ) (room : ℕ) (holds : 6 * room ≤ length t0)
-    (small : s .used < 4000000000) (k n : ℕ) where
+module _ {p outcomes : List ℕ} {s : State} {t0 : List ℕ} {room : ℕ} (here : Here p outcomes s t0 room) (rest : List ℕ) (k n : ℕ) where
+  abbrev reached : Reached p outcomes s
+  reached = here .reached
+
   abbrev c : Config
   c = s .config
 
@@ -55,16 +56,16 @@ module _ (p : List ℕ) (kept : Kept p) (narrow : (i : ℕ) → argAt p i < 6553
   lines = traceAfter (s .lines) t0
 
   abbrev tries : Effect → Came
-  tries = tried p kept narrow outcomes bytes s ks typed rest t0 room holds small k n
+  tries = tried here rest k n
 
   abbrev fullNow : Came
-  fullNow = full p kept narrow outcomes bytes s ks typed rest t0 room holds small k n
+  fullNow = full here rest k n
 
   abbrev takes : Effect → Came
-  takes = took p kept narrow outcomes bytes s ks typed rest t0 room holds small k n
+  takes = took here rest k n
 
   fineConfig : ConfigSound p c
-  fineConfig = sound p kept narrow outcomes bytes s ks typed rest t0 room holds small k n
+  fineConfig = sound here rest k n
 
   -- the lines
 
@@ -120,9 +121,9 @@ module _ (p : List ℕ) (kept : Kept p) (narrow : (i : ℕ) → argAt p i < 6553
 
     sender-after : (us : List Value) → hs ≡ atPlace (suc (f .place)) (withPending us f) ∷ fs → All (FrameSound p c) (atPlace (suc (f .place)) (withPending us f) ∷ fs)
     sender-after us e =
-        let after : Frames p (Fits ks (c .qubits)) [] (atPlace (suc (f .place)) (withPending us f) ∷ fs)
-        = subst (Frames p (Fits ks (c .qubits)) []) e ((rw act-a at (act-typed p kept outcomes bytes s ks typed a)) .1) in
-        (frame-sound p kept ks c typed [] (atPlace (suc (f .place)) (withPending us f)) (after .stack .0), callers-sound p kept ks c typed (f .method) fs (after .stack .1))
+        let after : Frames p (Fits (reached .kinds) (c .qubits)) [] (atPlace (suc (f .place)) (withPending us f) ∷ fs)
+        = subst (Frames p (Fits (reached .kinds) (c .qubits)) []) e ((rw act-a at (act-typed p (reached .kept) outcomes (reached .bytes) s (reached .kinds) (reached .typed) a)) .1) in
+        (frame-sound p (reached .kept) (reached .kinds) c (reached .typed) [] (atPlace (suc (f .place)) (withPending us f)) (after .stack .0), callers-sound p (reached .kept) (reached .kinds) c (reached .typed) (f .method) fs (after .stack .1))
 
     module _ (after : Typed p (effect .config)) where
       after-long : (q : ℕ) (pr : Process) → processAt (effect .config) q ≡ pr → length (processWords pr) ≡ 512
@@ -130,7 +131,7 @@ module _ (p : List ℕ) (kept : Kept p) (narrow : (i : ℕ) → argAt p i < 6553
       after-long q pr e =
           subst (λ (x : Process). length (processWords x) ≡ 512) e
           (All-getD (λ x. length (processWords x) ≡ 512) (effect .config .processes) q unmade
-          (laid-sound p (effect .config) (config-sound p kept (after .0) (effect .config) (after .1)))
+          (laid-sound p (effect .config) (config-sound p (reached .kept) (after .0) (effect .config) (after .1)))
           (process-length p c unmade (record { status = refl; depth = omega arith; frames = tt })))
 
       abbrev sent : Config
@@ -150,10 +151,10 @@ module _ (p : List ℕ) (kept : Kept p) (narrow : (i : ℕ) → argAt p i < 6553
       store-met : metWords store a b (valOf v) ≡ encode (effect .config) ++ rest
       unfolding meeting pushTop
       store-met =
-          let r = sends-from p kept outcomes s f fs fine deep (narrow (f .place)) i d v hs sending in
-          let r′ = receives-from p kept outcomes s g gs fine′ deep′ (narrow (g .place)) i′ d′ hs′ receiving in
-          met-store p kept outcomes s (laid p kept narrow outcomes bytes s ks typed rest t0 room holds small k n) rest (fineConfig .qubitCount) a b
-          f fs fine deep (narrow (f .place)) g gs fine′ deep′ ma mb two standsA standsB v (ref (end i d)) (ref (end i′ d′)) (r .0) (r′ .0) (r .1) (r′ .1)
+          let r = sends-from p (reached .kept) outcomes s f fs fine deep (reached .narrow (f .place)) i d v hs sending in
+          let r′ = receives-from p (reached .kept) outcomes s g gs fine′ deep′ (reached .narrow (g .place)) i′ d′ hs′ receiving in
+          met-store p (reached .kept) outcomes s (laid here rest k n) rest (fineConfig .qubitCount) a b
+          f fs fine deep (reached .narrow (f .place)) g gs fine′ deep′ ma mb two standsA standsB v (ref (end i d)) (ref (end i′ d′)) (r .0) (r′ .0) (r .1) (r′ .1)
           (sender-after (r .0) (r .3))
           (ap (λ (l : List Frame). length (processWords (runs (framesWithout (thingsOf (v ∷ [])) l)))) (sym (r .3)) ∙ after-long a (runs (framesWithout (thingsOf (v ∷ [])) hs)) at-sender)
           (ap (λ (l : List Frame). length (processWords (runs (pushTop v l)))) (sym (r′ .2)) ∙ after-long b (runs (pushTop v hs′)) at-receiver)
@@ -162,20 +163,20 @@ module _ (p : List ℕ) (kept : Kept p) (narrow : (i : ℕ) → argAt p i < 6553
       lines-met : length (s .lines) + 2 ≤ room → metWritten lines (length (s .lines)) k a b (valOf (ref (end i d))) (valOf v) ≡ traceAfter (s .lines ++ effect .lines) t0
       unfolding metWritten meeting
       lines-met h =
-          let r = sends-from p kept outcomes s f fs fine deep (narrow (f .place)) i d v hs sending in
+          let r = sends-from p (reached .kept) outcomes s f fs fine deep (reached .narrow (f .place)) i d v hs sending in
           ap₂ (λ (w : List ℕ) (j : ℕ). withLine w j (valueLine k a b (valOf v)))
           (ap (withLine lines (length (s .lines))) (met-line a b i d (made-end (r .0) (r .1)))
-          ∙ written.line-written (s .lines) t0 (lineOf k a (met b i d)) (omega (arith, holds, h)))
+          ∙ written.line-written (s .lines) t0 (lineOf k a (met b i d)) (omega (arith, here .holds, h)))
           (sym (length-append (s .lines) (lineOf k a (met b i d) ∷ [])))
           ∙ handed-on a b v (s .lines ++ (lineOf k a (met b i d) ∷ [])) (value-fine (r .0) (r .1))
-          (omega (arith, holds, h, length-append (s .lines) (lineOf k a (met b i d) ∷ [])))
+          (omega (arith, here .holds, h, length-append (s .lines) (lineOf k a (met b i d) ∷ [])))
           ∙ ap (λ (l : List Line). traceAfter l t0) (append-assoc (s .lines) (lineOf k a (met b i d) ∷ []) (map (lineOf k a) (handing b v)))
 
       lines-long : length (effect .lines) ≡ 2
       unfolding meeting
       lines-long = ap suc (handing-one a b v)
 
-      pub exchange-law : exchangeOp lines store room (count p kept narrow outcomes bytes s ks typed rest t0 room holds small k n) a b (valOf (ref (end i d))) (valOf v) ≡ tries effect
+      pub exchange-law : exchangeOp lines store room (count here rest k n) a b (valOf (ref (end i d))) (valOf v) ≡ tries effect
       unfolding exchangeOp fits meeting
       exchange-law = go (ltb room (length (s .lines) + 2)) refl
         where

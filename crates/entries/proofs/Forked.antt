@@ -1,5 +1,5 @@
 -- FORK: what the code leaves in trace and store is the definitions' effect, where its lines fit.
-use Prim.Native.Nat.{ℕ, suc, _+_, _*_, _≤_, _<_}
+use Prim.Native.Nat.{ℕ, suc, _+_, _≤_, _<_}
 use mathlib.Core.Path.{_≡_, refl, sym, _∙_, ap, ap₂}
 use mathlib.Core.Logic.{_≢_}
 use mathlib.Core.Bool.{Bool, true, false, cond, not}
@@ -12,7 +12,6 @@ use borrow.Author.Tests.{le-leb, lt-leb, leb-true, ltb-true, ltb-false}
 use Rattle.lists.specs.Lists.{any, All}
 use Rattle.table.specs.Table.{methods, paramsOf, opAt, argAt}
 use Rattle.table.specs.Ops.{opOf, ops, opFork}
-use Rattle.table.proofs.Accepted.{Kept}
 use Rattle.machine.specs.Value.{Value, isEmpty}
 use Rattle.machine.specs.State.{Frame, Process, Config, Line, State, processAt, lineOf, forked, gave}
 use Rattle.machine.specs.Act.{Act, stuck, faults, forks, doings, doingOf, doFork, passedBy, atFrames, byStatus, actOf}
@@ -20,7 +19,8 @@ use Rattle.machine.specs.Entry.{Effect, runs, thingsOf, forking, applied}
 use Rattle.machine.specs.Run.{fits}
 use Rattle.machine.specs.Answer.{traceAfter}
 use Rattle.machine.specs.Sound.{FrameSound}
-use Rattle.machine.proofs.Typing.{Fits, Frames, ConfigTyped}
+use Rattle.machine.proofs.Reached.{Reached}
+use Rattle.machine.proofs.Typing.{Fits, Frames}
 use Rattle.machine.proofs.Standing.{act-typed}
 use Rattle.machine.proofs.Sound.{frame-sound, callers-sound}
 use Rattle.layout.specs.Layout.{processWords, encode}
@@ -40,12 +40,14 @@ use Rattle.singles.specs.Came.{Came, came, movedTo}
 use Rattle.singles.specs.Single.{singleOp}
 use Rattle.handing.specs.ForkLines.{forkWritten}
 use Rattle.entries.specs.Forking.{forkDone, startOp, tryOp, forkOp}
+use Rattle.singles.proofs.Here.{Here}
 use Rattle.singles.proofs.Singly.{config, sound, laid, count, took, full, tried, part-now, fault-law}
 
-module _ (p : List ℕ) (kept : Kept p) (narrow : (i : ℕ) → argAt p i < 65536) (outcomes : List ℕ) (bytes : All (λ o. o < 256) outcomes)
-    (s : State) (ks : List ℕ) (typed : ConfigTyped p ks (s .config)) (rest t0 : List ℕ) (room : ℕ) (holds : 6 * room ≤ length t0)
-    (small : s .used < 4000000000) (k n : ℕ) (made : n < length (s .config .processes))
+module _ {p outcomes : List ℕ} {s : State} {t0 : List ℕ} {room : ℕ} (here : Here p outcomes s t0 room) (rest : List ℕ) (k n : ℕ) (made : n < length (s .config .processes))
     (f : Frame) (fs : List Frame) (fine : All (FrameSound p (s .config)) (f ∷ fs)) (deep : length fs < 8) (stands : processAt (s .config) n ≡ runs (f ∷ fs)) where
+  abbrev reached : Reached p outcomes s
+  reached = here .reached
+
   abbrev c : Config
   c = s .config
 
@@ -59,13 +61,13 @@ module _ (p : List ℕ) (kept : Kept p) (narrow : (i : ℕ) → argAt p i < 6553
   m = argAt p (f .place)
 
   abbrev tries : Effect → Came
-  tries = tried p kept narrow outcomes bytes s ks typed rest t0 room holds small k n
+  tries = tried here rest k n
 
   abbrev fullNow : Came
-  fullNow = full p kept narrow outcomes bytes s ks typed rest t0 room holds small k n
+  fullNow = full here rest k n
 
   abbrev takes : Effect → Came
-  takes = took p kept narrow outcomes bytes s ks typed rest t0 room holds small k n
+  takes = took here rest k n
 
   abbrev given : ℕ → List Value
   given args = reverse (take args (f .pending))
@@ -84,9 +86,9 @@ module _ (p : List ℕ) (kept : Kept p) (narrow : (i : ℕ) → argAt p i < 6553
 
     things : thingsIn store n args args ≡ length (thingsOf (given args))
     things =
-        things-counted p kept c (laid p kept narrow outcomes bytes s ks typed rest t0 room holds small k n) rest n made
-        (sound p kept narrow outcomes bytes s ks typed rest t0 room holds small k n .qubitCount)
-        (sound p kept narrow outcomes bytes s ks typed rest t0 room holds small k n .channelCount) f fs fine deep stands args enough args (omega arith)
+        things-counted p (reached .kept) c (laid here rest k n) rest n made
+        (sound here rest k n .qubitCount)
+        (sound here rest k n .channelCount) f fs fine deep stands args enough args (omega arith)
         ∙ ap (λ (l : List Value). length (thingsOf l)) given-all
 
     -- its lines
@@ -109,12 +111,12 @@ module _ (p : List ℕ) (kept : Kept p) (narrow : (i : ℕ) → argAt p i < 6553
     lines-written h =
         ap₂ (λ (i : ℕ) (w : List ℕ). giftsAdded (gifts i w) store k n (length (c .processes)) args args)
         (sym (length-append (s .lines) (first ∷ [])))
-        (written.line-written (s .lines) t0 first (omega (arith, holds, h)))
-        ∙ gifts-written p kept c (laid p kept narrow outcomes bytes s ks typed rest t0 room holds small k n) rest n made
-        (sound p kept narrow outcomes bytes s ks typed rest t0 room holds small k n .qubitCount)
-        (sound p kept narrow outcomes bytes s ks typed rest t0 room holds small k n .channelCount) f fs fine deep stands args enough
+        (written.line-written (s .lines) t0 first (omega (arith, here .holds, h)))
+        ∙ gifts-written p (reached .kept) c (laid here rest k n) rest n made
+        (sound here rest k n .qubitCount)
+        (sound here rest k n .channelCount) f fs fine deep stands args enough
         (s .lines ++ (first ∷ [])) t0 k (length (c .processes)) args (omega arith)
-        (omega (arith, holds, h, length-append (s .lines) (first ∷ []), ap (λ (l : List Value). length (thingsOf l)) given-all))
+        (omega (arith, here .holds, h, length-append (s .lines) (first ∷ []), ap (λ (l : List Value). length (thingsOf l)) given-all))
         ∙ ap (λ (l : List Line). gifts (length l) (traceAfter l t0))
         (ap (λ (l : List Value). (s .lines ++ (first ∷ [])) ++ giftLines k n (length (c .processes)) l) given-all
         ∙ append-assoc (s .lines) (first ∷ []) (giftLines k n (length (c .processes)) (given args))
@@ -123,16 +125,16 @@ module _ (p : List ℕ) (kept : Kept p) (narrow : (i : ℕ) → argAt p i < 6553
     store-is : forkedWords p store n (length (c .processes)) m args ≡ encode (effect .config) ++ rest
     unfolding forking
     store-is =
-        forked-store p kept c (laid p kept narrow outcomes bytes s ks typed rest t0 room holds small k n) rest n made free f fs fine deep stands m method args enough few after
+        forked-store p (reached .kept) c (laid here rest k n) rest n made free f fs fine deep stands m method args enough few after
 
-    start-law : startOp p lines store room (count p kept narrow outcomes bytes s ks typed rest t0 room holds small k n) n (length (c .processes)) m args ≡ tries effect
+    start-law : startOp p lines store room (count here rest k n) n (length (c .processes)) m args ≡ tries effect
     unfolding startOp forkDone fits forking
     start-law =
         ap (λ (i : ℕ). cond (ltb room (length (s .lines) + 1 + i)) fullNow done) things
         ∙ go (ltb room (length (s .lines) + 1 + length (thingsOf (given args)))) refl
       where
         done : Came
-        done = forkDone p store (count p kept narrow outcomes bytes s ks typed rest t0 room holds small k n)
+        done = forkDone p store (count here rest k n)
             (forkWritten lines store (length (s .lines)) k n (length (c .processes)) m args) n (length (c .processes)) m args
 
         go : (b : Bool) → ltb room (length (s .lines) + 1 + length (thingsOf (given args))) ≡ b
@@ -166,43 +168,43 @@ module _ (p : List ℕ) (kept : Kept p) (narrow : (i : ℕ) → argAt p i < 6553
   unfolding actOf byStatus atFrames doingOf doings doFork opOf ops opFork passedBy
   forking-act e =
       ap (λ (pr : Process). byStatus (pr .status) (atFrames p outcomes s (pr .frames))) stands
-      ∙ act-is p kept outcomes s f fs fine deep (narrow (f .place)) 14 params (f .pending) e
-      (taken-by p kept outcomes s f fs fine deep (narrow (f .place)) 14 e) refl
+      ∙ act-is p (reached .kept) outcomes s f fs fine deep (reached .narrow (f .place)) 14 params (f .pending) e
+      (taken-by p (reached .kept) outcomes s f fs fine deep (reached .narrow (f .place)) 14 e) refl
 
   method-there : opAt p (f .place) ≡ 14 → m < methods p
   unfolding opOf ops opFork
-  method-there e = ltb→lt m (methods p) (argument-kept p kept outcomes s f fs fine deep (narrow (f .place)) 14 e)
+  method-there e = ltb→lt m (methods p) (argument-kept p (reached .kept) outcomes s f fs fine deep (reached .narrow (f .place)) 14 e)
 
   -- what the code reads
   reads-method : argumentIn p (partOf store n) ≡ m
   unfolding argumentIn
   reads-method =
-      ap (λ (w : List ℕ). argAt p (headOf w .place)) (part-now p kept narrow outcomes bytes s ks typed rest t0 room holds small k n made f fs fine deep stands)
-      ∙ ap (λ (h : Head). argAt p (h .place)) (head-is p kept c f fs fine deep)
+      ap (λ (w : List ℕ). argAt p (headOf w .place)) (part-now here rest k n made f fs fine deep stands)
+      ∙ ap (λ (h : Head). argAt p (h .place)) (head-is p (reached .kept) c f fs fine deep)
 
   reads-empty : params ≤ length (f .pending) → emptyIn (partOf store n) params ≡ any isEmpty (take params (f .pending))
   unfolding emptyIn
   reads-empty h =
-      ap (λ (w : List ℕ). emptyDown w (topAt (headOf w) 1) params) (part-now p kept narrow outcomes bytes s ks typed rest t0 room holds small k n made f fs fine deep stands)
-      ∙ ap (λ (h : Head). emptyDown (processWords (runs (f ∷ fs))) (topAt h 1) params) (head-is p kept c f fs fine deep)
-      ∙ empty-args p kept outcomes s f fs fine deep (narrow (f .place)) params h
+      ap (λ (w : List ℕ). emptyDown w (topAt (headOf w) 1) params) (part-now here rest k n made f fs fine deep stands)
+      ∙ ap (λ (h : Head). emptyDown (processWords (runs (f ∷ fs))) (topAt h 1) params) (head-is p (reached .kept) c f fs fine deep)
+      ∙ empty-args p (reached .kept) outcomes s f fs fine deep (reached .narrow (f .place)) params h
 
   -- the frames that go on are sound
   goes-sound : actOf p outcomes s n ≡ forks m (given params) (passedBy params f ∷ fs) → All (FrameSound p c) (passedBy params f ∷ fs)
   goes-sound e =
-      let typed-after : Frames p (Fits ks (c .qubits)) [] (passedBy params f ∷ fs) = (rw e at (act-typed p kept outcomes bytes s ks typed n)) .3 in
-      (frame-sound p kept ks c typed [] (passedBy params f) (typed-after .stack .0), callers-sound p kept ks c typed (passedBy params f .method) fs (typed-after .stack .1))
+      let typed-after : Frames p (Fits (reached .kinds) (c .qubits)) [] (passedBy params f ∷ fs) = (rw e at (act-typed p (reached .kept) outcomes (reached .bytes) s (reached .kinds) (reached .typed) n)) .3 in
+      (frame-sound p (reached .kept) (reached .kinds) c (reached .typed) [] (passedBy params f) (typed-after .stack .0), callers-sound p (reached .kept) (reached .kinds) c (reached .typed) (passedBy params f .method) fs (typed-after .stack .1))
 
   -- what an entry at FORK leaves
   pub fork-law : opAt p (f .place) ≡ 14 → actOf p outcomes s n ≢ stuck
-      → forkOp p outcomes lines store room (count p kept narrow outcomes bytes s ks typed rest t0 room holds small k n) n ≡ tries (applied p outcomes k s n (actOf p outcomes s n))
+      → forkOp p outcomes lines store room (count here rest k n) n ≡ tries (applied p outcomes k s n (actOf p outcomes s n))
   unfolding forkOp tryOp applied
   fork-law e going =
-      ap (λ (i : ℕ). tryOp p outcomes lines store room (count p kept narrow outcomes bytes s ks typed rest t0 room holds small k n) n i (paramsOf p i)) reads-method
+      ap (λ (i : ℕ). tryOp p outcomes lines store room (count here rest k n) n i (paramsOf p i)) reads-method
       ∙ enough (leb params (length (f .pending))) refl
     where
-      here : Came
-      here = tryOp p outcomes lines store room (count p kept narrow outcomes bytes s ks typed rest t0 room holds small k n) n m params
+      left : Came
+      left = tryOp p outcomes lines store room (count here rest k n) n m params
 
       doing : (b x y : Bool) → leb params (length (f .pending)) ≡ b → any isEmpty (take params (f .pending)) ≡ x → ltb (length (c .processes)) 8 ≡ y
           → actOf p outcomes s n ≡ cond b (cond x (faults 20) (cond y (forks m (given params) (passedBy params f ∷ fs)) (faults 23))) stuck
@@ -211,20 +213,20 @@ module _ (p : List ℕ) (kept : Kept p) (narrow : (i : ℕ) → argAt p i < 6553
           ∙ (λ t. cond (i t) (cond (j t) (faults 20) (cond (l t) (forks m (given params) (passedBy params f ∷ fs)) (faults 23))) stuck)
 
       stopped-by : (x : ℕ) → 20 ≤ x → x ≤ 27 → actOf p outcomes s n ≡ faults x
-          → singleOp p outcomes lines store room (count p kept narrow outcomes bytes s ks typed rest t0 room holds small k n) n x ≡ tries (applied p outcomes k s n (actOf p outcomes s n))
+          → singleOp p outcomes lines store room (count here rest k n) n x ≡ tries (applied p outcomes k s n (actOf p outcomes s n))
       stopped-by x low high i =
-          fault-law p kept narrow outcomes bytes s ks typed rest t0 room holds small k n made f fs fine deep stands x low high
+          fault-law here rest k n made f fs fine deep stands x low high
           ∙ ap (λ (a : Act). tries (applied p outcomes k s n a)) (sym i)
 
       free : (x y : Bool) → leb params (length (f .pending)) ≡ true → any isEmpty (take params (f .pending)) ≡ x → ltb (length (c .processes)) 8 ≡ y
-          → cond x (singleOp p outcomes lines store room (count p kept narrow outcomes bytes s ks typed rest t0 room holds small k n) n 20)
-          (cond (not y) (singleOp p outcomes lines store room (count p kept narrow outcomes bytes s ks typed rest t0 room holds small k n) n 23)
-          (startOp p lines store room (count p kept narrow outcomes bytes s ks typed rest t0 room holds small k n) n (length (c .processes)) m params))
+          → cond x (singleOp p outcomes lines store room (count here rest k n) n 20)
+          (cond (not y) (singleOp p outcomes lines store room (count here rest k n) n 23)
+          (startOp p lines store room (count here rest k n) n (length (c .processes)) m params))
           ≡ tries (applied p outcomes k s n (actOf p outcomes s n))
       free true y i j l = stopped-by 20 (omega arith) (omega arith) (doing true true y i j l)
       free false false i j l = stopped-by 23 (omega arith) (omega arith) (doing true false false i j l)
       free false true i j l =
-          start-law (method-there e) params (leb-true params (length (f .pending)) i) (kept .rows m (method-there e) .params) (ltb-true (length (c .processes)) 8 l)
+          start-law (method-there e) params (leb-true params (length (f .pending)) i) (reached .kept .rows m (method-there e) .params) (ltb-true (length (c .processes)) 8 l)
           (goes-sound (doing true false true i j l))
           ∙ ap (λ (a : Act). tries (applied p outcomes k s n a)) (sym (doing true false true i j l))
 
@@ -232,12 +234,12 @@ module _ (p : List ℕ) (kept : Kept p) (narrow : (i : ℕ) → argAt p i < 6553
       full-house true l = ap (leb 8) (processes-word c rest) ∙ lt-leb 8 (length (c .processes)) (ltb-true (length (c .processes)) 8 l)
       full-house false l = ap (leb 8) (processes-word c rest) ∙ le-leb 8 (length (c .processes)) (ltb-false (length (c .processes)) 8 l)
 
-      enough : (b : Bool) → leb params (length (f .pending)) ≡ b → here ≡ tries (applied p outcomes k s n (actOf p outcomes s n))
+      enough : (b : Bool) → leb params (length (f .pending)) ≡ b → left ≡ tries (applied p outcomes k s n (actOf p outcomes s n))
       enough true i =
           (λ t. cond (reads-empty (leb-true params (length (f .pending)) i) t)
-          (singleOp p outcomes lines store room (count p kept narrow outcomes bytes s ks typed rest t0 room holds small k n) n 20)
+          (singleOp p outcomes lines store room (count here rest k n) n 20)
           (cond (full-house (ltb (length (c .processes)) 8) refl t)
-          (singleOp p outcomes lines store room (count p kept narrow outcomes bytes s ks typed rest t0 room holds small k n) n 23)
-          (startOp p lines store room (count p kept narrow outcomes bytes s ks typed rest t0 room holds small k n) n (processes-word c rest t) m params)))
+          (singleOp p outcomes lines store room (count here rest k n) n 23)
+          (startOp p lines store room (count here rest k n) n (processes-word c rest t) m params)))
           ∙ free (any isEmpty (take params (f .pending))) (ltb (length (c .processes)) 8) i refl refl
       enough false i = absurd (going (doing false (any isEmpty (take params (f .pending))) (ltb (length (c .processes)) 8) i refl refl))

@@ -1,5 +1,5 @@
 -- An entry at SEND or RECV, by what the process and its partner stand at.
-use Prim.Native.Nat.{ℕ, _*_, _≤_, _<_}
+use Prim.Native.Nat.{ℕ, _<_}
 use mathlib.Core.Path.{_≡_, refl, sym, _∙_, ap, ap₂, subst}
 use mathlib.Core.Logic.{_≢_, ⊎-elim}
 use mathlib.Core.Bool.{Bool, true, false, cond, not, _&&_, _||_, Bool·beq, true≢false}
@@ -11,7 +11,7 @@ use lib.Dec.{eqb, ltb}
 use borrow.Author.Tests.{ne-eqb, lt-leb, ltb-true, ltb-false}
 use Rattle.lists.specs.Lists.{All}
 use Rattle.lists.proofs.Tests.{decide}
-use Rattle.table.specs.Table.{argAt, opAt}
+use Rattle.table.specs.Table.{opAt}
 use Rattle.table.specs.Ops.{opOf, ops, opSend, opRecv}
 use Rattle.table.specs.Reading.{takenAt}
 use Rattle.table.proofs.Accepted.{Kept}
@@ -21,7 +21,8 @@ use Rattle.machine.specs.Act.{Offer, sends, receives, Act, idle, stuck, faults,
 use Rattle.machine.specs.Entry.{Effect, Meeting, joins, offered, meetsWith, meetingOf, isMeeting, runs, meeting, meetingIf, applied, effectOf, moves}
 use Rattle.machine.specs.Owner.{valuesOf}
 use Rattle.machine.specs.Sound.{FrameSound, ProcessSound}
-use Rattle.machine.proofs.Typing.{ConfigTyped, Typed}
+use Rattle.machine.proofs.Reached.{Reached}
+use Rattle.machine.proofs.Typing.{Typed}
 use Rattle.machine.proofs.Effects.{effect-typed}
 use Rattle.machine.proofs.Within.{OfferWithin, ActWithin, act-within}
 use Rattle.machine.proofs.Partner.{unmade-idle}
@@ -44,13 +45,15 @@ use Rattle.ability.proofs.Able.{process-sound, stand-at, found, partner-law, me
 use Rattle.singles.specs.Came.{Came, came, stayedAt}
 use Rattle.singles.specs.Single.{singleOp}
 use Rattle.entries.specs.Meetings.{exchangeOp, meetBy}
+use Rattle.singles.proofs.Here.{Here}
 use Rattle.singles.proofs.Singly.{sound, count, tried, part-now, fault-law}
 use Rattle.entries.proofs.Exchanged.{exchange-law}
 use Rattle.entries.proofs.Paired.{pairBy, pairOp, joinOp, offerOp, standsOp, meetOp, meet-same}
 
-module _ (p : List ℕ) (kept : Kept p) (narrow : (i : ℕ) → argAt p i < 65536) (outcomes : List ℕ) (bytes : All (λ o. o < 256) outcomes)
-    (s : State) (ks : List ℕ) (typed : ConfigTyped p ks (s .config)) (rest t0 : List ℕ) (room : ℕ) (holds : 6 * room ≤ length t0)
-    (small : s .used < 4000000000) (k n : ℕ) where
+module _ {p outcomes : List ℕ} {s : State} {t0 : List ℕ} {room : ℕ} (here : Here p outcomes s t0 room) (rest : List ℕ) (k n : ℕ) where
+  abbrev reached : Reached p outcomes s
+  reached = here .reached
+
   abbrev c : Config
   c = s .config
 
@@ -61,10 +64,10 @@ module _ (p : List ℕ) (kept : Kept p) (narrow : (i : ℕ) → argAt p i < 6553
   lines = traceAfter (s .lines) t0
 
   abbrev tries : Effect → Came
-  tries = tried p kept narrow outcomes bytes s ks typed rest t0 room holds small k n
+  tries = tried here rest k n
 
   abbrev stay : Came
-  stay = came (stayedAt (count p kept narrow outcomes bytes s ks typed rest t0 room holds small k n)) lines store
+  stay = came (stayedAt (count here rest k n)) lines store
 
   -- what an entry of process n leaves, by its act
   abbrev pub went : Act → Came
@@ -96,7 +99,7 @@ module _ (p : List ℕ) (kept : Kept p) (narrow : (i : ℕ) → argAt p i < 6553
 
   running-at : (q : ℕ) (o : Offer) → actOf p outcomes s q ≡ offers o → Running q o
   unfolding actOf byStatus atFrames
-  running-at q o e = go (processAt c q .status) (processAt c q .frames) refl (process-sound p kept narrow outcomes bytes s ks typed rest q) e
+  running-at q o e = go (processAt c q .status) (processAt c q .frames) refl (process-sound reached rest q) e
     where
       made : q < length (c .processes)
       made =
@@ -115,21 +118,21 @@ module _ (p : List ℕ) (kept : Kept p) (narrow : (i : ℕ) → argAt p i < 6553
   -- the meeting of process n, which offers o, with process q, which offers r
   pair-law : (q : ℕ) (o r : Offer) (e : Meeting) (st : Stand) → Running n o → Running q r → q < 8 → q ≢ n → Stands (offers o) st
       → Stands (offers r) (standOp p (partOf store q)) → joins n o q r ≡ some e → Typed p (meeting k s e .config)
-      → pairOp p lines store room (count p kept narrow outcomes bytes s ks typed rest t0 room holds small k n) n st q ≡ tries (meeting k s e)
+      → pairOp p lines store room (count here rest k n) n st q ≡ tries (meeting k s e)
   unfolding joins pairOp pairBy
   pair-law q (sends i d v hs) (sends i′ d′ v′ hs′) e st x y near two h h′ j after = absurd (Option·none-ne-some e j)
   pair-law q (sends i d v hs) (receives i′ d′ hs′) e st x y near two h h′ j after =
       let w = cond-some (eqb i i′ && Bool·beq d (not d′)) _ e j in
-      ap (λ (a : Stand). pairOp p lines store room (count p kept narrow outcomes bytes s ks typed rest t0 room holds small k n) n a q) h
-      ∙ exchange-law p kept narrow outcomes bytes s ks typed rest t0 room holds small k n n q (x .made) (y .made) (λ z. two (sym z))
+      ap (λ (a : Stand). pairOp p lines store room (count here rest k n) n a q) h
+      ∙ exchange-law here rest k n n q (x .made) (y .made) (λ z. two (sym z))
       (x .frame) (x .below) (x .fine) (x .deep) (x .stands) (y .frame) (y .below) (y .fine) (y .deep) (y .stands) i i′ d d′ v hs hs′ (x .offer) (y .offer)
       (subst (λ (m : Meeting). Typed p (meeting k s m .config)) (sym (w .1)) after)
       ∙ ap (λ (m : Meeting). tries (meeting k s m)) (w .1)
   pair-law q (receives i d hs) (sends i′ d′ v hs′) e st x y near two h h′ j after =
       let w = cond-some (eqb i i′ && Bool·beq d (not d′)) _ e j in
-      ap₂ (λ (a b : Stand). cond (eqb (a .kind) 2) (exchangeOp lines store room (count p kept narrow outcomes bytes s ks typed rest t0 room holds small k n) n q (a .end) (a .value))
-      (exchangeOp lines store room (count p kept narrow outcomes bytes s ks typed rest t0 room holds small k n) q n (b .end) (b .value))) h h′
-      ∙ exchange-law p kept narrow outcomes bytes s ks typed rest t0 room holds small k n q n (y .made) (x .made) two
+      ap₂ (λ (a b : Stand). cond (eqb (a .kind) 2) (exchangeOp lines store room (count here rest k n) n q (a .end) (a .value))
+      (exchangeOp lines store room (count here rest k n) q n (b .end) (b .value))) h h′
+      ∙ exchange-law here rest k n q n (y .made) (x .made) two
       (y .frame) (y .below) (y .fine) (y .deep) (y .stands) (x .frame) (x .below) (x .fine) (x .deep) (x .stands) i′ i d′ d v hs′ hs (y .offer) (x .offer)
       (subst (λ (m : Meeting). Typed p (meeting k s m .config)) (sym (w .1)) after)
       ∙ ap (λ (m : Meeting). tries (meeting k s m)) (w .1)
@@ -137,41 +140,41 @@ module _ (p : List ℕ) (kept : Kept p) (narrow : (i : ℕ) → argAt p i < 6553
 
   module _ (owned : own.Kept c (s .lines)) (t : List (List ℕ)) (holding : Holding t (s .lines)) where
     abbrev partner : Offer → ℕ
-    partner = found p kept narrow outcomes bytes s ks typed rest owned t holding
+    partner = found reached rest owned t holding
 
     within : (o : Offer) → actOf p outcomes s n ≡ offers o → OfferWithin (valuesOf (processAt c n .frames)) o
     within o e = subst (ActWithin (valuesOf (processAt c n .frames)) (c .qubits) (c .channels)) e (act-within p outcomes s n)
 
     offer-law : (o : Offer) (st : Stand) → actOf p outcomes s n ≡ offers o → Stands (offers o) st
-        → offerOp p lines store room t (count p kept narrow outcomes bytes s ks typed rest t0 room holds small k n) n st ≡ went (offers o)
+        → offerOp p lines store room t (count here rest k n) n st ≡ went (offers o)
     unfolding offerOp joinOp moves applied effectOf isMeeting meetingIf
     offer-law o st does h =
-        ap (joinOp p lines store room (count p kept narrow outcomes bytes s ks typed rest t0 room holds small k n) n st)
-        (partner-law p kept narrow outcomes bytes s ks typed rest owned t holding n o st (within o does) h)
+        ap (joinOp p lines store room (count here rest k n) n st)
+        (partner-law reached rest owned t holding n o st (within o does) h)
         ∙ go (isMeeting (meetingOf p outcomes s n o)) refl
       where
         after : Typed p (meetingIf k s (meetingOf p outcomes s n o) .config)
-        after = subst (λ (a : Act). Typed p (applied p outcomes k s n a .config)) does (effect-typed p kept outcomes bytes s ks typed k n)
+        after = subst (λ (a : Act). Typed p (applied p outcomes k s n a .config)) does (effect-typed p (reached .kept) outcomes (reached .bytes) s (reached .kinds) (reached .typed) k n)
 
         paired : (m : Option Meeting) → meetingOf p outcomes s n o ≡ m → isMeeting m ≡ true → Typed p (meetingIf k s m .config)
-            → pairOp p lines store room (count p kept narrow outcomes bytes s ks typed rest t0 room holds small k n) n st (partner o) ≡ tries (meetingIf k s m)
+            → pairOp p lines store room (count here rest k n) n st (partner o) ≡ tries (meetingIf k s m)
         paired none i b u = absurd (true≢false (sym b))
         paired (some e) i b u =
-            let q = found-partner p kept narrow outcomes bytes s ks typed rest owned t holding n o (within o does) (ap isMeeting i) in
-            let near : partner o < 8 = omega (arith, q .0, sound p kept narrow outcomes bytes s ks typed rest t0 room holds small k n .processCount) in
+            let q = found-partner reached rest owned t holding n o (within o does) (ap isMeeting i) in
+            let near : partner o < 8 = omega (arith, q .0, sound here rest k n .processCount) in
             let w = meets-offer n (partner o) o (actOf p outcomes s (partner o)) e
             (sym (ap (λ (z : Bool). cond z none (meetsWith n o (partner o) (offered (actOf p outcomes s (partner o))))) (ne-eqb (partner o) n (q .1)))
-            ∙ sym (met-with p kept narrow outcomes bytes s ks typed rest owned t holding n o (within o does)) ∙ i) in
+            ∙ sym (met-with reached rest owned t holding n o (within o does)) ∙ i) in
             pair-law (partner o) o (w .0) e st (running-at n o does) (running-at (partner o) (w .0) (w .1)) near (q .1) h
-            (subst (λ (a : Act). Stands a (standOp p (partOf store (partner o)))) (w .1) (stand-at p kept narrow outcomes bytes s ks typed rest (partner o) near)) (w .2) u
+            (subst (λ (a : Act). Stands a (standOp p (partOf store (partner o)))) (w .1) (stand-at reached rest (partner o) near)) (w .2) u
 
         go : (b : Bool) → isMeeting (meetingOf p outcomes s n o) ≡ b
-            → joinOp p lines store room (count p kept narrow outcomes bytes s ks typed rest t0 room holds small k n) n st (cond b (partner o) 65535)
+            → joinOp p lines store room (count here rest k n) n st (cond b (partner o) 65535)
             ≡ cond b (tries (meetingIf k s (meetingOf p outcomes s n o))) stay
         go true b =
-            ap (λ (z : Bool). cond z stay (pairOp p lines store room (count p kept narrow outcomes bytes s ks typed rest t0 room holds small k n) n st (partner o)))
+            ap (λ (z : Bool). cond z stay (pairOp p lines store room (count here rest k n) n st (partner o)))
             (lt-leb 8 (partner o)
-            (omega (arith, found-partner p kept narrow outcomes bytes s ks typed rest owned t holding n o (within o does) b .0, sound p kept narrow outcomes bytes s ks typed rest t0 room holds small k n .processCount)))
+            (omega (arith, found-partner reached rest owned t holding n o (within o does) b .0, sound here rest k n .processCount)))
             ∙ paired (meetingOf p outcomes s n o) refl b after
         go false b = refl
 
@@ -189,25 +192,25 @@ module _ (p : List ℕ) (kept : Kept p) (narrow : (i : ℕ) → argAt p i < 6553
     module _ (made : n < length (c .processes)) (f : Frame) (fs : List Frame) (fine : All (FrameSound p c) (f ∷ fs)) (deep : length fs < 8)
         (stands : processAt c n ≡ runs (f ∷ fs)) where
       stands-law : (a : Act) (st : Stand) → actOf p outcomes s n ≡ a → Offering a → a ≢ stuck → Stands a st
-          → standsOp p outcomes lines store room t (count p kept narrow outcomes bytes s ks typed rest t0 room holds small k n) n st ≡ went a
+          → standsOp p outcomes lines store room t (count here rest k n) n st ≡ went a
       unfolding standsOp moves
       stands-law idle st does o going h = absurd o
       stands-law stuck st does o going h = absurd (going refl)
       stands-law (faults m) st does o going h =
-          ap (standsOp p outcomes lines store room t (count p kept narrow outcomes bytes s ks typed rest t0 room holds small k n) n) h
-          ∙ fault-law p kept narrow outcomes bytes s ks typed rest t0 room holds small k n made f fs fine deep stands 20 (omega arith) (omega arith)
+          ap (standsOp p outcomes lines store room t (count here rest k n) n) h
+          ∙ fault-law here rest k n made f fs fine deep stands 20 (omega arith) (omega arith)
           ∙ ap (λ (i : ℕ). tries (applied p outcomes k s n (faults i))) (sym o)
       stands-law (goes gs es u) st does o going h = absurd o
       stands-law ends st does o going h = absurd o
       stands-law (makes x gs) st does o going h = absurd o
       stands-law (forks m args gs) st does o going h = absurd o
       stands-law (offers (sends i d v hs)) st does o going h =
-          ap (λ (b : Bool). cond b (singleOp p outcomes lines store room (count p kept narrow outcomes bytes s ks typed rest t0 room holds small k n) n 20)
-          (offerOp p lines store room t (count p kept narrow outcomes bytes s ks typed rest t0 room holds small k n) n st)) (ap (λ (x : Stand). ltb (x .kind) 2) h)
+          ap (λ (b : Bool). cond b (singleOp p outcomes lines store room (count here rest k n) n 20)
+          (offerOp p lines store room t (count here rest k n) n st)) (ap (λ (x : Stand). ltb (x .kind) 2) h)
           ∙ offer-law (sends i d v hs) st does h
       stands-law (offers (receives i d hs)) st does o going h =
-          ap (λ (b : Bool). cond b (singleOp p outcomes lines store room (count p kept narrow outcomes bytes s ks typed rest t0 room holds small k n) n 20)
-          (offerOp p lines store room t (count p kept narrow outcomes bytes s ks typed rest t0 room holds small k n) n st)) (ap (λ (x : Stand). ltb (x .kind) 2) h)
+          ap (λ (b : Bool). cond b (singleOp p outcomes lines store room (count here rest k n) n 20)
+          (offerOp p lines store room t (count here rest k n) n st)) (ap (λ (x : Stand). ltb (x .kind) 2) h)
           ∙ offer-law (receives i d hs) st does h
 
       offering : (b : Bool) (a : Act) → Offering a → Offering (cond b (faults 20) a)
@@ -219,13 +222,13 @@ module _ (p : List ℕ) (kept : Kept p) (narrow : (i : ℕ) → argAt p i < 6553
       send-offering e = go (f .pending) refl
         where
           taken : takenAt p (f .place) ≡ 2
-          taken = taken-by p kept outcomes s f fs fine deep (narrow (f .place)) 15 e
+          taken = taken-by p (reached .kept) outcomes s f fs fine deep (reached .narrow (f .place)) 15 e
 
           short : (vs : List Value) → f .pending ≡ vs → length vs < 2 → Offering (atFrame p outcomes s f fs)
           short vs q h =
-              subst Offering (sym (act-short p kept outcomes s f fs fine deep (narrow (f .place)) 15 2 e taken (subst (λ (l : List Value). length l < 2) (sym q) h))) tt
+              subst Offering (sym (act-short p (reached .kept) outcomes s f fs fine deep (reached .narrow (f .place)) 15 2 e taken (subst (λ (l : List Value). length l < 2) (sym q) h))) tt
 
-          ended : (y x : Value) (us : List Value) → Offering (doSend (scene p kept outcomes s f fs fine deep (narrow (f .place)) 2 (y ∷ x ∷ us)))
+          ended : (y x : Value) (us : List Value) → Offering (doSend (scene p (reached .kept) outcomes s f fs fine deep (reached .narrow (f .place)) 2 (y ∷ x ∷ us)))
           ended y empty us = tt
           ended y (int z) us = tt
           ended y (bool z) us = tt
@@ -237,17 +240,17 @@ module _ (p : List ℕ) (kept : Kept p) (narrow : (i : ℕ) → argAt p i < 6553
           go [] q = short [] q (omega arith)
           go (u ∷ []) q = short (u ∷ []) q (omega arith)
           go (y ∷ x ∷ us) q =
-              subst Offering (sym (act-two p kept outcomes s f fs fine deep (narrow (f .place)) 15 y x us e taken q))
-              (offering (isEmpty y || (isEmpty x || false)) (doSend (scene p kept outcomes s f fs fine deep (narrow (f .place)) 2 (y ∷ x ∷ us))) (ended y x us))
+              subst Offering (sym (act-two p (reached .kept) outcomes s f fs fine deep (reached .narrow (f .place)) 15 y x us e taken q))
+              (offering (isEmpty y || (isEmpty x || false)) (doSend (scene p (reached .kept) outcomes s f fs fine deep (reached .narrow (f .place)) 2 (y ∷ x ∷ us))) (ended y x us))
 
       receive-offering : opAt p (f .place) ≡ 16 → Offering (atFrame p outcomes s f fs)
       unfolding doingOf doings doRecv opOf ops opRecv
       receive-offering e = go (f .pending) refl
         where
           taken : takenAt p (f .place) ≡ 1
-          taken = taken-by p kept outcomes s f fs fine deep (narrow (f .place)) 16 e
+          taken = taken-by p (reached .kept) outcomes s f fs fine deep (reached .narrow (f .place)) 16 e
 
-          ended : (x : Value) (us : List Value) → Offering (doRecv (scene p kept outcomes s f fs fine deep (narrow (f .place)) 1 (x ∷ us)))
+          ended : (x : Value) (us : List Value) → Offering (doRecv (scene p (reached .kept) outcomes s f fs fine deep (reached .narrow (f .place)) 1 (x ∷ us)))
           ended empty us = tt
           ended (int z) us = tt
           ended (bool z) us = tt
@@ -256,27 +259,27 @@ module _ (p : List ℕ) (kept : Kept p) (narrow : (i : ℕ) → argAt p i < 6553
           ended (ref (end z d)) us = tt
 
           go : (vs : List Value) → f .pending ≡ vs → Offering (atFrame p outcomes s f fs)
-          go [] q = subst Offering (sym (act-short p kept outcomes s f fs fine deep (narrow (f .place)) 16 1 e taken (subst (λ (l : List Value). length l < 1) (sym q) (omega arith)))) tt
+          go [] q = subst Offering (sym (act-short p (reached .kept) outcomes s f fs fine deep (reached .narrow (f .place)) 16 1 e taken (subst (λ (l : List Value). length l < 1) (sym q) (omega arith)))) tt
           go (x ∷ us) q =
-              subst Offering (sym (act-one p kept outcomes s f fs fine deep (narrow (f .place)) 16 x us e taken q))
-              (offering (isEmpty x || false) (doRecv (scene p kept outcomes s f fs fine deep (narrow (f .place)) 1 (x ∷ us))) (ended x us))
+              subst Offering (sym (act-one p (reached .kept) outcomes s f fs fine deep (reached .narrow (f .place)) 16 x us e taken q))
+              (offering (isEmpty x || false) (doRecv (scene p (reached .kept) outcomes s f fs fine deep (reached .narrow (f .place)) 1 (x ∷ us))) (ended x us))
 
       act-here : actOf p outcomes s n ≡ atFrame p outcomes s f fs
       unfolding actOf byStatus atFrames
       act-here = ap (λ (pr : Process). byStatus (pr .status) (atFrames p outcomes s (pr .frames))) stands
 
       pub meet-law : (code : ℕ) → Offering (atFrame p outcomes s f fs) → actOf p outcomes s n ≢ stuck → n < 8 → offerOf (partOf store n) code ≡ standOp p (partOf store n)
-          → meetBy p outcomes lines store room (count p kept narrow outcomes bytes s ks typed rest t0 room holds small k n) n (pairingOp p store t n code) ≡ went (actOf p outcomes s n)
+          → meetBy p outcomes lines store room (count here rest k n) n (pairingOp p store t n code) ≡ went (actOf p outcomes s n)
       unfolding pairingOp meetOp
       meet-law code o going near e =
-          meet-same p outcomes lines store room t (count p kept narrow outcomes bytes s ks typed rest t0 room holds small k n) n e
+          meet-same p outcomes lines store room t (count here rest k n) n e
           ∙ stands-law (actOf p outcomes s n) (standOp p (partOf store n)) refl (subst Offering (sym act-here) o) going
-          (stand-at p kept narrow outcomes bytes s ks typed rest n near)
+          (stand-at reached rest n near)
 
-      head-here : headOf (partOf store n) ≡ head p kept c f fs fine deep
+      head-here : headOf (partOf store n) ≡ head p (reached .kept) c f fs fine deep
       head-here =
-          ap headOf (part-now p kept narrow outcomes bytes s ks typed rest t0 room holds small k n made f fs fine deep stands)
-          ∙ head-is p kept c f fs fine deep
+          ap headOf (part-now here rest k n made f fs fine deep stands)
+          ∙ head-is p (reached .kept) c f fs fine deep
 
       runs-here : headOf (partOf store n) .status ≡ 1
       runs-here = ap (λ (h : Head). h .status) head-here
@@ -285,9 +288,9 @@ module _ (p : List ℕ) (kept : Kept p) (narrow : (i : ℕ) → argAt p i < 6553
       op-here e = ap (λ (h : Head). opAt p (h .place)) head-here ∙ e
 
       pub send-law : opAt p (f .place) ≡ 15 → actOf p outcomes s n ≢ stuck → n < 8
-          → meetBy p outcomes lines store room (count p kept narrow outcomes bytes s ks typed rest t0 room holds small k n) n (pairingOp p store t n 115) ≡ went (actOf p outcomes s n)
+          → meetBy p outcomes lines store room (count here rest k n) n (pairingOp p store t n 115) ≡ went (actOf p outcomes s n)
       send-law e going near = meet-law 115 (send-offering e) going near (offers-send p (partOf store n) runs-here (op-here e))
 
       pub receive-law : opAt p (f .place) ≡ 16 → actOf p outcomes s n ≢ stuck → n < 8
-          → meetBy p outcomes lines store room (count p kept narrow outcomes bytes s ks typed rest t0 room holds small k n) n (pairingOp p store t n 116) ≡ went (actOf p outcomes s n)
+          → meetBy p outcomes lines store room (count here rest k n) n (pairingOp p store t n 116) ≡ went (actOf p outcomes s n)
       receive-law e going near = meet-law 116 (receive-offering e) going near (offers-receive p (partOf store n) runs-here (op-here e))

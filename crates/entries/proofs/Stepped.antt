@@ -1,6 +1,6 @@
 -- One entry of any process: what the step and, where it is no plain step, the rest of the entry leave in trace and store
 -- is what the definitions say.
-use Prim.Native.Nat.{ℕ, zero, suc, _+_, _*_, _≤_, _<_}
+use Prim.Native.Nat.{ℕ, zero, suc, _+_, _≤_, _<_}
 use mathlib.Core.Path.{_≡_, refl, sym, _∙_, ap, subst}
 use mathlib.Core.Logic.{_≢_, _⊎_, inl, inr, ⊎-elim}
 use mathlib.Core.Bool.{Bool, true, false, cond, true≢false}
@@ -24,7 +24,8 @@ use Rattle.machine.specs.Entry.{Effect, runs, applied, effectOf, moves, able}
 use Rattle.machine.specs.Owner.{valuesOf}
 use Rattle.machine.specs.Answer.{traceAfter}
 use Rattle.machine.specs.Sound.{FrameSound, ProcessSound}
-use Rattle.machine.proofs.Typing.{FrameTyped, ConfigTyped}
+use Rattle.machine.proofs.Reached.{Reached}
+use Rattle.machine.proofs.Typing.{FrameTyped}
 use Rattle.machine.proofs.Acts.{ActTyped}
 use Rattle.machine.proofs.Standing.{act-typed}
 use Rattle.machine.proofs.Within.{ActWithin, act-within}
@@ -49,6 +50,7 @@ use Rattle.singles.specs.Came.{Came, came, stayedAt}
 use Rattle.singles.specs.Single.{singleOp}
 use Rattle.entries.specs.Meetings.{meetBy}
 use Rattle.entries.specs.Entries.{isOffer, offerAt, entryOp}
+use Rattle.singles.proofs.Here.{Here}
 use Rattle.singles.proofs.Singly.{sound, laid, count, tried, part-now, fault-as, fault-law, ends-as, ends-law, after-long, line-law, made-law}
 use Rattle.entries.proofs.Forked.{fork-law}
 use Rattle.entries.proofs.Meets.{went, send-law, receive-law}
@@ -137,10 +139,11 @@ unfolding entryOp isOffer
 entry-single p outcomes trace work room g n code m a b c d small =
     rw (ne-eqb code 1 a, ne-eqb code 114 b, ne-eqb code 115 c, ne-eqb code 116 d) (ap (singleOp p outcomes trace work room g n) (mod-eq-of-lt small))
 
-module _ (p : List ℕ) (kept : Kept p) (narrow : (i : ℕ) → argAt p i < 65536) (outcomes : List ℕ) (bytes : All (λ o. o < 256) outcomes)
-    (s : State) (ks : List ℕ) (typed : ConfigTyped p ks (s .config)) (rest t0 : List ℕ) (room : ℕ) (holds : 6 * room ≤ length t0)
-    (small : s .used < 4000000000) (k n : ℕ) (owned : own.Kept (s .config) (s .lines)) (t : List (List ℕ)) (holding : Holding t (s .lines))
+module _ {p outcomes : List ℕ} {s : State} {t0 : List ℕ} {room : ℕ} (here : Here p outcomes s t0 room) (rest : List ℕ) (k n : ℕ) (owned : own.Kept (s .config) (s .lines)) (t : List (List ℕ)) (holding : Holding t (s .lines))
     (near : n < 8) where
+  abbrev reached : Reached p outcomes s
+  reached = here .reached
+
   abbrev c : Config
   c = s .config
 
@@ -151,10 +154,10 @@ module _ (p : List ℕ) (kept : Kept p) (narrow : (i : ℕ) → argAt p i < 6553
   lines = traceAfter (s .lines) t0
 
   abbrev counted : Count
-  counted = count p kept narrow outcomes bytes s ks typed rest t0 room holds small k n
+  counted = count here rest k n
 
   abbrev comes : Act → Came
-  comes = went p kept narrow outcomes bytes s ks typed rest t0 room holds small k n
+  comes = went here rest k n
 
   abbrev effect : Effect
   effect = effectOf p outcomes k s n
@@ -177,7 +180,7 @@ module _ (p : List ℕ) (kept : Kept p) (narrow : (i : ℕ) → argAt p i < 6553
   Law = Plain (stepOp p (partOf store n)) ⊎ Other (stepOp p (partOf store n))
 
   going : actOf p outcomes s n ≢ stuck
-  going = not-stuck p kept narrow outcomes bytes s ks typed rest n
+  going = not-stuck reached rest n
 
   other : (code : ℕ) → stepOp p (partOf store n) ≡ did code (partOf store n) → code ≢ 0
       → entryOp p outcomes lines store room counted n code (offerAt p store t n code) ≡ comes (actOf p outcomes s n) → Law
@@ -204,20 +207,20 @@ module _ (p : List ℕ) (kept : Kept p) (narrow : (i : ℕ) → argAt p i < 6553
     words = processWords (runs (f ∷ fs))
 
     part : partOf store n ≡ words
-    part = part-now p kept narrow outcomes bytes s ks typed rest t0 room holds small k n made f fs fine deep stands
+    part = part-now here rest k n made f fs fine deep stands
 
     act-here : actOf p outcomes s n ≡ atFrame p outcomes s f fs
     unfolding actOf byStatus atFrames
     act-here = ap (λ (pr : Process). byStatus (pr .status) (atFrames p outcomes s (pr .frames))) stands
 
-    typed-act : ActTyped p ks (c .qubits) (length (c .processes)) (atFrame p outcomes s f fs)
-    typed-act = subst (ActTyped p ks (c .qubits) (length (c .processes))) act-here (act-typed p kept outcomes bytes s ks typed n)
+    typed-act : ActTyped p (reached .kinds) (c .qubits) (length (c .processes)) (atFrame p outcomes s f fs)
+    typed-act = subst (ActTyped p (reached .kinds) (c .qubits) (length (c .processes))) act-here (act-typed p (reached .kept) outcomes (reached .bytes) s (reached .kinds) (reached .typed) n)
 
     within-act : ActWithin (valuesOf (processAt c n .frames)) (c .qubits) (c .channels) (atFrame p outcomes s f fs)
     within-act = subst (ActWithin (valuesOf (processAt c n .frames)) (c .qubits) (c .channels)) act-here (act-within p outcomes s n)
 
     high : Height (atFrame p outcomes s f fs)
-    high = height-of p kept ks (c .qubits) (length (c .processes)) (atFrame p outcomes s f fs) typed-act
+    high = height-of p (reached .kept) (reached .kinds) (c .qubits) (length (c .processes)) (atFrame p outcomes s f fs) typed-act
 
     -- the step's answer with the words as they were
     left-at : (code : ℕ) → stepOp p words ≡ did code words → stepOp p (partOf store n) ≡ did code (partOf store n)
@@ -229,14 +232,14 @@ module _ (p : List ℕ) (kept : Kept p) (narrow : (i : ℕ) → argAt p i < 6553
         other code (left-at code e) z (entry-single p outcomes lines store room counted n code (offerAt p store t n code) a b d x less ∙ h)
 
     -- an op that stays within the process and writes no line
-    quiet : (a : Act) → atFrame p outcomes s f fs ≡ a → ActTyped p ks (c .qubits) (length (c .processes)) a → Agrees a words (stepOp p words) → Law
+    quiet : (a : Act) → atFrame p outcomes s f fs ≡ a → ActTyped p (reached .kinds) (c .qubits) (length (c .processes)) a → Agrees a words (stepOp p words) → Law
     unfolding moves applied effectOf able
     quiet idle i ty g = absurd g
     quiet stuck i ty g = absurd ty
     quiet (faults m) i ty g =
         single-other m g (λ z. absurd (omega (arith, z, ty .0))) (λ z. absurd (omega (arith, z, ty .0))) (λ z. absurd (omega (arith, z, ty .1)))
         (λ z. absurd (omega (arith, z, ty .1))) (λ z. absurd (omega (arith, z, ty .1))) (omega (arith, ty .1))
-        (fault-law p kept narrow outcomes bytes s ks typed rest t0 room holds small k n made f fs fine deep stands m (ty .0) (ty .1)
+        (fault-law here rest k n made f fs fine deep stands m (ty .0) (ty .1)
         ∙ ap comes (sym (act-here ∙ i)))
     quiet (goes gs [] zero) i ty g =
         inl (record {
@@ -244,8 +247,8 @@ module _ (p : List ℕ) (kept : Kept p) (narrow : (i : ℕ) → argAt p i < 6553
           can = ap (moves p outcomes s n) does;
           words =
               ap (λ (d : Did). withPart store n (d .words)) stepped
-              ∙ part-put c (laid p kept narrow outcomes bytes s ks typed rest t0 room holds small k n) rest n (runs gs) made
-              (after-long p kept narrow outcomes bytes s ks typed rest t0 room holds small k n made f fs fine deep stands (goes gs [] 0) does n (runs gs) (process-same c n (runs gs) made))
+              ∙ part-put c (laid here rest k n) rest n (runs gs) made
+              (after-long here rest k n made f fs fine deep stands (goes gs [] 0) does n (runs gs) (process-same c n (runs gs) made))
               ∙ ap (λ (a : Act). encode (applied p outcomes k s n a .config) ++ rest) (sym does);
           lines = ap (λ (a : Act). applied p outcomes k s n a .lines) does;
           used = ap (λ (a : Act). applied p outcomes k s n a .used) does;
@@ -261,30 +264,30 @@ module _ (p : List ℕ) (kept : Kept p) (narrow : (i : ℕ) → argAt p i < 6553
     quiet ends i ty g =
         single-other 113 g (λ z. absurd (omega (arith, z))) (λ z. absurd (omega (arith, z))) (λ z. absurd (omega (arith, z)))
         (λ z. absurd (omega (arith, z))) (λ z. absurd (omega (arith, z))) (omega arith)
-        (ends-law p kept narrow outcomes bytes s ks typed rest t0 room holds small k n made f fs fine deep stands ∙ ap comes (sym (act-here ∙ i)))
+        (ends-law here rest k n made f fs fine deep stands ∙ ap comes (sym (act-here ∙ i)))
     quiet (makes x gs) i ty g = absurd g
     quiet (forks m args gs) i ty g = absurd g
     quiet (offers o) i ty g = absurd g
 
     -- an op with one line
-    loud : (code : ℕ) (a : Act) → atFrame p outcomes s f fs ≡ a → ActTyped p ks (c .qubits) (length (c .processes)) a
+    loud : (code : ℕ) (a : Act) → atFrame p outcomes s f fs ≡ a → ActTyped p (reached .kinds) (c .qubits) (length (c .processes)) a
         → ActWithin (valuesOf (processAt c n .frames)) (c .qubits) (c .channels) a → Alone a
-        → Concluded p kept outcomes s f fs fine deep (narrow (f .place)) (sound p kept narrow outcomes bytes s ks typed rest t0 room holds small k n .qubitCount) a
+        → Concluded p (reached .kept) outcomes s f fs fine deep (reached .narrow (f .place)) (sound here rest k n .qubitCount) a
         (concludeOp p words code (c .qubits) (c .channels) outcomes (s .used))
         → singleOp p outcomes lines store room counted n code ≡ comes a
     unfolding moves
     loud code idle i ty wi al g = absurd g
     loud code stuck i ty wi al g = absurd ty
     loud code (faults m) i ty wi al g =
-        fault-as p kept narrow outcomes bytes s ks typed rest t0 room holds small k n made f fs fine deep stands code m (ty .0) (ty .1) g
+        fault-as here rest k n made f fs fine deep stands code m (ty .0) (ty .1) g
     loud code (goes gs [] u) i ty wi al g = absurd g
     loud code (goes gs (e ∷ []) u) i ty wi al g =
-        line-law p kept narrow outcomes bytes s ks typed rest t0 room holds small k n made f fs fine deep stands code gs e u (act-here ∙ i) g
+        line-law here rest k n made f fs fine deep stands code gs e u (act-here ∙ i) g
         (wi .1 .0 .notMade .0) (wi .1 .0 .notMade .1) (al .1)
     loud code (goes gs (e ∷ g ∷ es) u) i ty wi al h = absurd h
-    loud code ends i ty wi al g = ends-as p kept narrow outcomes bytes s ks typed rest t0 room holds small k n made f fs fine deep stands code g
+    loud code ends i ty wi al g = ends-as here rest k n made f fs fine deep stands code g
     loud code (makes (qubit q) gs) i ty wi al g =
-        made-law p kept narrow outcomes bytes s ks typed rest t0 room holds small k n made f fs fine deep stands code (qubit q) gs (act-here ∙ i) g (λ j d e. not-end e)
+        made-law here rest k n made f fs fine deep stands code (qubit q) gs (act-here ∙ i) g (λ j d e. not-end e)
       where
         not-end : {j : ℕ} {d : Bool} → qubit q ≡ end j d → ⊥
         not-end e = subst is-qubit e tt
@@ -294,7 +297,7 @@ module _ (p : List ℕ) (kept : Kept p) (narrow : (i : ℕ) → argAt p i < 6553
             is-qubit (channel x) = ⊥
             is-qubit (end x y) = ⊥
     loud code (makes (channel q) gs) i ty wi al g =
-        made-law p kept narrow outcomes bytes s ks typed rest t0 room holds small k n made f fs fine deep stands code (channel q) gs (act-here ∙ i) g (λ j d e. not-end e)
+        made-law here rest k n made f fs fine deep stands code (channel q) gs (act-here ∙ i) g (λ j d e. not-end e)
       where
         not-end : {j : ℕ} {d : Bool} → channel q ≡ end j d → ⊥
         not-end e = subst is-channel e tt
@@ -314,15 +317,15 @@ module _ (p : List ℕ) (kept : Kept p) (narrow : (i : ℕ) → argAt p i < 6553
         (λ z. absurd (omega (arith, z, less))) (λ z. absurd (omega (arith, z, less))) (omega (arith, less))
         (loud (100 + op) (atFrame p outcomes s f fs) refl typed-act within-act
         (frame-alone p outcomes s f fs (λ z. absurd (omega (arith, z, e, less))) (λ z. absurd (omega (arith, z, e, less))))
-        (concluded-op p kept outcomes s f fs fine deep (narrow (f .place)) (sound p kept narrow outcomes bytes s ks typed rest t0 room holds small k n .qubitCount) op e h high)
+        (concluded-op p (reached .kept) outcomes s f fs fine deep (reached .narrow (f .place)) (sound here rest k n .qubitCount) op e h high)
         ∙ ap comes (sym act-here))
 
     at-work : Law
     unfolding entryOp isOffer offerAt
-    at-work = ⊎-elim left-to (λ h. quiet (atFrame p outcomes s f fs) refl typed-act (step-agrees p kept outcomes s f fs fine deep (narrow (f .place)) h high)) (decide (isLeft (opAt p (f .place))))
+    at-work = ⊎-elim left-to (λ h. quiet (atFrame p outcomes s f fs) refl typed-act (step-agrees p (reached .kept) outcomes s f fs fine deep (reached .narrow (f .place)) h high)) (decide (isLeft (opAt p (f .place))))
       where
         stepped : isLeft (opAt p (f .place)) ≡ true → stepOp p words ≡ did (100 + opAt p (f .place)) words
-        stepped h = step-left p kept outcomes s f fs fine deep (narrow (f .place)) h
+        stepped h = step-left p (reached .kept) outcomes s f fs fine deep (reached .narrow (f .place)) h
 
         at-op : (op : ℕ) → isLeft (opAt p (f .place)) ≡ true → opAt p (f .place) ≡ op → stepOp p (partOf store n) ≡ did (100 + op) (partOf store n)
         at-op op h e = left-at (100 + op) (stepped h ∙ ap (λ (i : ℕ). did (100 + i) words) e)
@@ -330,11 +333,11 @@ module _ (p : List ℕ) (kept : Kept p) (narrow : (i : ℕ) → argAt p i < 6553
         fork-at : isLeft (opAt p (f .place)) ≡ true → opAt p (f .place) ≡ 14 → Law
         fork-at h e =
             other 114 (at-op 14 h e) (λ z. absurd (omega (arith, z)))
-            (fork-law p kept narrow outcomes bytes s ks typed rest t0 room holds small k n made f fs fine deep stands e going
+            (fork-law here rest k n made f fs fine deep stands e going
             ∙ forks-come)
           where
-            forks-come : tried p kept narrow outcomes bytes s ks typed rest t0 room holds small k n (applied p outcomes k s n (actOf p outcomes s n)) ≡ comes (actOf p outcomes s n)
-            forks-come = ap (λ (b : Bool). cond b (tried p kept narrow outcomes bytes s ks typed rest t0 room holds small k n (applied p outcomes k s n (actOf p outcomes s n)))
+            forks-come : tried here rest k n (applied p outcomes k s n (actOf p outcomes s n)) ≡ comes (actOf p outcomes s n)
+            forks-come = ap (λ (b : Bool). cond b (tried here rest k n (applied p outcomes k s n (actOf p outcomes s n)))
                 (came (stayedAt counted) lines store)) (sym (alone-moves p outcomes s n (actOf p outcomes s n) (subst Alone (sym act-here) (frame-alone p outcomes s f fs (λ z. absurd (omega (arith, z, e))) (λ z. absurd (omega (arith, z, e))))) going))
 
         -- what the offer comes to was worked out
@@ -348,12 +351,12 @@ module _ (p : List ℕ) (kept : Kept p) (narrow : (i : ℕ) → argAt p i < 6553
             (λ i. let e = eqb-true (opAt p (f .place)) 15 i in
             other 115 (at-op 15 h e) (λ z. absurd (omega (arith, z)))
             (paired 115
-            ∙ send-law p kept narrow outcomes bytes s ks typed rest t0 room holds small k n owned t holding made f fs fine deep stands e going near))
+            ∙ send-law here rest k n owned t holding made f fs fine deep stands e going near))
             (λ i. ⊎-elim
             (λ j. let e = eqb-true (opAt p (f .place)) 16 j in
             other 116 (at-op 16 h e) (λ z. absurd (omega (arith, z)))
             (paired 116
-            ∙ receive-law p kept narrow outcomes bytes s ks typed rest t0 room holds small k n owned t holding made f fs fine deep stands e going near))
+            ∙ receive-law here rest k n owned t holding made f fs fine deep stands e going near))
             (λ j. tells (opAt p (f .place)) refl (left-tells (opAt p (f .place)) h x (eqb-false (opAt p (f .place)) 15 i) (eqb-false (opAt p (f .place)) 16 j)) (stepped h))
             (decide (eqb (opAt p (f .place)) 16)))
             (decide (eqb (opAt p (f .place)) 15))
@@ -366,21 +369,21 @@ module _ (p : List ℕ) (kept : Kept p) (narrow : (i : ℕ) → argAt p i < 6553
   by-process made running [] i h = absurd (omega (arith, h .status))
   by-process made running (f ∷ fs) i h = at-work made f fs (h .frames) (omega (arith, h .depth)) i
   by-process made finished fs i h =
-      over (processWords (record { status = finished; frames = fs })) (part-is c (laid p kept narrow outcomes bytes s ks typed rest t0 room holds small k n) rest n made ∙ ap processWords i) refl
+      over (processWords (record { status = finished; frames = fs })) (part-is c (laid here rest k n) rest n made ∙ ap processWords i) refl
       (ap (λ (pr : Process). byStatus (pr .status) (atFrames p outcomes s (pr .frames))) i)
   by-process made (stopped m) fs i h =
-      over (processWords (record { status = stopped m; frames = fs })) (part-is c (laid p kept narrow outcomes bytes s ks typed rest t0 room holds small k n) rest n made ∙ ap processWords i) refl
+      over (processWords (record { status = stopped m; frames = fs })) (part-is c (laid here rest k n) rest n made ∙ ap processWords i) refl
       (ap (λ (pr : Process). byStatus (pr .status) (atFrames p outcomes s (pr .frames))) i)
 
   -- an entry that names process n
   pub entry-law : Law
   entry-law =
       ⊎-elim
-      (λ h. by-process (ltb-true n (length (c .processes)) h) (processAt c n .status) (processAt c n .frames) refl (process-sound p kept narrow outcomes bytes s ks typed rest n))
+      (λ h. by-process (ltb-true n (length (c .processes)) h) (processAt c n .status) (processAt c n .frames) refl (process-sound reached rest n))
       (λ h. unmade (ltb-false n (length (c .processes)) h))
       (decide (ltb n (length (c .processes))))
     where
       unmade : length (c .processes) ≤ n → Law
       unmade h =
-          over (replicate 512 0) (part-unmade c (laid p kept narrow outcomes bytes s ks typed rest t0 room holds small k n) rest n h near) no-status
+          over (replicate 512 0) (part-unmade c (laid here rest k n) rest n h near) no-status
           (unmade-idle p outcomes s n h)

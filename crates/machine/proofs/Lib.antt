@@ -16,3 +16,4 @@ pub mod Effects
 pub mod Sound
 pub mod Steps
 pub mod Partner
+pub mod Reached

@@ -1,4 +1,4 @@
--- The three demands, of what `run` leaves in the lent trace and the lent work store. Its contract (src/answer.rt) says that
+-- The three demands, of what `run` leaves in the lent trace and the lent work store. Its contract (src/lib.rt) says that
 -- its answer is `answerOf`, the trace `traceLeft` and the store `storeLeft`; here is what follows, for any inputs.
 use Prim.Native.Nat.{ℕ, suc, _*_, _≤_, _<_}
 use mathlib.Core.Path.{_≡_, refl, sym, _∙_, ap, ap₂, subst₂}

@@ -1,5 +1,5 @@
 -- An entry uses at most one outcome and writes at most 17 lines, so that the counts stay small.
-use Prim.Native.Nat.{ℕ, zero, suc, _≤_, _<_}
+use Prim.Native.Nat.{ℕ, zero, suc, _≤_}
 use mathlib.Core.Path.{sym, subst}
 use mathlib.Core.Logic.{⊎-elim}
 use mathlib.Core.List.{List, [], _∷_, map}
@@ -8,7 +8,7 @@ use native.Mathlib.Omega.{arith}
 use lib.ListN.{take, length, length-map}
 use lib.Dec.{eqb, leb}
 use borrow.Author.Tests.{eqb-true, eqb-false}
-use Rattle.lists.specs.Lists.{any, All}
+use Rattle.lists.specs.Lists.{any}
 use Rattle.lists.proofs.Tests.{decide, cond-both}
 use Rattle.lists.proofs.Each.{both-length}
 use Rattle.table.specs.Table.{opAt, paramsOf, slotTypes, paramTypes}
@@ -19,7 +19,7 @@ use Rattle.machine.specs.Value.{qubit, channel, end, Value, empty, int, bool, r
 use Rattle.machine.specs.State.{Frame, Status, running, finished, stopped, State, processAt, lineOf, gave}
 use Rattle.machine.specs.Act.{sends, receives, Act, idle, stuck, faults, goes, ends, makes, forks, offers, At, operand, asEnd, doSend, doRecv, doings, doingOf, sceneOf, atFrame, atFrames, byStatus, actOf}
 use Rattle.machine.specs.Entry.{Effect, Meeting, thingsOf, handing, meeting, meetingIf, meetingOf, forking, applied, effectOf}
-use Rattle.machine.proofs.Typing.{ConfigTyped}
+use Rattle.machine.proofs.Reached.{Reached}
 use Rattle.machine.proofs.Acts.{ActTyped}
 use Rattle.machine.proofs.Standing.{act-typed}
 use Rattle.offers.proofs.Alone.{Alone, frame-alone}
@@ -146,8 +146,9 @@ module _ (p : List ℕ) (kept : Kept p) (outcomes : List ℕ) (s : State) (ks : 
   )
   applied-modest (offers o) h t = met-modest (meetingOf p outcomes s n o)
 
-pub modest : (p : List ℕ) (kept : Kept p) (outcomes : List ℕ) → All (λ o. o < 256) outcomes → (s : State) (ks : List ℕ) → ConfigTyped p ks (s .config) → (k n : ℕ)
+pub modest : {p outcomes : List ℕ} {s : State} → Reached p outcomes s → (k n : ℕ)
     → (effectOf p outcomes k s n .used ≤ 1) × (length (effectOf p outcomes k s n .lines) ≤ 17)
 unfolding effectOf
-modest p kept outcomes bytes s ks typed k n =
-    applied-modest p kept outcomes s ks k n (actOf p outcomes s n) (act-small p outcomes s n) (act-typed p kept outcomes bytes s ks typed n)
+modest {p} {outcomes} {s} r k n =
+    applied-modest p (r .kept) outcomes s (r .kinds) k n (actOf p outcomes s n) (act-small p outcomes s n)
+    (act-typed p (r .kept) outcomes (r .bytes) s (r .kinds) (r .typed) n)

@@ -21,7 +21,7 @@ use Rattle.machine.specs.Entry.{Effect, Meeting, nothing, meetingOf, meetingIf,
 use Rattle.machine.specs.Run.{fits, afterEffect, ended, runFrom, run}
 use Rattle.machine.specs.Answer.{traceWords, traceAfter}
 use Rattle.machine.specs.Sound.{ConfigSound}
-use Rattle.machine.proofs.Typing.{ConfigTyped}
+use Rattle.machine.proofs.Reached.{Reached}
 use Rattle.machine.proofs.Partner.{unmade-idle}
 use Rattle.machine.proofs.Steps.{stateAt, ending, at-typed, at-kept, at-start, at-next, at-full, at-last, ends-here, able-goes}
 use Rattle.machine.proofs.Ownership as own
@@ -42,6 +42,7 @@ use Rattle.ability.proofs.Idle.{still-unable, alone-able}
 use Rattle.singles.specs.declared.came.Count.{Count}
 use Rattle.singles.specs.Came.{Came, came, movedTo, stayedAt, fullAt}
 use Rattle.entries.specs.Entries.{oneLine, offerAt, entryOp}
+use Rattle.singles.proofs.Here.{Here}
 use Rattle.entries.proofs.Stepped.{Plain, Other, entry-law}
 use Rattle.entries.proofs.Paired.{waiting-stays, over-waits, offer-near}
 use Rattle.entries.proofs.Beside.{beside}
@@ -88,21 +89,6 @@ pub record Inputs (p schedule outcomes t0 : List ℕ) (room : ℕ) : Type 0 wher
   pub holds : 6 * room ≤ length t0
 
 module _ {p schedule outcomes t0 : List ℕ} {room : ℕ} (given : Inputs p schedule outcomes t0 room) (rest : List ℕ) where
-  abbrev kept : Kept p
-  kept = given .kept
-
-  abbrev narrow : (i : ℕ) → argAt p i < 65536
-  narrow = given .narrow
-
-  abbrev bytes : All (λ o. o < 256) outcomes
-  bytes = given .bytes
-
-  abbrev short : length schedule ≤ 65535
-  short = given .short
-
-  abbrev holds : 6 * room ≤ length t0
-  holds = given .holds
-
   abbrev pub at : ℕ → State
   at k = stateAt p outcomes schedule k
 
@@ -152,15 +138,13 @@ module _ {p schedule outcomes t0 : List ℕ} {room : ℕ} (given : Inputs p sche
   }
 
   module _ (k : ℕ) where
-    ks : List ℕ
-    ks = at-typed p outcomes schedule kept bytes k .0
-
-    typed : ConfigTyped p ks (at k .config)
-    unfolding ks
-    typed = at-typed p outcomes schedule kept bytes k .1
+    reached : Reached p outcomes (at k)
+    reached =
+        let (kinds, typed) = at-typed p outcomes schedule (given .kept) (given .bytes) k in
+        record { kept = given .kept; narrow = given .narrow; bytes = given .bytes; kinds = kinds; typed = typed }
 
     pub state-sound : ConfigSound p (at k .config)
-    state-sound = sound p kept narrow outcomes bytes (at k) ks typed rest
+    state-sound = sound reached rest
 
     owned : own.Kept (at k .config) (at k .lines)
     owned = at-kept p outcomes schedule k
@@ -176,7 +160,7 @@ module _ {p schedule outcomes t0 : List ℕ} {room : ℕ} (given : Inputs p sche
     next = refl
 
     small-effect : (effect .used ≤ 1) × (length (effect .lines) ≤ 17)
-    small-effect = modest p kept outcomes bytes (at k) ks typed k named
+    small-effect = modest reached k named
 
     -- one entry taken, whatever it did
     ready-next : {work trace : List ℕ} {t : List (List ℕ)} {lines used : ℕ} {known : Known} → Ready k work trace t lines used known → k < length schedule
@@ -303,8 +287,8 @@ module _ {p schedule outcomes t0 : List ℕ} {room : ℕ} (given : Inputs p sche
             ∙ sym (ap (λ (b : Bool). comes b (fits room (at k) effect)) (unmade h));
       }
 
-      low-used : at k .used < 4000000000
-      low-used = omega (arith, r .fewUsed, r .inside, short)
+      here : Here p outcomes (at k) t0 room
+      here = record { reached = reached; holds = given .holds; small = omega (arith, r .fewUsed, r .inside, given .short) }
 
       abbrev step₀ : Did
       step₀ = stepOp p (partOf work₀ named)
@@ -313,15 +297,15 @@ module _ {p schedule outcomes t0 : List ℕ} {room : ℕ} (given : Inputs p sche
       unfolding onPart cameOp able moves effectOf applied
       near-law h =
           ⊎-elim
-          (λ (x : Plain p kept narrow outcomes bytes (at k) ks typed rest t0 room holds low-used k named owned t (r .table) h step₀).
+          (λ (x : Plain here rest k named owned t (r .table) h step₀).
           inl (record { code = x .code; can = x .can; words = x .words; lines = x .lines; used = x .used }))
-          (λ (x : Other p kept narrow outcomes bytes (at k) ks typed rest t0 room holds low-used k named owned t (r .table) h step₀).
+          (λ (x : Other here rest k named owned t (r .table) h step₀).
           inr (record {
             code = x .code;
             words = ap (withPart work₀ named) (x .words) ∙ part-same work₀ named;
             came = ap (λ (b : Bool). cond b (came (stayedAt count₀) trace₀ work₀) (entryOp p outcomes trace₀ work₀ room count₀ named (step₀ .code) (offerAt p work₀ t named (step₀ .code)))) (lt-leb 8 named h) ∙ x .entry;
           }))
-          (entry-law p kept narrow outcomes bytes (at k) ks typed rest t0 room holds low-used k named owned t (r .table) h)
+          (entry-law here rest k named owned t (r .table) h)
 
     -- the same words and counts, by whatever names
     ready-as : {work work′ trace trace′ : List ℕ} {t : List (List ℕ)} {lines lines′ used used′ : ℕ} {known : Known} → Ready k work trace t lines used known
@@ -371,7 +355,7 @@ module _ {p schedule outcomes t0 : List ℕ} {room : ℕ} (given : Inputs p sche
 
     module _ {t : List (List ℕ)} (holding : Holding t (at k .lines)) where
       ability : (n : ℕ) → n < 8 → able p outcomes (at k) n ≡ eqb (abilityOp p work₀ t n) 1
-      ability = able-is p kept narrow outcomes bytes (at k) ks typed rest owned t holding
+      ability = able-is reached rest owned t holding
 
       not-able : (n : ℕ) → n < 8 → abilityOp p work₀ t n ≢ 1 → able p outcomes (at k) n ≡ false
       not-able n h a = ability n h ∙ ne-eqb (abilityOp p work₀ t n) 1 a
@@ -481,7 +465,7 @@ module _ {p schedule outcomes t0 : List ℕ} {room : ℕ} (given : Inputs p sche
         stay a = ends (endingOp p (work₀ k) t 8) refl
           where
             is : endingOp p (work₀ k) t 8 ≡ ending p outcomes (at k)
-            is = ending-is p kept narrow outcomes bytes (at k) (ks k) (typed k) rest (owned k) t (r .table)
+            is = ending-is (reached k) rest (owned k) t (r .table)
 
             ends : (x : ℕ) → endingOp p (work₀ k) t 8 ≡ x
                 → Turns t lines (turned (record { end = x; lines = length (at k .lines); used = at k .used; known = withIdle known (named k) }) (trace₀ k) (work₀ k))
@@ -667,7 +651,7 @@ module _ {p schedule outcomes t0 : List ℕ} {room : ℕ} (given : Inputs p sche
       goes-so n g =
           ⊎-elim (r .sure)
           (λ a. sym (ends-alone p (work₀ k) t n refl a
-          ∙ ending-is p kept narrow outcomes bytes (at k) (ks k) (typed k) rest (owned k) t (r .table)))
+          ∙ ending-is (reached k) rest (owned k) t (r .table)))
           g
 
       hold : (d : Did) → Stopped k t d → Passes t known d
@@ -799,7 +783,7 @@ module _ {p schedule outcomes t0 : List ℕ} {room : ℕ} (given : Inputs p sche
     ends =
         r .runs ∙ at-last p outcomes room schedule k h
         ∙ ap (λ (e : ℕ). ended e k (at k))
-        (sym (ap (λ (w : List ℕ). endingOp p w t 8) (r .store) ∙ ending-is p kept narrow outcomes bytes (at k) (ks k) (typed k) rest (owned k) t (r .table)));
+        (sym (ap (λ (w : List ℕ). endingOp p w t 8) (r .store) ∙ ending-is (reached k) rest (owned k) t (r .table)));
     store = r .store;
     written = r .written;
     counted = r .counted;

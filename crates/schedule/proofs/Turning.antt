@@ -30,7 +30,7 @@ use Rattle.turns.specs.Turned.{turned, turnAt}
 use Rattle.schedule.specs.Left.{leftAs, leaves}
 use Rattle.schedule.proofs.Ready.{Inputs, Ready, Over, Turns, Burst-good, ready-start, ready-last, state-sound, turn-law, burst-law}
 
--- the state before the entry at which plain steps have stopped, or at the schedule's end
+-- the state before the entry at which a burst has stopped, or at the schedule's end
 pub record Going (p schedule outcomes : List ℕ) (room : ℕ) (rest t0 work trace : List ℕ) (t : List (List ℕ)) (lines used : ℕ) (b : Burst) : Type 0 where
   pub given : Inputs p schedule outcomes t0 room
   pub stands : Burst-good given rest trace t lines used (stopsAt b work)

@@ -12,7 +12,7 @@ ghost use Rattle.schedule.specs.Left.{leftAs, leaves};
 use ability::ending::ending;
 use holders::ends::no_holders;
 use holders::notes::note_lines;
-use turns::burst::plain_steps;
+use turns::burst::silent_entries;
 use turns::known::nothing_known;
 use turns::turn::turn_at;
 
@@ -24,8 +24,8 @@ pub struct Over {
     pub used: u32,
 }
 
-// From the start of a run to its end: plain steps, then the entry at which they stop, again and again. `room` is how many
-// lines the trace holds.
+// From the start of a run to its end: a burst of entries that write no line, then the entry at which it stops, again and
+// again. `room` is how many lines the trace holds.
 pub fn run_entries(
     p: &[u16],
     start: usize,
@@ -42,7 +42,7 @@ pub fn run_entries(
     let mut t = no_holders();
     let mut lines: u32 = 0;
     let mut used: u32 = 0;
-    let mut b = plain_steps(p, start, work, &t, schedule, 0, nothing_known());
+    let mut b = silent_entries(p, start, work, &t, schedule, 0, nothing_known());
     while b.at < schedule.len() {
         let r = turn_at(
             p,
@@ -69,7 +69,7 @@ pub fn run_entries(
         lines = r.lines;
         used = r.used;
         let known = r.known;
-        b = plain_steps(p, start, work, &t, schedule, b.at + 1, known.unless(told));
+        b = silent_entries(p, start, work, &t, schedule, b.at + 1, known.unless(told));
     }
     Over {
         end: ending(p, start, work, &t),

@@ -1,5 +1,5 @@
 -- The entries with one line: what the code leaves in trace and store is the definitions' effect, where its line fits.
-use Prim.Native.Nat.{ℕ, _+_, _*_, _%_, _≤_, _<_}
+use Prim.Native.Nat.{ℕ, _+_, _%_, _≤_, _<_}
 use mathlib.Core.Path.{_≡_, refl, sym, _∙_, ap, ap₂, subst}
 use mathlib.Core.Logic.{_≢_}
 use mathlib.Core.Bool.{Bool, true, false, cond}
@@ -11,8 +11,6 @@ use lib.Dec.{leb}
 use borrow.Author.Tests.{ne-eqb, le-leb, lt-leb, leb-true, leb-false}
 use Rattle.lists.specs.Lists.{All}
 use Rattle.lists.proofs.Any.{All-getD}
-use Rattle.table.specs.Table.{argAt}
-use Rattle.table.proofs.Accepted.{Kept}
 use Rattle.machine.specs.Value.{Thing, qubit, channel, end}
 use Rattle.machine.specs.State.{Frame, finished, stopped, Process, Config, Line, State, Event, processAt, setProcess, unmade, lineOf, finishes, stops}
 use Rattle.machine.specs.Act.{Act, faults, goes, ends, makes, actOf}
@@ -20,7 +18,8 @@ use Rattle.machine.specs.Entry.{Effect, runs, counted, making, applied, effectO
 use Rattle.machine.specs.Run.{fits}
 use Rattle.machine.specs.Answer.{traceAfter}
 use Rattle.machine.specs.Sound.{FrameSound, ConfigSound}
-use Rattle.machine.proofs.Typing.{ConfigTyped, Typed}
+use Rattle.machine.proofs.Reached.{Reached}
+use Rattle.machine.proofs.Typing.{Typed}
 use Rattle.machine.proofs.Effects.{effect-typed}
 use Rattle.machine.proofs.Sound.{config-sound}
 use Rattle.machine.proofs.Giving.{process-same}
@@ -38,15 +37,17 @@ use Rattle.events.proofs.Concluding.{concluded-fault, concluded-ends}
 use Rattle.singles.specs.declared.came.Count.{Count}
 use Rattle.singles.specs.Came.{Came, came, movedTo, fullAt}
 use Rattle.singles.specs.Single.{inPart, concludedAt, countedWords, toldLine, noted, singleOp}
+use Rattle.singles.proofs.Here.{Here}
 
-module _ (p : List ℕ) (kept : Kept p) (narrow : (i : ℕ) → argAt p i < 65536) (outcomes : List ℕ) (bytes : All (λ o. o < 256) outcomes)
-    (s : State) (ks : List ℕ) (typed : ConfigTyped p ks (s .config)) (rest t0 : List ℕ) (room : ℕ) (holds : 6 * room ≤ length t0)
-    (small : s .used < 4000000000) (k n : ℕ) where
+module _ {p outcomes : List ℕ} {s : State} {t0 : List ℕ} {room : ℕ} (here : Here p outcomes s t0 room) (rest : List ℕ) (k n : ℕ) where
+  abbrev reached : Reached p outcomes s
+  reached = here .reached
+
   abbrev pub config : Config
   config = s .config
 
   pub sound : ConfigSound p config
-  sound = config-sound p kept ks config typed
+  sound = config-sound p (reached .kept) (reached .kinds) config (reached .typed)
 
   pub laid : Laid config
   laid = laid-sound p config sound
@@ -108,12 +109,12 @@ module _ (p : List ℕ) (kept : Kept p) (narrow : (i : ℕ) → argAt p i < 6553
             (le-leb (length (s .lines) + length (e .lines)) room (omega (arith, leb-false room (length (s .lines)) h, ap length ls))))
           where
             used-same : (s .used + told .used) % 4294967296 ≡ s .used + e .used
-            used-same = mod-eq-of-lt (omega (arith, small, one)) ∙ ap (λ (u : ℕ). s .used + u) (sym us)
+            used-same = mod-eq-of-lt (omega (arith, here .small, one)) ∙ ap (λ (u : ℕ). s .used + u) (sym us)
 
             trace-same : withLine trace (length (s .lines)) (toldLine k n told) ≡ traceAfter (s .lines ++ e .lines) t0
             trace-same =
                 ap (withLine trace (length (s .lines))) line
-                ∙ written.line-written (s .lines) t0 (lineOf k n ev) (omega (arith, holds, leb-false room (length (s .lines)) h))
+                ∙ written.line-written (s .lines) t0 (lineOf k n ev) (omega (arith, here .holds, leb-false room (length (s .lines)) h))
                 ∙ ap (λ (l : List Line). traceAfter (s .lines ++ l) t0) (sym ls)
 
     -- a running process
@@ -156,7 +157,7 @@ module _ (p : List ℕ) (kept : Kept p) (narrow : (i : ℕ) → argAt p i < 6553
       pub fault-law : (m : ℕ) → 20 ≤ m → m ≤ 27 → singleOp p outcomes trace work room count n m ≡ tried (applied p outcomes k s n (faults m))
       fault-law m low high =
           fault-as m m low high
-          (concluded-fault p kept outcomes s f fs fine deep (narrow (f .place)) (sound .qubitCount) m (omega arith) (omega arith) (config .qubits) (config .channels) outcomes (s .used))
+          (concluded-fault p (reached .kept) outcomes s f fs fine deep (reached .narrow (f .place)) (sound .qubitCount) m (omega arith) (omega arith) (config .qubits) (config .channels) outcomes (s .used))
 
       -- the root frame's return
       pub ends-as : (code : ℕ)
@@ -175,17 +176,17 @@ module _ (p : List ℕ) (kept : Kept p) (narrow : (i : ℕ) → argAt p i < 6553
       pub ends-law : singleOp p outcomes trace work room count n 113 ≡ tried (applied p outcomes k s n ends)
       ends-law =
           ends-as 113
-          (concluded-ends p kept outcomes s f fs fine deep (narrow (f .place)) (sound .qubitCount) (config .qubits) (config .channels) outcomes (s .used))
+          (concluded-ends p (reached .kept) outcomes s f fs fine deep (reached .narrow (f .place)) (sound .qubitCount) (config .qubits) (config .channels) outcomes (s .used))
 
       -- the words of a process after its entry fill its part
       module _ (a : Act) (does : actOf p outcomes s n ≡ a) where
         after-typed : Typed p (applied p outcomes k s n a .config)
         unfolding effectOf
         after-typed =
-            subst (λ (x : Act). Typed p (applied p outcomes k s n x .config)) does (effect-typed p kept outcomes bytes s ks typed k n)
+            subst (λ (x : Act). Typed p (applied p outcomes k s n x .config)) does (effect-typed p (reached .kept) outcomes (reached .bytes) s (reached .kinds) (reached .typed) k n)
 
         after-sound : ConfigSound p (applied p outcomes k s n a .config)
-        after-sound = config-sound p kept (after-typed .0) (applied p outcomes k s n a .config) (after-typed .1)
+        after-sound = config-sound p (reached .kept) (after-typed .0) (applied p outcomes k s n a .config) (after-typed .1)
 
         after-laid : Laid (applied p outcomes k s n a .config)
         after-laid = laid-sound p (applied p outcomes k s n a .config) after-sound

@@ -1,4 +1,4 @@
--- Plain steps one after the other: a burst from entry k on, by what the step of that entry answered.
+-- Entries that write no line, one after the other: a burst from entry k on, by what the step of that entry answered.
 use Prim.Native.Nat.{ℕ, suc, _+_, _-_, _≤_, _<_}
 use mathlib.Core.Path.{_≡_, refl, sym, _∙_, ap}
 use mathlib.Core.Logic.{_≢_, _⊎_, inl, inr}

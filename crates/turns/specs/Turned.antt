@@ -38,7 +38,7 @@ turnedBy p t n code known c =
 unfoldable pub turnOp : List ℕ → List ℕ → List ℕ → List ℕ → ℕ → List (List ℕ) → Count → ℕ → ℕ → Pairing → Known → Turned
 turnOp p outcomes trace work room t g n code m known = turnedBy p t n code known (cameOp p outcomes trace work room g n code m)
 
--- the entry at which plain steps have stopped
+-- the entry at which a burst has stopped
 unfoldable pub turnAt : List ℕ → List ℕ → List ℕ → List ℕ → List ℕ → ℕ → List (List ℕ) → ℕ → ℕ → Burst → Turned
 turnAt p schedule outcomes trace work room t lines used b =
     turnOp p outcomes trace work room t (record { entry = b .at; lines = lines; used = used }) (getD schedule (b .at) 0) (b .code) (b .offer) (b .known)

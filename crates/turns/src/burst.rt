@@ -116,7 +116,8 @@ fn stops_here(
     !moves_alone(p, start, work, named_before(schedule, k))
 }
 
-pub fn plain_steps(
+// The entries from `from` on, up to the first that needs more.
+pub fn silent_entries(
     p: &[u16],
     start: usize,
     work: &mut [u32],

@@ -115,7 +115,7 @@ fn take_turn(
     }
 }
 
-// The entry at which plain steps have stopped.
+// The entry at which a burst has stopped.
 pub fn turn_at(
     p: &[u16],
     start: usize,

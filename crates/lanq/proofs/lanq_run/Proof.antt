@@ -8,70 +8,50 @@ use lib.ListN.{length}
 use borrow.Author.Needs.{needs}
 use Rattle.lanq.proofs.lanq_run.Statement.{statement}
 use Rattle.lanq.proofs.lanq_run.Tie as tie
-use Rattle.lanq.proofs.lanq_run.Reads as reads
-use Rattle.lanq.proofs.lanq_run.Lts as lts
-use Rattle.lanq.proofs.ended.Reads as ended-reads
-use Rattle.lanq.proofs.refusal.Reads as refusal-reads
-use Rattle.run.proofs.run.Reads as run-reads
 
--- src/lib.rt:92:9
 run-requires : tie.Need-run-requires
 run-requires c κs = search needs
 
--- src/lib.rt:94:27
 enum-known-answer : tie.Need-enum-known-answer
 enum-known-answer c = search needs
 
--- src/lib.rt:94:54
 cast-refusal : tie.Need-cast-refusal
 cast-refusal c = search needs
 
--- src/lib.rt:94:46
 refusal-requires : tie.Need-refusal-requires
 refusal-requires c κs = search needs
 
--- src/lib.rt:96:13
 enum-known-answer-2 : tie.Need-enum-known-answer-2
 enum-known-answer-2 c = search needs
 
--- src/lib.rt:100:20
 cast-ended : tie.Need-cast-ended
 cast-ended c = search needs
 
--- src/lib.rt:100:48
 cast-ended-2 : tie.Need-cast-ended-2
 cast-ended-2 c = search needs
 
--- src/lib.rt:100:62
 cast-ended-3 : tie.Need-cast-ended-3
 cast-ended-3 c = search needs
 
--- src/lib.rt:100:14
 ended-requires : tie.Need-ended-requires
 ended-requires c κs = search needs
 
--- src/lib.rt:80:1
 same-length : tie.Need-same-length
 same-length c = search needs
 
--- src/lib.rt:80:1
 same-length-2 : tie.Need-same-length-2
 same-length-2 c = search needs
 
--- src/lib.rt:80:1
 returns : tie.Need-returns
 unfolding runAnswer answered
 returns c = (ran (c .before .before .before .before .before .before .before .before .run .result) (Refused _ _) (answerOf (c .before .before .before .before .before .before .before .before .before .before .before .before .before .before .before .before .args .program .now) (c .before .before .before .before .before .before .before .before .before .before .before .before .before .before .before .before .args .schedule .now) (c .before .before .before .before .before .before .before .before .before .before .before .before .before .before .before .before .args .outcomes .now) (linesIn (length (c .before .before .before .before .before .before .before .before .before .before .before .before .before .before .before .before .args .trace .now))) (length (c .before .before .before .before .before .before .before .before .before .before .before .before .before .before .before .before .args .work .now))) (c .before .before .answer .given .1) (c .before .before .before .before .before .before .before .before .run .ensures .0) (c .refusal .ensures), c .before .before .before .before .before .before .before .before .run .ensures .1, c .before .before .before .before .before .before .before .before .run .ensures .2)
 
--- src/lib.rt:80:1
 same-length-3 : tie.Need-same-length-3
 same-length-3 c = search needs
 
--- src/lib.rt:80:1
 same-length-4 : tie.Need-same-length-4
 same-length-4 c = search needs
 
--- src/lib.rt:80:1
 returns-2 : tie.Need-returns-2
 unfolding runAnswer answered
 returns-2 c = (ran (c .before .before .before .before .before .before .before .before .run .result) (Ran _ _ _ _) (answerOf (c .before .before .before .before .before .before .before .before .before .before .before .before .before .before .before .before .args .program .now) (c .before .before .before .before .before .before .before .before .before .before .before .before .before .before .before .before .args .schedule .now) (c .before .before .before .before .before .before .before .before .before .before .before .before .before .before .before .before .args .outcomes .now) (linesIn (length (c .before .before .before .before .before .before .before .before .before .before .before .before .before .before .before .before .args .trace .now))) (length (c .before .before .before .before .before .before .before .before .before .before .before .before .before .before .before .before .args .work .now))) (c .before .before .answer2 .given .1) (c .before .before .before .before .before .before .before .before .run .ensures .0) (c .ended .ensures), c .before .before .before .before .before .before .before .before .run .ensures .1, c .before .before .before .before .before .before .before .before .run .ensures .2)

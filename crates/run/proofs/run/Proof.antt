@@ -4,38 +4,26 @@ use Rattle.run.specs.Answers.{answered}
 use borrow.Author.Needs.{needs}
 use Rattle.run.proofs.run.Statement.{statement}
 use Rattle.run.proofs.run.Tie as tie
-use Rattle.run.proofs.run.Reads as reads
-use Rattle.run.proofs.run.Lts as lts
-use Rattle.questions.proofs.ask.Reads as ask-reads
-use Rattle.schedule.proofs.accepted.accepted_run.Reads as accepted-run-reads
-use Rattle.run.proofs.verdict.Reads as verdict-reads
 
--- src/answer.rt:71:21
 ask-requires : tie.Need-ask-requires
 ask-requires c κs = search needs
 
--- src/answer.rt:71:9
 verdict-requires : tie.Need-verdict-requires
 verdict-requires c κs = search needs
 
--- src/answer.rt:73:9
 returns : tie.Need-returns
 unfolding answered
 returns c = refuses (c .before .before .before .before .before .before .before .before .before .args .program .now) (c .before .before .before .before .before .before .before .before .before .args .schedule .now) (c .before .before .before .before .before .before .before .before .before .args .outcomes .now) (c .before .before .before .before .before .before .before .before .before .args .trace .now) (c .before .before .before .before .before .before .before .before .before .args .work .now) (c .before .before .before .ask .result) (c .before .before .before .ask .ensures) (c .before .before .verdict .ensures) (c .if1 .taken)
 
--- src/answer.rt:78:9
 accepted-run-requires : tie.Need-accepted-run-requires
 accepted-run-requires c κs = accepts (c .before .before .before .before .before .before .before .before .before .before .before .args .program .now) (c .before .before .before .before .before .before .before .before .before .before .before .args .schedule .now) (c .before .before .before .before .before .before .before .before .before .before .before .args .outcomes .now) (c .before .before .before .before .before .before .before .before .before .before .before .args .trace .now) (c .before .before .before .before .before .before .before .before .before .before .before .args .work .now) (c .before .before .before .before .before .ask .result) (c .before .before .before .before .before .ask .ensures) (c .before .before .before .before .verdict .ensures) (c .before .before .if1 .left)
 
--- src/answer.rt:60:1
 same-length : tie.Need-same-length
 same-length c = search needs
 
--- src/answer.rt:60:1
 same-length-2 : tie.Need-same-length-2
 same-length-2 c = search needs
 
--- src/answer.rt:60:1
 returns-2 : tie.Need-returns-2
 unfolding answered
 returns-2 c = ran-so (c .before .before .before .before .before .before .before .before .before .before .before .before .before .before .before .before .args .program .now) (c .before .before .before .before .before .before .before .before .before .before .before .before .before .before .before .before .args .schedule .now) (c .before .before .before .before .before .before .before .before .before .before .before .before .before .before .before .before .args .outcomes .now) (c .before .before .before .before .before .before .before .before .before .before .before .before .before .before .before .before .args .trace .now) (c .before .before .before .before .before .before .before .before .before .before .before .before .before .before .before .before .args .work .now) (accepts (c .before .before .before .before .before .before .before .before .before .before .before .before .before .before .before .before .args .program .now) (c .before .before .before .before .before .before .before .before .before .before .before .before .before .before .before .before .args .schedule .now) (c .before .before .before .before .before .before .before .before .before .before .before .before .before .before .before .before .args .outcomes .now) (c .before .before .before .before .before .before .before .before .before .before .before .before .before .before .before .before .args .trace .now) (c .before .before .before .before .before .before .before .before .before .before .before .before .before .before .before .before .args .work .now) (c .before .before .before .before .before .before .before .before .before .before .ask .result) (c .before .before .before .before .before .before .before .before .before .before .ask .ensures) (c .before .before .before .before .before .before .before .before .before .verdict .ensures) (c .before .before .before .before .before .before .before .if1 .left)) (c .before .before .before .before .accepted-run .ensures)

@@ -11,42 +11,29 @@ use lib.ListN.{length}
 use borrow.Author.Needs.{needs}
 use Rattle.schedule.proofs.accepted.accepted_run.Statement.{statement}
 use Rattle.schedule.proofs.accepted.accepted_run.Tie as tie
-use Rattle.schedule.proofs.accepted.accepted_run.Reads as reads
-use Rattle.schedule.proofs.accepted.accepted_run.Lts as lts
-use Rattle.schedule.proofs.begin.begin_run.Reads as begin-run-reads
-use Rattle.schedule.proofs.rounds.run_entries.Reads as run-entries-reads
-use Rattle.table.proofs.words.word_at.Reads as word-at-reads
 
--- src/accepted.rt:24:5
 begin-run-requires : tie.Need-begin-run-requires
 begin-run-requires c κs = store-long (c .before .before .before .before .before .before .args .program .now) (c .before .before .before .before .before .before .args .schedule .now) (c .before .before .before .before .before .before .args .outcomes .now) (length (c .before .before .before .before .before .before .args .work .now)) (c .before .before .before .before .before .before .pre)
 
--- src/accepted.rt:25:9
 word-at-requires : tie.Need-word-at-requires
 word-at-requires c κs = search needs
 
--- src/accepted.rt:29:13
 mul-run-entries : tie.Need-mul-run-entries
 mul-run-entries c = search needs
 
--- src/accepted.rt:29:9
 add-run-entries : tie.Need-add-run-entries
 add-run-entries c = search needs
 
--- src/accepted.rt:27:5
 run-entries-requires : tie.Need-run-entries-requires
 unfolding methods
 run-entries-requires c κs = let ok = c .before .before .before .before .before .before .before .before .before .before .before .before .pre in let long = store-long (c .before .before .before .before .before .before .before .before .before .before .before .before .args .program .now) (c .before .before .before .before .before .before .before .before .before .before .before .before .args .schedule .now) (c .before .before .before .before .before .before .before .before .before .before .before .before .args .outcomes .now) (length (c .before .before .before .before .before .before .before .before .before .before .before .before .args .work .now)) ok in let table = kept (c .before .before .before .before .before .before .before .before .before .before .before .before .args .program .now) (table-kept (c .before .before .before .before .before .before .before .before .before .before .before .before .args .program .now) (c .before .before .before .before .before .before .before .before .before .before .before .before .args .schedule .now) (c .before .before .before .before .before .before .before .before .before .before .before .before .args .outcomes .now) (length (c .before .before .before .before .before .before .before .before .before .before .before .before .args .work .now)) ok) in (ap (λ (m : ℕ). 2 + 20 * m) (c .before .before .word-at .ensures .0), omega (arith, long, c .before .before .before .before .before .begin-run .kept .1 .0), schedule-short (c .before .before .before .before .before .before .before .before .before .before .before .before .args .program .now) (c .before .before .before .before .before .before .before .before .before .before .before .before .args .schedule .now) (c .before .before .before .before .before .before .before .before .before .before .before .before .args .outcomes .now) (length (c .before .before .before .before .before .before .before .before .before .before .before .before .args .work .now)) ok, refl, table, starts-from (c .before .before .before .before .before .before .before .before .before .before .before .before .args .program .now) table (c .before .before .before .before .before .before .before .before .before .before .before .before .args .work .now) long (c .before .before .before .before .before .begin-run .ensures))
 
--- src/accepted.rt:14:1
 same-length : tie.Need-same-length
 same-length c = search needs
 
--- src/accepted.rt:14:1
 same-length-2 : tie.Need-same-length-2
 same-length-2 c = search needs
 
--- src/accepted.rt:14:1
 returns : tie.Need-returns
 returns c = let ok = c .before .before .before .before .before .before .before .before .before .before .before .before .before .before .before .before .before .pre in let long = store-long (c .before .before .before .before .before .before .before .before .before .before .before .before .before .before .before .before .before .args .program .now) (c .before .before .before .before .before .before .before .before .before .before .before .before .before .before .before .before .before .args .schedule .now) (c .before .before .before .before .before .before .before .before .before .before .before .before .before .before .before .before .before .args .outcomes .now) (length (c .before .before .before .before .before .before .before .before .before .before .before .before .before .before .before .before .before .args .work .now)) ok in let table = kept (c .before .before .before .before .before .before .before .before .before .before .before .before .before .before .before .before .before .args .program .now) (table-kept (c .before .before .before .before .before .before .before .before .before .before .before .before .before .before .before .before .before .args .program .now) (c .before .before .before .before .before .before .before .before .before .before .before .before .before .before .before .before .before .args .schedule .now) (c .before .before .before .before .before .before .before .before .before .before .before .before .before .before .before .before .before .args .outcomes .now) (length (c .before .before .before .before .before .before .before .before .before .before .before .before .before .before .before .before .before .args .work .now)) ok) in c .before .before .before .before .run-entries .ensures ∙ leaves-same (c .before .before .before .before .before .before .before .before .before .before .before .before .before .before .before .before .before .args .program .now) table (c .before .before .before .before .before .before .before .before .before .before .before .before .before .before .before .before .before .args .work .now) long (c .before .before .before .before .before .before .before .before .before .before .begin-run .ensures) (run (c .before .before .before .before .before .before .before .before .before .before .before .before .before .before .before .before .before .args .program .now) (c .before .before .before .before .before .before .before .before .before .before .before .before .before .before .before .before .before .args .outcomes .now) (length (c .before .before .before .before .before .before .before .before .before .before .before .before .before .before .before .before .before .args .trace .now) / 6) (c .before .before .before .before .before .before .before .before .before .before .before .before .before .before .before .before .before .args .schedule .now)) (c .before .before .before .before .before .before .before .before .before .before .before .before .before .before .before .before .before .args .trace .now)
 

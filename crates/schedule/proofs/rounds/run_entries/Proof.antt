@@ -21,22 +21,22 @@ no-holders-requires c κs = search needs
 nothing-known-requires : tie.Need-nothing-known-requires Inv-loop μ-loop
 nothing-known-requires c κs = search needs
 
-plain-steps-requires : tie.Need-plain-steps-requires Inv-loop μ-loop
-plain-steps-requires c κs = search needs
+silent-entries-requires : tie.Need-silent-entries-requires Inv-loop μ-loop
+silent-entries-requires c κs = search needs
 
 loop-holds : tie.Need-loop-holds Inv-loop μ-loop
 loop-holds c =
     let start =
     going-start
     (inputs (c .before .before .before .before .before .before .before .before .before .before .before .before .args .p .now) (c .before .before .before .before .before .before .before .before .before .before .before .before .args .schedule .now) (c .before .before .before .before .before .before .before .before .before .before .before .before .args .outcomes .now) (c .before .before .before .before .before .before .before .before .before .before .before .before .args .trace .now) (c .before .before .before .before .before .before .before .before .before .before .before .before .pre .4) (λ i. omega (arith, c .before .before .before .before .before .before .before .before .before .before .before .shared-slice-known .given i)) (λ i. omega (arith, c .before .before .before .before .before .before .before .before .before .shared-slice-known3 .given i)) (c .before .before .before .before .before .before .before .before .before .before .before .before .pre .2) (c .before .before .before .before .before .before .before .before .before .before .before .before .pre .3))
-    (c .before .before .before .before .before .before .before .before .before .before .before .before .args .work .now) (c .before .before .before .before .before .before .before .before .before .before .before .before .pre .5) (c .before .before .before .before .before .before .no-holders .ensures) (c .before .before .before .nothing-known .ensures) (c .before .before .plain-steps .ensures) in
+    (c .before .before .before .before .before .before .before .before .before .before .before .before .args .work .now) (c .before .before .before .before .before .before .before .before .before .before .before .before .pre .5) (c .before .before .before .before .before .before .no-holders .ensures) (c .before .before .before .nothing-known .ensures) (c .before .before .silent-entries .ensures) in
     (going-from start, refl, refl)
 
 turn-at-requires : tie.Need-turn-at-requires Inv-loop μ-loop
 turn-at-requires c κs =
     let pre = c .before .before .before .before .before .before .before .before .before .before .before .before .before .before .before .before .before .before .pre in
     let inv = c .before .before .before .before .before .loop .inv in
-    (pre .0, omega (arith, pre .1, inv .1, c .before .before .before .before .before .before .before .before .plain-steps .kept .1 .1 .0), c .before .before .before .if1 .taken, pre .2, few-lines (inv .0), near (inv .0) .0, near (inv .0) .1)
+    (pre .0, omega (arith, pre .1, inv .1, c .before .before .before .before .before .before .before .before .silent-entries .kept .1 .1 .0), c .before .before .before .if1 .taken, pre .2, few-lines (inv .0), near (inv .0) .0, near (inv .0) .1)
 
 same-length : tie.Need-same-length Inv-loop μ-loop
 same-length c = search needs
@@ -49,7 +49,7 @@ returns c =
     let start =
     going-start
     (inputs (c .before .before .before .before .before .before .before .before .before .before .before .before .before .before .before .before .before .before .before .before .before .before .before .before .before .args .p .now) (c .before .before .before .before .before .before .before .before .before .before .before .before .before .before .before .before .before .before .before .before .before .before .before .before .before .args .schedule .now) (c .before .before .before .before .before .before .before .before .before .before .before .before .before .before .before .before .before .before .before .before .before .before .before .before .before .args .outcomes .now) (c .before .before .before .before .before .before .before .before .before .before .before .before .before .before .before .before .before .before .before .before .before .before .before .before .before .args .trace .now) (c .before .before .before .before .before .before .before .before .before .before .before .before .before .before .before .before .before .before .before .before .before .before .before .before .before .pre .4) (λ i. omega (arith, c .before .before .before .before .before .before .before .before .before .before .before .before .before .before .before .before .before .before .before .before .before .before .before .before .shared-slice-known .given i)) (λ i. omega (arith, c .before .before .before .before .before .before .before .before .before .before .before .before .before .before .before .before .before .before .before .before .before .before .shared-slice-known3 .given i)) (c .before .before .before .before .before .before .before .before .before .before .before .before .before .before .before .before .before .before .before .before .before .before .before .before .before .pre .2) (c .before .before .before .before .before .before .before .before .before .before .before .before .before .before .before .before .before .before .before .before .before .before .before .before .before .pre .3))
-    (c .before .before .before .before .before .before .before .before .before .before .before .before .before .before .before .before .before .before .before .before .before .before .before .before .before .args .work .now) (c .before .before .before .before .before .before .before .before .before .before .before .before .before .before .before .before .before .before .before .before .before .before .before .before .before .pre .5) (c .before .before .before .before .before .before .before .before .before .before .before .before .before .before .before .before .before .before .before .no-holders .ensures) (c .before .before .before .before .before .before .before .before .before .before .before .before .before .before .before .before .nothing-known .ensures) (c .before .before .before .before .before .before .before .before .before .before .before .before .before .before .before .plain-steps .ensures) in
+    (c .before .before .before .before .before .before .before .before .before .before .before .before .before .before .before .before .before .before .before .before .before .before .before .before .before .args .work .now) (c .before .before .before .before .before .before .before .before .before .before .before .before .before .before .before .before .before .before .before .before .before .before .before .before .before .pre .5) (c .before .before .before .before .before .before .before .before .before .before .before .before .before .before .before .before .before .before .before .no-holders .ensures) (c .before .before .before .before .before .before .before .before .before .before .before .before .before .before .before .before .nothing-known .ensures) (c .before .before .before .before .before .before .before .before .before .before .before .before .before .before .before .silent-entries .ensures) in
     going-over (c .before .before .before .before .before .before .before .before .before .before .before .before .loop .inv .0) (c .before .before .before .before .before .before .before .before .before .before .if1 .taken) (c .before .before .before .before .before .before .turn-at .ensures) (c .before .before .before .before .before .before .before .before .before .before .before .before .before .before .before .before .before .before .before .before .before .before .before .before .before .args .work .now) (rest-kept start) (c .if2 .taken)
 
 note-lines-requires : tie.Need-note-lines-requires Inv-loop μ-loop
@@ -64,28 +64,28 @@ note-lines-requires c κs =
 unless-requires : tie.Need-unless-requires Inv-loop μ-loop
 unless-requires c κs = search needs
 
-add-plain-steps : tie.Need-add-plain-steps Inv-loop μ-loop
-add-plain-steps c = omega (arith, c .before .before .before .before .before .before .before .before .before .before .before .before .before .before .before .before .before .if1 .taken, c .before .before .before .before .before .before .before .before .before .before .before .before .before .before .before .before .before .before .before .before .before .before .before .before .before .before .before .before .before .before .before .before .pre .2)
+add-silent-entries : tie.Need-add-silent-entries Inv-loop μ-loop
+add-silent-entries c = omega (arith, c .before .before .before .before .before .before .before .before .before .before .before .before .before .before .before .before .before .if1 .taken, c .before .before .before .before .before .before .before .before .before .before .before .before .before .before .before .before .before .before .before .before .before .before .before .before .before .before .before .before .before .before .before .before .pre .2)
 
-plain-steps-requires-2 : tie.Need-plain-steps-requires-2 Inv-loop μ-loop
-plain-steps-requires-2 c κs =
+silent-entries-requires-2 : tie.Need-silent-entries-requires-2 Inv-loop μ-loop
+silent-entries-requires-2 c κs =
     let pre = c .before .before .before .before .before .before .before .before .before .before .before .before .before .before .before .before .before .before .before .before .before .before .before .before .before .before .before .before .before .before .before .before .before .pre in
-    (pre .0, omega (arith, pre .1, c .before .before .before .before .before .before .before .before .before .before .before .before .before .before .before .before .before .before .before .before .loop .inv .1, c .before .before .before .before .before .before .before .before .before .before .before .before .before .before .before .before .before .before .before .before .before .before .before .plain-steps .kept .1 .1 .0, c .before .before .before .before .before .before .before .before .before .before .before .before .before .before .turn-at .kept .1 .1 .1 .1 .1 .0), omega (arith, c .before .before .before .before .before .before .before .before .before .before .before .before .before .before .before .before .before .before .if1 .taken))
+    (pre .0, omega (arith, pre .1, c .before .before .before .before .before .before .before .before .before .before .before .before .before .before .before .before .before .before .before .before .loop .inv .1, c .before .before .before .before .before .before .before .before .before .before .before .before .before .before .before .before .before .before .before .before .before .before .before .silent-entries .kept .1 .1 .0, c .before .before .before .before .before .before .before .before .before .before .before .before .before .before .turn-at .kept .1 .1 .1 .1 .1 .0), omega (arith, c .before .before .before .before .before .before .before .before .before .before .before .before .before .before .before .before .before .before .if1 .taken))
 
 loop-less : tie.Need-loop-less Inv-loop μ-loop
-loop-less c = omega (arith, c .before .before .before .before .before .before .before .before .before .before .before .before .before .before .before .before .before .before .before .before .before .if1 .taken, further (c .before .before .before .before .before .before .before .before .before .before .before .before .before .before .before .before .before .before .before .before .before .before .before .loop .inv .0) (c .before .before .before .before .before .before .before .before .before .before .before .before .before .before .before .before .before .before .before .before .before .if1 .taken) (c .before .before .before .before .before .before .before .before .before .before .before .before .before .before .before .before .before .turn-at .ensures) (c .before .before .before .before .before .before .before .before .before .before .before .if2 .left) (c .before .before .before .before .before .before .before .before .note-lines .ensures .1) (c .before .before .before .unless .ensures) (c .before .before .before .before .before .before .before .before .note-lines .ensures .0) (c .before .before .plain-steps2 .ensures))
+loop-less c = omega (arith, c .before .before .before .before .before .before .before .before .before .before .before .before .before .before .before .before .before .before .before .before .before .if1 .taken, further (c .before .before .before .before .before .before .before .before .before .before .before .before .before .before .before .before .before .before .before .before .before .before .before .loop .inv .0) (c .before .before .before .before .before .before .before .before .before .before .before .before .before .before .before .before .before .before .before .before .before .if1 .taken) (c .before .before .before .before .before .before .before .before .before .before .before .before .before .before .before .before .before .turn-at .ensures) (c .before .before .before .before .before .before .before .before .before .before .before .if2 .left) (c .before .before .before .before .before .before .before .before .note-lines .ensures .1) (c .before .before .before .unless .ensures) (c .before .before .before .before .before .before .before .before .note-lines .ensures .0) (c .before .before .silent-entries2 .ensures))
 
 loop-again : tie.Need-loop-again Inv-loop μ-loop
 loop-again c =
     let inv = c .before .before .before .before .before .before .before .before .before .before .before .before .before .before .before .before .before .before .before .before .before .before .before .loop .inv in
     let kept = c .before .before .before .before .before .before .before .before .before .before .before .before .before .before .before .before .before .turn-at .kept in (
-      going-next (inv .0) (c .before .before .before .before .before .before .before .before .before .before .before .before .before .before .before .before .before .before .before .before .before .if1 .taken) (c .before .before .before .before .before .before .before .before .before .before .before .before .before .before .before .before .before .turn-at .ensures) (c .before .before .before .before .before .before .before .before .before .before .before .if2 .left) (c .before .before .before .before .before .before .before .before .note-lines .ensures .1) (c .before .before .before .unless .ensures) (c .before .before .before .before .before .before .before .before .note-lines .ensures .0) (c .before .before .plain-steps2 .ensures),
-      c .before .before .plain-steps2 .kept .1 .1 .0 ∙ kept .1 .1 .1 .1 .1 .0 ∙ inv .1,
+      going-next (inv .0) (c .before .before .before .before .before .before .before .before .before .before .before .before .before .before .before .before .before .before .before .before .before .if1 .taken) (c .before .before .before .before .before .before .before .before .before .before .before .before .before .before .before .before .before .turn-at .ensures) (c .before .before .before .before .before .before .before .before .before .before .before .if2 .left) (c .before .before .before .before .before .before .before .before .note-lines .ensures .1) (c .before .before .before .unless .ensures) (c .before .before .before .before .before .before .before .before .note-lines .ensures .0) (c .before .before .silent-entries2 .ensures),
+      c .before .before .silent-entries2 .kept .1 .1 .0 ∙ kept .1 .1 .1 .1 .1 .0 ∙ inv .1,
       kept .1 .1 .1 .1 .0 ∙ inv .2,
     )
 
 ending-requires : tie.Need-ending-requires Inv-loop μ-loop
-ending-requires c κs = (c .before .before .before .before .before .before .before .before .before .before .before .before .before .before .before .before .before .pre .0, omega (arith, c .before .before .before .before .before .before .before .before .before .before .before .before .before .before .before .before .before .pre .1, c .before .before .before .before .loop .inv .1, c .before .before .before .before .before .before .before .plain-steps .kept .1 .1 .0))
+ending-requires c κs = (c .before .before .before .before .before .before .before .before .before .before .before .before .before .before .before .before .before .pre .0, omega (arith, c .before .before .before .before .before .before .before .before .before .before .before .before .before .before .before .before .before .pre .1, c .before .before .before .before .loop .inv .1, c .before .before .before .before .before .before .before .silent-entries .kept .1 .1 .0))
 
 same-length-3 : tie.Need-same-length-3 Inv-loop μ-loop
 same-length-3 c = search needs
@@ -98,7 +98,7 @@ returns-2 c =
     let start =
     going-start
     (inputs (c .before .before .before .before .before .before .before .before .before .before .before .before .before .before .before .before .before .before .args .p .now) (c .before .before .before .before .before .before .before .before .before .before .before .before .before .before .before .before .before .before .args .schedule .now) (c .before .before .before .before .before .before .before .before .before .before .before .before .before .before .before .before .before .before .args .outcomes .now) (c .before .before .before .before .before .before .before .before .before .before .before .before .before .before .before .before .before .before .args .trace .now) (c .before .before .before .before .before .before .before .before .before .before .before .before .before .before .before .before .before .before .pre .4) (λ i. omega (arith, c .before .before .before .before .before .before .before .before .before .before .before .before .before .before .before .before .before .shared-slice-known .given i)) (λ i. omega (arith, c .before .before .before .before .before .before .before .before .before .before .before .before .before .before .before .shared-slice-known3 .given i)) (c .before .before .before .before .before .before .before .before .before .before .before .before .before .before .before .before .before .before .pre .2) (c .before .before .before .before .before .before .before .before .before .before .before .before .before .before .before .before .before .before .pre .3))
-    (c .before .before .before .before .before .before .before .before .before .before .before .before .before .before .before .before .before .before .args .work .now) (c .before .before .before .before .before .before .before .before .before .before .before .before .before .before .before .before .before .before .pre .5) (c .before .before .before .before .before .before .before .before .before .before .before .before .no-holders .ensures) (c .before .before .before .before .before .before .before .before .before .nothing-known .ensures) (c .before .before .before .before .before .before .before .before .plain-steps .ensures) in
+    (c .before .before .before .before .before .before .before .before .before .before .before .before .before .before .before .before .before .before .args .work .now) (c .before .before .before .before .before .before .before .before .before .before .before .before .before .before .before .before .before .before .pre .5) (c .before .before .before .before .before .before .before .before .before .before .before .before .no-holders .ensures) (c .before .before .before .before .before .before .before .before .before .nothing-known .ensures) (c .before .before .before .before .before .before .before .before .silent-entries .ensures) in
     going-ends (c .before .before .before .before .before .loop .inv .0) (c .before .before .before .before .before .before .before .before .before .before .before .before .before .before .before .before .before .before .args .work .now) (rest-kept start) (c .before .before .before .if1 .left) (c .ending .ensures)
 
 pub run-entries-spec : {M : Type 1} → statement M
@@ -109,16 +109,16 @@ run-entries-spec =
     μ-loop
     no-holders-requires
     nothing-known-requires
-    plain-steps-requires
+    silent-entries-requires
     loop-holds
     turn-at-requires
     same-length
     same-length-2
     returns
     note-lines-requires
-    add-plain-steps
+    add-silent-entries
     unless-requires
-    plain-steps-requires-2
+    silent-entries-requires-2
     loop-less
     loop-again
     ending-requires

@@ -5,21 +5,16 @@ use borrow.Author.Needs.{needs}
 use Rattle.store.proofs.values.get.Statement.{statement}
 use Rattle.store.proofs.values.get.Tie as tie
 use Rattle.store.proofs.values.get.Reads as reads
-use Rattle.store.proofs.values.get.Lts as lts
 
--- src/values.rt:32:16
 mul-result : tie.Need-mul-result
 mul-result c = search needs
 
--- src/values.rt:32:16
 shared-slice-read-result : tie.Need-shared-slice-read-result
 shared-slice-read-result c = search needs
 
--- src/values.rt:32:9
 returns : tie.Need-returns
 returns c = search needs
 
--- src/values.rt:28:1
 returns-2 : tie.Need-returns-2
 returns-2 c = sym (List·getD-eq-default (c .before .args .w .now) 0 (c .if1 .left))
 

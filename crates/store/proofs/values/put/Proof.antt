@@ -4,26 +4,19 @@ use lib.Seq.{set-out}
 use borrow.Author.Needs.{needs}
 use Rattle.store.proofs.values.put.Statement.{statement}
 use Rattle.store.proofs.values.put.Tie as tie
-use Rattle.store.proofs.values.put.Reads as reads
-use Rattle.store.proofs.values.put.Lts as lts
 
--- src/values.rt:41:9
 mul-w : tie.Need-mul-w
 mul-w c = search needs
 
--- src/values.rt:41:9
 slice-write-w : tie.Need-slice-write-w
 slice-write-w c = search needs
 
--- src/values.rt:37:1
 same-length : tie.Need-same-length
 same-length c = search needs
 
--- src/values.rt:37:1
 returns : tie.Need-returns
 returns c = search needs
 
--- src/values.rt:37:1
 returns-2 : tie.Need-returns-2
 returns-2 c = sym (set-out (c .before .args .w .now) (c .before .args .at) (c .before .args .x) (c .if1 .left))
 

@@ -1,4 +1,4 @@
--- `plain_steps` goes from entry to entry: what is left of the burst at each is what it was at the first.
+-- `silent_entries` goes from entry to entry: what is left of the burst at each is what it was at the first.
 use Prim.Native.Nat.{_≤_, _-_}
 use mathlib.Core.Path.{_≡_, refl, sym, _∙_}
 use mathlib.Core.Logic.{⊎-elim}
@@ -6,8 +6,8 @@ use lib.ListN.{length}
 use Rattle.turns.specs.Bursts.{burstOp}
 use Rattle.turns.proofs.Steps.{burst-ends, burst-goes, burst-stops, burst-waits}
 use borrow.Author.Needs.{needs}
-use Rattle.turns.proofs.burst.plain_steps.Statement.{statement}
-use Rattle.turns.proofs.burst.plain_steps.Tie as tie
+use Rattle.turns.proofs.burst.silent_entries.Statement.{statement}
+use Rattle.turns.proofs.burst.silent_entries.Tie as tie
 
 abbrev Inv-loop : tie.InvT-loop
 Inv-loop p start work₀ t schedule from k₀ sure₀ work k sure =
@@ -75,8 +75,8 @@ same-length-2 c = search needs
 returns-2 : tie.Need-returns-2 Inv-loop μ-loop
 returns-2 c = burst-ends (c .before .before .before .before .before .before .args .p .now) (c .before .before .before .before .before .before .args .t .now) (c .before .before .before .before .before .before .args .schedule .now) (c .before .before .loop .work) (c .before .before .loop .k) (c .before .before .loop .sure) (c .before .loop-test .left) (c .no-meeting .ensures) ∙ sym (c .before .before .loop .inv .2)
 
-pub plain-steps-spec : {M : Type 1} → statement M
-plain-steps-spec =
+pub silent-entries-spec : {M : Type 1} → statement M
+silent-entries-spec =
     tie.close
     (tie.spec
     Inv-loop
