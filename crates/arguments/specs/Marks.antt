@@ -1,4 +1,4 @@
--- The targets that the code marks while it reads the instructions.
+-- The targets that are marked while the instructions are read. These definitions follow the code.
 use Prim.Native.Nat.{ℕ, zero, suc, _+_}
 use mathlib.Core.Bool.{cond}
 use mathlib.Core.List.{List}

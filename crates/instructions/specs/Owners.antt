@@ -1,4 +1,4 @@
--- What the code knows of the method that owns an instruction.
+-- What is known of the method that owns an instruction. These definitions follow the code.
 use Prim.Native.Nat.{ℕ}
 use mathlib.Core.List.{List}
 use Rattle.table.specs.Table.{row, offsetOf, endOf, ownerOf}

@@ -1,4 +1,4 @@
--- A line written into the words of a trace.
+-- A line written into the words of a trace. These definitions follow the code.
 use Prim.Native.Nat.{ℕ, _+_, _*_}
 use mathlib.Core.List.{List}
 use lib.ListN.{set}

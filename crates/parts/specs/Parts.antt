@@ -1,4 +1,4 @@
--- The processes' parts of the work store, as lists of words.
+-- The processes' parts of the work store, as lists of words. These definitions follow the code.
 use Prim.Native.Nat.{ℕ, _+_, _*_}
 use mathlib.Core.List.{List, _++_}
 use lib.ListN.{take, drop}

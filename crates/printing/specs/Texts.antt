@@ -1,4 +1,4 @@
--- The texts that the functions of this crate write, in the parts in which they write them.
+-- Texts in the parts in which they are written. These definitions follow the code.
 use Prim.Native.Nat.{ℕ, suc}
 use mathlib.Core.List.{List, [], _∷_, _++_}
 use lib.Dec.{ltb}

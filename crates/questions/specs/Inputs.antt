@@ -1,4 +1,4 @@
--- Question 6's test at one outcome.
+-- Question 6's test at one outcome. This definition follows the code.
 use Prim.Native.Nat.{ℕ}
 use mathlib.Core.Bool.{Bool}
 use mathlib.Core.List.{List}

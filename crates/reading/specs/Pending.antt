@@ -1,4 +1,5 @@
--- The pending types as the code packs them, and what it does to them. Nothing pending is `some []`; a fault is `none`.
+-- The pending types packed in a word, and what is done to them. Nothing pending is `some []`; a fault is `none`. These
+-- definitions follow the code.
 use Prim.Native.Nat.{ℕ, zero, suc, _/_, _%_, _^_, _≤_, _<_}
 use mathlib.Core.Bool.{cond}
 use mathlib.Core.Path.{_≡_}

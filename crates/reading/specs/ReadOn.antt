@@ -1,4 +1,4 @@
--- Question 5 at one instruction, and what the functions that read may assume.
+-- Question 5 at one instruction, and what the functions that read may assume. These definitions follow the code.
 use Prim.Native.Nat.{ℕ, _≤_, _<_}
 use mathlib.Core.Bool.{cond}
 use mathlib.Core.Path.{_≡_}

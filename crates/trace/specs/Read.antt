@@ -1,4 +1,4 @@
--- A line as the code reads it.
+-- A line as it is read from words. These definitions follow the code.
 use Prim.Native.Nat.{ℕ, _+_}
 use mathlib.Core.List.{List}
 use lib.ListN.{getD}

@@ -1,0 +1,130 @@
+-- The answer and the lent buffers after `run`, by the verdict of the questions; what is read back from the buffers; and what
+-- a fault leaves. The demands (Demands.antt) are put together from these.
+use Prim.Native.Nat.{ℕ, suc, _*_, _≤_, _<_}
+use mathlib.Core.Path.{_≡_, refl, _∙_, ap, ap₂}
+use mathlib.Core.Logic.{_≢_}
+use mathlib.Core.List.{List, [], _∷_, _++_}
+use native.Mathlib.Omega.{arith}
+use lib.ListN.{take, drop, length}
+use lib.Seq.{take-at, drop-at}
+use Rattle.lists.proofs.Tests.{cond-both}
+use Rattle.table.specs.Questions.{Verdict, accepted, refused, questions}
+use Rattle.machine.specs.State.{Process, Line, State, processAt, stopped}
+use Rattle.machine.specs.Act.{Act, actOf, faults}
+use Rattle.machine.specs.Entry.{effectOf, applied}
+use Rattle.machine.specs.Run.{Result, allOver, noneAble, fits, afterEffect, runFrom, run}
+use Rattle.machine.specs.Answer.{Answer, refusal, ran, answered, answerOf, linesIn, lineWords, traceWords, traceAfter}
+use Rattle.machine.specs.Answer as machine
+use Rattle.machine.proofs.Giving.{process-same, process-other}
+use Rattle.machine.proofs.Sound.{sound}
+use Rattle.layout.specs.Layout.{encode, storeAfter, decode}
+use Rattle.layout.proofs.RoundTrip.{encode-length, run-back}
+use Rattle.trace.specs.Trace.{linesOf}
+use Rattle.lines.proofs.LineWritten.{trace-length}
+use Rattle.schedule.proofs.Accepting.{table-kept, outcomes-small}
+use Rattle.run.specs.Answers.{unlessRefused, traceLeft, storeLeft, linesNo, configRead, linesRead}
+
+-- the words of lines are these lines
+lines-back : (ls : List Line) → linesOf (traceWords ls) ≡ ls
+unfolding linesOf traceWords lineWords
+lines-back [] = refl
+lines-back (l ∷ ls) = ap {B = List Line} (λ ms. l ∷ ms) (lines-back ls)
+
+-- a run from any state ends in one of four ways
+ends-from : (p outcomes : List ℕ) (room : ℕ) (s : State) (k : ℕ) (schedule : List ℕ) → runFrom p outcomes room s k schedule .end ≤ 3
+unfolding runFrom
+ends-from p outcomes room s k [] =
+    cond-both (λ (r : Result). r .end ≤ 3) (allOver s) (omega arith)
+    (cond-both (λ (r : Result). r .end ≤ 3) (noneAble p outcomes s) (omega arith) (omega arith))
+ends-from p outcomes room s k (n ∷ schedule) =
+    cond-both (λ (r : Result). r .end ≤ 3) (allOver s) (omega arith)
+    (cond-both (λ (r : Result). r .end ≤ 3) (noneAble p outcomes s) (omega arith)
+    (cond-both (λ (r : Result). r .end ≤ 3) (fits room s (effectOf p outcomes k s n))
+    (ends-from p outcomes room (afterEffect s (effectOf p outcomes k s n)) (suc k) schedule) (omega arith)))
+
+pub four-ends : (p schedule outcomes trace : List ℕ) → run p outcomes (linesIn (length trace)) schedule .end ≤ 3
+unfolding run
+four-ends p schedule outcomes trace = ends-from p outcomes (linesIn (length trace)) _ 0 schedule
+
+-- what a fault leaves: its own process stopped, any other as it was
+pub fault-alone : (p outcomes : List ℕ) (k : ℕ) (s : State) (n f m : ℕ) → actOf p outcomes s n ≡ faults f → n < length (s .config .processes)
+    → (processAt (effectOf p outcomes k s n .config) n ≡ record { status = stopped f; frames = processAt (s .config) n .frames })
+    × (m ≢ n → processAt (effectOf p outcomes k s n .config) m ≡ processAt (s .config) m)
+unfolding effectOf applied
+fault-alone p outcomes k s n f m e l = (
+  ap (λ (a : Act). processAt (applied p outcomes k s n a .config) n) e ∙ process-same (s .config) n halted l,
+  λ ne. ap (λ (a : Act). processAt (applied p outcomes k s n a .config) m) e ∙ process-other (s .config) n m halted ne,
+)
+  where
+    halted : Process
+    halted = record { status = stopped f; frames = processAt (s .config) n .frames }
+
+module _ (p schedule outcomes trace work : List ℕ) where
+  abbrev verdict : Verdict
+  verdict = questions p schedule outcomes (length work)
+
+  abbrev result : Result
+  result = run p outcomes (linesIn (length trace)) schedule
+
+  abbrev lines : List Line
+  lines = result .state .lines
+
+  -- where a question says no
+
+  module _ (n i : ℕ) (says : verdict ≡ refused n i) where
+    pub answer-refused : answerOf p schedule outcomes (linesIn (length trace)) (length work) ≡ refusal n i
+    unfolding answerOf machine.unlessRefused
+    answer-refused = ap (λ (v : Verdict). machine.unlessRefused v result) says
+
+    pub trace-refused : traceLeft p schedule outcomes trace work ≡ trace
+    unfolding traceLeft unlessRefused
+    trace-refused = ap (λ (v : Verdict). unlessRefused v trace (traceAfter lines trace)) says
+
+    pub store-refused : storeLeft p schedule outcomes trace work ≡ work
+    unfolding storeLeft unlessRefused
+    store-refused = ap (λ (v : Verdict). unlessRefused v work (storeAfter (result .state .config) work)) says
+
+  -- where all are passed
+
+  module _ (ok : verdict ≡ accepted) where
+    pub answer-ran : answerOf p schedule outcomes (linesIn (length trace)) (length work)
+        ≡ ran (result .end) (result .entries) (length lines) (result .state .used)
+    unfolding answerOf machine.unlessRefused answered
+    answer-ran = ap (λ (v : Verdict). machine.unlessRefused v result) ok
+
+    trace-is : traceLeft p schedule outcomes trace work ≡ traceAfter lines trace
+    unfolding traceLeft unlessRefused
+    trace-is = ap (λ (v : Verdict). unlessRefused v trace (traceAfter lines trace)) ok
+
+    store-is : storeLeft p schedule outcomes trace work ≡ encode (result .state .config) ++ drop 8192 work
+    unfolding storeLeft unlessRefused storeAfter
+    store-is = ap (λ (v : Verdict). unlessRefused v work (storeAfter (result .state .config) work)) ok
+
+    words-whole : length (encode (result .state .config)) ≡ 8192
+    words-whole =
+        encode-length p (result .state .config)
+        (sound p outcomes (linesIn (length trace)) schedule (table-kept p schedule outcomes (length work) ok) (outcomes-small p schedule outcomes (length work) ok) .config)
+
+    pub lines-read : linesRead p schedule outcomes trace work ≡ lines
+    unfolding linesRead linesNo traceAfter
+    lines-read =
+        ap₂ (λ (a : Answer) (w : List ℕ). linesOf (take (6 * linesNo a) w)) answer-ran trace-is
+        ∙ ap linesOf (take-at (traceWords lines) (drop (length (traceWords lines)) trace) (6 * length lines) (trace-length lines))
+        ∙ lines-back lines
+
+    pub rest-kept : drop (6 * length lines) (traceLeft p schedule outcomes trace work) ≡ drop (6 * length lines) trace
+    unfolding traceAfter
+    rest-kept =
+        ap (drop (6 * length lines)) trace-is
+        ∙ drop-at (traceWords lines) (drop (length (traceWords lines)) trace) (6 * length lines) (trace-length lines)
+        ∙ ap (λ (n : ℕ). drop n trace) (trace-length lines)
+
+    pub config-read : configRead p schedule outcomes trace work ≡ result .state .config
+    unfolding configRead
+    config-read =
+        ap (λ (w : List ℕ). decode (take 8192 w)) store-is
+        ∙ ap decode (take-at (encode (result .state .config)) (drop 8192 work) 8192 words-whole)
+        ∙ run-back p outcomes (linesIn (length trace)) schedule (table-kept p schedule outcomes (length work) ok) (outcomes-small p schedule outcomes (length work) ok)
+
+    pub beyond-kept : drop 8192 (storeLeft p schedule outcomes trace work) ≡ drop 8192 work
+    beyond-kept = ap (drop 8192) store-is ∙ drop-at (encode (result .state .config)) (drop 8192 work) 8192 words-whole
