@@ -23,7 +23,7 @@ use Rattle.machine.specs.Entry.{runs, Meeting, offered, meetsWith, meetingOf, i
 use Rattle.machine.specs.Run.{isOver, allOver, noneAble}
 use Rattle.machine.specs.Owner.{valuesOf, reaches, holder}
 use Rattle.machine.specs.Sound.{Made, FrameSound, ProcessSound, ConfigSound}
-use Rattle.machine.proofs.Reached.{Reached}
+use Rattle.machine.proofs.Reached.{Reached, stacked, busy-at}
 use Rattle.machine.proofs.Standing.{act-typed}
 use Rattle.machine.proofs.Sound.{config-sound}
 use Rattle.machine.proofs.Within.{OfferWithin, ActWithin, act-within}
@@ -37,7 +37,7 @@ use Rattle.store.specs.declared.head.Head.{Head}
 use Rattle.store.specs.Words.{valueAt, topAt}
 use Rattle.ops.specs.Did.{emptyTwo}
 use Rattle.ops.specs.Did as did
-use Rattle.ops.proofs.Places.{head, head-is}
+use Rattle.ops.proofs.Places.{headIn, head-is}
 use Rattle.store.proofs.Vals.{valOf}
 use Rattle.parts.specs.Parts.{partOf}
 use Rattle.parts.proofs.Encoded.{Laid, laid-sound, part-is, part-unmade}
@@ -68,7 +68,7 @@ module _ {p outcomes : List ℕ} {s : State} (reached : Reached p outcomes s) (r
       → Stands (byStatus st (atFrames p outcomes s fs)) (standOp p (processWords (record { status = st; frames = fs })))
   unfolding byStatus atFrames
   stand-process running [] h = absurd (omega (arith, h .status))
-  stand-process running (f ∷ fs) h = stand-is p (reached .kept) outcomes s f fs (h .frames) (omega (arith, h .depth)) (reached .narrow (f .place))
+  stand-process running (f ∷ fs) h = stand-is outcomes s (busy-at reached (h .frames) (omega (arith, h .depth)))
   stand-process finished fs h =
       ap (λ (gs : List Frame). standOp p (processWords (record { status = finished; frames = gs }))) (h .status) ∙ finished-stand p
   stand-process (stopped n) fs h = stopped-stand p n fs
@@ -289,14 +289,14 @@ module _ {p outcomes : List ℕ} {s : State} (reached : Reached p outcomes s) (r
         busy (eqb (opAt p (f .place)) 15) (eqb (opAt p (f .place)) 16) (emptyTwo w h) (eqb (valueAt w (topAt h 1) .tag) 0)
         (valueAt w (topAt h 2)) (valueAt w (topAt h 1)) (valueAt w (topAt h 1)) did.none
         (sym (ap (λ (g : Head). cond (eqb (g .status) 1) (cond (eqb (opAt p (g .place)) 15) (sendOf w g) (cond (eqb (opAt p (g .place)) 16) (receiveOf w g) (standing 1))) (standing 0))
-        (head-is p (reached .kept) config f fs fine deep))
-        ∙ subst (λ (a : Act). Stands a (standOp p w)) e (stand-is p (reached .kept) outcomes s f fs fine deep (reached .narrow (f .place))))
+        (head-is (stacked (reached .kept) fine deep)))
+        ∙ subst (λ (a : Act). Stands a (standOp p w)) e (stand-is outcomes s (busy-at reached fine deep)))
       where
         w : List ℕ
         w = processWords (runs (f ∷ fs))
 
         h : Head
-        h = head p (reached .kept) config f fs fine deep
+        h = headIn f fs
 
         busy : (a b c d : Bool) (x y z u : Val)
             → cond a (cond c (standing 1) (record { kind = 2; end = x; value = y })) (cond b (cond d (standing 1) (record { kind = 3; end = z; value = u })) (standing 1)) ≡ standing 0 → ⊥

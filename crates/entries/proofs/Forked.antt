@@ -13,13 +13,13 @@ use Rattle.lists.specs.Lists.{any, All}
 use Rattle.table.specs.Table.{methods, paramsOf, opAt, argAt}
 use Rattle.table.specs.Ops.{opOf, ops, opFork}
 use Rattle.machine.specs.Value.{Value, isEmpty}
-use Rattle.machine.specs.State.{Frame, Process, Config, Line, State, processAt, lineOf, forked, gave}
+use Rattle.machine.specs.State.{Frame, Process, Config, Line, State, lineOf, forked, gave}
 use Rattle.machine.specs.Act.{Act, stuck, faults, forks, doings, doingOf, doFork, passedBy, atFrames, byStatus, actOf}
 use Rattle.machine.specs.Entry.{Effect, runs, thingsOf, forking, applied}
 use Rattle.machine.specs.Run.{fits}
 use Rattle.machine.specs.Answer.{traceAfter}
 use Rattle.machine.specs.Sound.{FrameSound}
-use Rattle.machine.proofs.Reached.{Reached}
+use Rattle.machine.proofs.Reached.{Reached, Running}
 use Rattle.machine.proofs.Typing.{Fits, Frames}
 use Rattle.machine.proofs.Standing.{act-typed}
 use Rattle.machine.proofs.Sound.{frame-sound, callers-sound}
@@ -43,8 +43,8 @@ use Rattle.entries.specs.Forking.{forkDone, startOp, tryOp, forkOp}
 use Rattle.singles.proofs.Here.{Here}
 use Rattle.singles.proofs.Singly.{config, sound, laid, count, took, full, tried, part-now, fault-law}
 
-module _ {p outcomes : List ℕ} {s : State} {t0 : List ℕ} {room : ℕ} (here : Here p outcomes s t0 room) (rest : List ℕ) (k n : ℕ) (made : n < length (s .config .processes))
-    (f : Frame) (fs : List Frame) (fine : All (FrameSound p (s .config)) (f ∷ fs)) (deep : length fs < 8) (stands : processAt (s .config) n ≡ runs (f ∷ fs)) where
+module _ {p outcomes : List ℕ} {s : State} {t0 : List ℕ} {room : ℕ} (here : Here p outcomes s t0 room) (rest : List ℕ) (k n : ℕ)
+    {f : Frame} {fs : List Frame} (live : Running p (s .config) n f fs) where
   abbrev reached : Reached p outcomes s
   reached = here .reached
 
@@ -86,9 +86,9 @@ module _ {p outcomes : List ℕ} {s : State} {t0 : List ℕ} {room : ℕ} (here 
 
     things : thingsIn store n args args ≡ length (thingsOf (given args))
     things =
-        things-counted p (reached .kept) c (laid here rest k n) rest n made
+        things-counted (laid here rest k n) rest live
         (sound here rest k n .qubitCount)
-        (sound here rest k n .channelCount) f fs fine deep stands args enough args (omega arith)
+        (sound here rest k n .channelCount) args enough args (omega arith)
         ∙ ap (λ (l : List Value). length (thingsOf l)) given-all
 
     -- its lines
@@ -112,9 +112,9 @@ module _ {p outcomes : List ℕ} {s : State} {t0 : List ℕ} {room : ℕ} (here 
         ap₂ (λ (i : ℕ) (w : List ℕ). giftsAdded (gifts i w) store k n (length (c .processes)) args args)
         (sym (length-append (s .lines) (first ∷ [])))
         (written.line-written (s .lines) t0 first (omega (arith, here .holds, h)))
-        ∙ gifts-written p (reached .kept) c (laid here rest k n) rest n made
+        ∙ gifts-written (laid here rest k n) rest live
         (sound here rest k n .qubitCount)
-        (sound here rest k n .channelCount) f fs fine deep stands args enough
+        (sound here rest k n .channelCount) args enough
         (s .lines ++ (first ∷ [])) t0 k (length (c .processes)) args (omega arith)
         (omega (arith, here .holds, h, length-append (s .lines) (first ∷ []), ap (λ (l : List Value). length (thingsOf l)) given-all))
         ∙ ap (λ (l : List Line). gifts (length l) (traceAfter l t0))
@@ -125,7 +125,7 @@ module _ {p outcomes : List ℕ} {s : State} {t0 : List ℕ} {room : ℕ} (here 
     store-is : forkedWords p store n (length (c .processes)) m args ≡ encode (effect .config) ++ rest
     unfolding forking
     store-is =
-        forked-store p (reached .kept) c (laid here rest k n) rest n made free f fs fine deep stands m method args enough few after
+        forked-store (laid here rest k n) rest live free m method args enough few after
 
     start-law : startOp p lines store room (count here rest k n) n (length (c .processes)) m args ≡ tries effect
     unfolding startOp forkDone fits forking
@@ -167,27 +167,27 @@ module _ {p outcomes : List ℕ} {s : State} {t0 : List ℕ} {room : ℕ} (here 
       (cond (ltb (length (c .processes)) 8) (forks m (given params) (passedBy params f ∷ fs)) (faults 23))) stuck
   unfolding actOf byStatus atFrames doingOf doings doFork opOf ops opFork passedBy
   forking-act e =
-      ap (λ (pr : Process). byStatus (pr .status) (atFrames p outcomes s (pr .frames))) stands
-      ∙ act-is p (reached .kept) outcomes s f fs fine deep (reached .narrow (f .place)) 14 params (f .pending) e
-      (taken-by p (reached .kept) outcomes s f fs fine deep (reached .narrow (f .place)) 14 e) refl
+      ap (λ (pr : Process). byStatus (pr .status) (atFrames p outcomes s (pr .frames))) (live .stands)
+      ∙ act-is outcomes s (live .busy) 14 params (f .pending) e
+      (taken-by outcomes s (live .busy) 14 e) refl
 
   method-there : opAt p (f .place) ≡ 14 → m < methods p
   unfolding opOf ops opFork
-  method-there e = ltb→lt m (methods p) (argument-kept p (reached .kept) outcomes s f fs fine deep (reached .narrow (f .place)) 14 e)
+  method-there e = ltb→lt m (methods p) (argument-kept outcomes s (live .busy) 14 e)
 
   -- what the code reads
   reads-method : argumentIn p (partOf store n) ≡ m
   unfolding argumentIn
   reads-method =
-      ap (λ (w : List ℕ). argAt p (headOf w .place)) (part-now here rest k n made f fs fine deep stands)
-      ∙ ap (λ (h : Head). argAt p (h .place)) (head-is p (reached .kept) c f fs fine deep)
+      ap (λ (w : List ℕ). argAt p (headOf w .place)) (part-now here rest k n live)
+      ∙ ap (λ (h : Head). argAt p (h .place)) (head-is (live .busy .stack))
 
   reads-empty : params ≤ length (f .pending) → emptyIn (partOf store n) params ≡ any isEmpty (take params (f .pending))
   unfolding emptyIn
   reads-empty h =
-      ap (λ (w : List ℕ). emptyDown w (topAt (headOf w) 1) params) (part-now here rest k n made f fs fine deep stands)
-      ∙ ap (λ (h : Head). emptyDown (processWords (runs (f ∷ fs))) (topAt h 1) params) (head-is p (reached .kept) c f fs fine deep)
-      ∙ empty-args p (reached .kept) outcomes s f fs fine deep (reached .narrow (f .place)) params h
+      ap (λ (w : List ℕ). emptyDown w (topAt (headOf w) 1) params) (part-now here rest k n live)
+      ∙ ap (λ (h : Head). emptyDown (processWords (runs (f ∷ fs))) (topAt h 1) params) (head-is (live .busy .stack))
+      ∙ empty-args outcomes s (live .busy) params h
 
   -- the frames that go on are sound
   goes-sound : actOf p outcomes s n ≡ forks m (given params) (passedBy params f ∷ fs) → All (FrameSound p c) (passedBy params f ∷ fs)
@@ -215,7 +215,7 @@ module _ {p outcomes : List ℕ} {s : State} {t0 : List ℕ} {room : ℕ} (here 
       stopped-by : (x : ℕ) → 20 ≤ x → x ≤ 27 → actOf p outcomes s n ≡ faults x
           → singleOp p outcomes lines store room (count here rest k n) n x ≡ tries (applied p outcomes k s n (actOf p outcomes s n))
       stopped-by x low high i =
-          fault-law here rest k n made f fs fine deep stands x low high
+          fault-law here rest k n live x low high
           ∙ ap (λ (a : Act). tries (applied p outcomes k s n a)) (sym i)
 
       free : (x y : Bool) → leb params (length (f .pending)) ≡ true → any isEmpty (take params (f .pending)) ≡ x → ltb (length (c .processes)) 8 ≡ y

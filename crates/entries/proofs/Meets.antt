@@ -9,7 +9,6 @@ use native.Mathlib.Omega.{arith}
 use lib.ListN.{length}
 use lib.Dec.{eqb, ltb}
 use borrow.Author.Tests.{ne-eqb, lt-leb, ltb-true, ltb-false}
-use Rattle.lists.specs.Lists.{All}
 use Rattle.lists.proofs.Tests.{decide}
 use Rattle.table.specs.Table.{opAt}
 use Rattle.table.specs.Ops.{opOf, ops, opSend, opRecv}
@@ -18,10 +17,10 @@ use Rattle.table.proofs.Accepted.{Kept}
 use Rattle.machine.specs.Value.{qubit, channel, end, Value, empty, int, bool, ref, isEmpty}
 use Rattle.machine.specs.State.{Frame, Status, running, finished, stopped, Process, Config, State, processAt}
 use Rattle.machine.specs.Act.{Offer, sends, receives, Act, idle, stuck, faults, goes, ends, makes, forks, offers, doSend, doRecv, doings, doingOf, atFrame, atFrames, byStatus, actOf}
-use Rattle.machine.specs.Entry.{Effect, Meeting, joins, offered, meetsWith, meetingOf, isMeeting, runs, meeting, meetingIf, applied, effectOf, moves}
+use Rattle.machine.specs.Entry.{Effect, Meeting, joins, offered, meetsWith, meetingOf, isMeeting, meeting, meetingIf, applied, effectOf, moves}
 use Rattle.machine.specs.Owner.{valuesOf}
-use Rattle.machine.specs.Sound.{FrameSound, ProcessSound}
-use Rattle.machine.proofs.Reached.{Reached}
+use Rattle.machine.specs.Sound.{ProcessSound}
+use Rattle.machine.proofs.Reached.{Reached, busy-at, Running}
 use Rattle.machine.proofs.Typing.{Typed}
 use Rattle.machine.proofs.Effects.{effect-typed}
 use Rattle.machine.proofs.Within.{OfferWithin, ActWithin, act-within}
@@ -32,7 +31,7 @@ use Rattle.machine.specs.Answer.{traceAfter}
 use Rattle.layout.specs.Layout.{encode}
 use Rattle.store.specs.declared.head.Head.{Head}
 use Rattle.store.specs.Words.{headOf}
-use Rattle.ops.proofs.Places.{head, head-is}
+use Rattle.ops.proofs.Places.{headIn, head-is}
 use Rattle.ops.proofs.Meaning.{act-one, act-two, act-short, taken-by, scene}
 use Rattle.parts.specs.Parts.{partOf}
 use Rattle.holders.proofs.Holding.{Holding}
@@ -74,14 +73,11 @@ module _ {p outcomes : List ℕ} {s : State} {t0 : List ℕ} {room : ℕ} (here 
   went a = cond (moves p outcomes s n a) (tries (applied p outcomes k s n a)) stay
 
   -- a process that offers is running
-  record Running (q : ℕ) (o : Offer) : Type 0 where
+  record Offerer (q : ℕ) (o : Offer) : Type 0 where
     frame : Frame
     below : List Frame
-    stands : processAt c q ≡ runs (frame ∷ below)
-    fine : All (FrameSound p c) (frame ∷ below)
-    deep : length below < 8
+    live : Running p c q frame below
     offer : atFrame p outcomes s frame below ≡ offers o
-    made : q < length (c .processes)
 
   is-offer : Act → Type 0
   is-offer idle = ⊥
@@ -97,7 +93,7 @@ module _ {p outcomes : List ℕ} {s : State} {t0 : List ℕ} {room : ℕ} (here 
   unfolding is-offer
   idle-offers o e = subst is-offer (sym e) tt
 
-  running-at : (q : ℕ) (o : Offer) → actOf p outcomes s q ≡ offers o → Running q o
+  running-at : (q : ℕ) (o : Offer) → actOf p outcomes s q ≡ offers o → Offerer q o
   unfolding actOf byStatus atFrames
   running-at q o e = go (processAt c q .status) (processAt c q .frames) refl (process-sound reached rest q) e
     where
@@ -108,15 +104,20 @@ module _ {p outcomes : List ℕ} {s : State} {t0 : List ℕ} {room : ℕ} (here 
           (decide (ltb q (length (c .processes))))
 
       go : (st : Status) (fs : List Frame) → processAt c q ≡ record { status = st; frames = fs } → ProcessSound p c (record { status = st; frames = fs })
-          → byStatus st (atFrames p outcomes s fs) ≡ offers o → Running q o
+          → byStatus st (atFrames p outcomes s fs) ≡ offers o → Offerer q o
       go running [] i h e = absurd (omega (arith, h .status))
       go running (f ∷ fs) i h e =
-          record { frame = f; below = fs; stands = i; fine = h .frames; deep = omega (arith, h .depth); offer = e; made = made }
+          record {
+            frame = f;
+            below = fs;
+            live = record { made = made; busy = busy-at reached (h .frames) (omega (arith, h .depth)); stands = i };
+            offer = e;
+          }
       go finished fs i h e = absurd (idle-offers o e)
       go (stopped m) fs i h e = absurd (idle-offers o e)
 
   -- the meeting of process n, which offers o, with process q, which offers r
-  pair-law : (q : ℕ) (o r : Offer) (e : Meeting) (st : Stand) → Running n o → Running q r → q < 8 → q ≢ n → Stands (offers o) st
+  pair-law : (q : ℕ) (o r : Offer) (e : Meeting) (st : Stand) → Offerer n o → Offerer q r → q < 8 → q ≢ n → Stands (offers o) st
       → Stands (offers r) (standOp p (partOf store q)) → joins n o q r ≡ some e → Typed p (meeting k s e .config)
       → pairOp p lines store room (count here rest k n) n st q ≡ tries (meeting k s e)
   unfolding joins pairOp pairBy
@@ -124,16 +125,14 @@ module _ {p outcomes : List ℕ} {s : State} {t0 : List ℕ} {room : ℕ} (here 
   pair-law q (sends i d v hs) (receives i′ d′ hs′) e st x y near two h h′ j after =
       let w = cond-some (eqb i i′ && Bool·beq d (not d′)) _ e j in
       ap (λ (a : Stand). pairOp p lines store room (count here rest k n) n a q) h
-      ∙ exchange-law here rest k n n q (x .made) (y .made) (λ z. two (sym z))
-      (x .frame) (x .below) (x .fine) (x .deep) (x .stands) (y .frame) (y .below) (y .fine) (y .deep) (y .stands) i i′ d d′ v hs hs′ (x .offer) (y .offer)
+      ∙ exchange-law here rest k n (x .live) (y .live) (λ z. two (sym z)) i i′ d d′ v hs hs′ (x .offer) (y .offer)
       (subst (λ (m : Meeting). Typed p (meeting k s m .config)) (sym (w .1)) after)
       ∙ ap (λ (m : Meeting). tries (meeting k s m)) (w .1)
   pair-law q (receives i d hs) (sends i′ d′ v hs′) e st x y near two h h′ j after =
       let w = cond-some (eqb i i′ && Bool·beq d (not d′)) _ e j in
       ap₂ (λ (a b : Stand). cond (eqb (a .kind) 2) (exchangeOp lines store room (count here rest k n) n q (a .end) (a .value))
       (exchangeOp lines store room (count here rest k n) q n (b .end) (b .value))) h h′
-      ∙ exchange-law here rest k n q n (y .made) (x .made) two
-      (y .frame) (y .below) (y .fine) (y .deep) (y .stands) (x .frame) (x .below) (x .fine) (x .deep) (x .stands) i′ i d′ d v hs′ hs (y .offer) (x .offer)
+      ∙ exchange-law here rest k n (y .live) (x .live) two i′ i d′ d v hs′ hs (y .offer) (x .offer)
       (subst (λ (m : Meeting). Typed p (meeting k s m .config)) (sym (w .1)) after)
       ∙ ap (λ (m : Meeting). tries (meeting k s m)) (w .1)
   pair-law q (receives i d hs) (receives i′ d′ hs′) e st x y near two h h′ j after = absurd (Option·none-ne-some e j)
@@ -189,8 +188,7 @@ module _ {p outcomes : List ℕ} {s : State} {t0 : List ℕ} {room : ℕ} (here 
     Offering (forks m args gs) = ⊥
     Offering (offers o) = Unit {0}
 
-    module _ (made : n < length (c .processes)) (f : Frame) (fs : List Frame) (fine : All (FrameSound p c) (f ∷ fs)) (deep : length fs < 8)
-        (stands : processAt c n ≡ runs (f ∷ fs)) where
+    module _ {f : Frame} {fs : List Frame} (live : Running p c n f fs) where
       stands-law : (a : Act) (st : Stand) → actOf p outcomes s n ≡ a → Offering a → a ≢ stuck → Stands a st
           → standsOp p outcomes lines store room t (count here rest k n) n st ≡ went a
       unfolding standsOp moves
@@ -198,7 +196,7 @@ module _ {p outcomes : List ℕ} {s : State} {t0 : List ℕ} {room : ℕ} (here 
       stands-law stuck st does o going h = absurd (going refl)
       stands-law (faults m) st does o going h =
           ap (standsOp p outcomes lines store room t (count here rest k n) n) h
-          ∙ fault-law here rest k n made f fs fine deep stands 20 (omega arith) (omega arith)
+          ∙ fault-law here rest k n live 20 (omega arith) (omega arith)
           ∙ ap (λ (i : ℕ). tries (applied p outcomes k s n (faults i))) (sym o)
       stands-law (goes gs es u) st does o going h = absurd o
       stands-law ends st does o going h = absurd o
@@ -222,13 +220,13 @@ module _ {p outcomes : List ℕ} {s : State} {t0 : List ℕ} {room : ℕ} (here 
       send-offering e = go (f .pending) refl
         where
           taken : takenAt p (f .place) ≡ 2
-          taken = taken-by p (reached .kept) outcomes s f fs fine deep (reached .narrow (f .place)) 15 e
+          taken = taken-by outcomes s (live .busy) 15 e
 
           short : (vs : List Value) → f .pending ≡ vs → length vs < 2 → Offering (atFrame p outcomes s f fs)
           short vs q h =
-              subst Offering (sym (act-short p (reached .kept) outcomes s f fs fine deep (reached .narrow (f .place)) 15 2 e taken (subst (λ (l : List Value). length l < 2) (sym q) h))) tt
+              subst Offering (sym (act-short outcomes s (live .busy) 15 2 e taken (subst (λ (l : List Value). length l < 2) (sym q) h))) tt
 
-          ended : (y x : Value) (us : List Value) → Offering (doSend (scene p (reached .kept) outcomes s f fs fine deep (reached .narrow (f .place)) 2 (y ∷ x ∷ us)))
+          ended : (y x : Value) (us : List Value) → Offering (doSend (scene outcomes s (live .busy) 2 (y ∷ x ∷ us)))
           ended y empty us = tt
           ended y (int z) us = tt
           ended y (bool z) us = tt
@@ -240,17 +238,17 @@ module _ {p outcomes : List ℕ} {s : State} {t0 : List ℕ} {room : ℕ} (here 
           go [] q = short [] q (omega arith)
           go (u ∷ []) q = short (u ∷ []) q (omega arith)
           go (y ∷ x ∷ us) q =
-              subst Offering (sym (act-two p (reached .kept) outcomes s f fs fine deep (reached .narrow (f .place)) 15 y x us e taken q))
-              (offering (isEmpty y || (isEmpty x || false)) (doSend (scene p (reached .kept) outcomes s f fs fine deep (reached .narrow (f .place)) 2 (y ∷ x ∷ us))) (ended y x us))
+              subst Offering (sym (act-two outcomes s (live .busy) 15 y x us e taken q))
+              (offering (isEmpty y || (isEmpty x || false)) (doSend (scene outcomes s (live .busy) 2 (y ∷ x ∷ us))) (ended y x us))
 
       receive-offering : opAt p (f .place) ≡ 16 → Offering (atFrame p outcomes s f fs)
       unfolding doingOf doings doRecv opOf ops opRecv
       receive-offering e = go (f .pending) refl
         where
           taken : takenAt p (f .place) ≡ 1
-          taken = taken-by p (reached .kept) outcomes s f fs fine deep (reached .narrow (f .place)) 16 e
+          taken = taken-by outcomes s (live .busy) 16 e
 
-          ended : (x : Value) (us : List Value) → Offering (doRecv (scene p (reached .kept) outcomes s f fs fine deep (reached .narrow (f .place)) 1 (x ∷ us)))
+          ended : (x : Value) (us : List Value) → Offering (doRecv (scene outcomes s (live .busy) 1 (x ∷ us)))
           ended empty us = tt
           ended (int z) us = tt
           ended (bool z) us = tt
@@ -259,14 +257,14 @@ module _ {p outcomes : List ℕ} {s : State} {t0 : List ℕ} {room : ℕ} (here 
           ended (ref (end z d)) us = tt
 
           go : (vs : List Value) → f .pending ≡ vs → Offering (atFrame p outcomes s f fs)
-          go [] q = subst Offering (sym (act-short p (reached .kept) outcomes s f fs fine deep (reached .narrow (f .place)) 16 1 e taken (subst (λ (l : List Value). length l < 1) (sym q) (omega arith)))) tt
+          go [] q = subst Offering (sym (act-short outcomes s (live .busy) 16 1 e taken (subst (λ (l : List Value). length l < 1) (sym q) (omega arith)))) tt
           go (x ∷ us) q =
-              subst Offering (sym (act-one p (reached .kept) outcomes s f fs fine deep (reached .narrow (f .place)) 16 x us e taken q))
-              (offering (isEmpty x || false) (doRecv (scene p (reached .kept) outcomes s f fs fine deep (reached .narrow (f .place)) 1 (x ∷ us))) (ended x us))
+              subst Offering (sym (act-one outcomes s (live .busy) 16 x us e taken q))
+              (offering (isEmpty x || false) (doRecv (scene outcomes s (live .busy) 1 (x ∷ us))) (ended x us))
 
       act-here : actOf p outcomes s n ≡ atFrame p outcomes s f fs
       unfolding actOf byStatus atFrames
-      act-here = ap (λ (pr : Process). byStatus (pr .status) (atFrames p outcomes s (pr .frames))) stands
+      act-here = ap (λ (pr : Process). byStatus (pr .status) (atFrames p outcomes s (pr .frames))) (live .stands)
 
       pub meet-law : (code : ℕ) → Offering (atFrame p outcomes s f fs) → actOf p outcomes s n ≢ stuck → n < 8 → offerOf (partOf store n) code ≡ standOp p (partOf store n)
           → meetBy p outcomes lines store room (count here rest k n) n (pairingOp p store t n code) ≡ went (actOf p outcomes s n)
@@ -276,10 +274,10 @@ module _ {p outcomes : List ℕ} {s : State} {t0 : List ℕ} {room : ℕ} (here 
           ∙ stands-law (actOf p outcomes s n) (standOp p (partOf store n)) refl (subst Offering (sym act-here) o) going
           (stand-at reached rest n near)
 
-      head-here : headOf (partOf store n) ≡ head p (reached .kept) c f fs fine deep
+      head-here : headOf (partOf store n) ≡ headIn f fs
       head-here =
-          ap headOf (part-now here rest k n made f fs fine deep stands)
-          ∙ head-is p (reached .kept) c f fs fine deep
+          ap headOf (part-now here rest k n live)
+          ∙ head-is (live .busy .stack)
 
       runs-here : headOf (partOf store n) .status ≡ 1
       runs-here = ap (λ (h : Head). h .status) head-here

@@ -10,7 +10,6 @@ use native.Mathlib.Omega.{arith}
 use lib.ListN.{length, length-append, replicate}
 use lib.Dec.{eqb, ltb}
 use borrow.Author.Tests.{eqb-true, eqb-false, ne-eqb, ltb-true, ltb-false, lt-ltb}
-use Rattle.lists.specs.Lists.{All}
 use Rattle.lists.proofs.Tests.{decide}
 use Rattle.lists.proofs.Each.{both-length}
 use Rattle.table.specs.Table.{argAt, opAt}
@@ -23,8 +22,8 @@ use Rattle.machine.specs.Act.{Act, idle, stuck, faults, goes, ends, makes, fork
 use Rattle.machine.specs.Entry.{Effect, runs, applied, effectOf, moves, able}
 use Rattle.machine.specs.Owner.{valuesOf}
 use Rattle.machine.specs.Answer.{traceAfter}
-use Rattle.machine.specs.Sound.{FrameSound, ProcessSound}
-use Rattle.machine.proofs.Reached.{Reached}
+use Rattle.machine.specs.Sound.{ProcessSound}
+use Rattle.machine.proofs.Reached.{Reached, busy-at, Running}
 use Rattle.machine.proofs.Typing.{FrameTyped}
 use Rattle.machine.proofs.Acts.{ActTyped}
 use Rattle.machine.proofs.Standing.{act-typed}
@@ -201,17 +200,16 @@ module _ {p outcomes : List ℕ} {s : State} {t0 : List ℕ} {room : ℕ} (here 
       (λ z. absurd (omega (arith, z)))
       (sym (ap comes i))
 
-  module _ (made : n < length (c .processes)) (f : Frame) (fs : List Frame) (fine : All (FrameSound p c) (f ∷ fs)) (deep : length fs < 8)
-      (stands : processAt c n ≡ runs (f ∷ fs)) where
+  module _ {f : Frame} {fs : List Frame} (live : Running p c n f fs) where
     abbrev words : List ℕ
     words = processWords (runs (f ∷ fs))
 
     part : partOf store n ≡ words
-    part = part-now here rest k n made f fs fine deep stands
+    part = part-now here rest k n live
 
     act-here : actOf p outcomes s n ≡ atFrame p outcomes s f fs
     unfolding actOf byStatus atFrames
-    act-here = ap (λ (pr : Process). byStatus (pr .status) (atFrames p outcomes s (pr .frames))) stands
+    act-here = ap (λ (pr : Process). byStatus (pr .status) (atFrames p outcomes s (pr .frames))) (live .stands)
 
     typed-act : ActTyped p (reached .kinds) (c .qubits) (length (c .processes)) (atFrame p outcomes s f fs)
     typed-act = subst (ActTyped p (reached .kinds) (c .qubits) (length (c .processes))) act-here (act-typed p (reached .kept) outcomes (reached .bytes) s (reached .kinds) (reached .typed) n)
@@ -239,7 +237,7 @@ module _ {p outcomes : List ℕ} {s : State} {t0 : List ℕ} {room : ℕ} (here 
     quiet (faults m) i ty g =
         single-other m g (λ z. absurd (omega (arith, z, ty .0))) (λ z. absurd (omega (arith, z, ty .0))) (λ z. absurd (omega (arith, z, ty .1)))
         (λ z. absurd (omega (arith, z, ty .1))) (λ z. absurd (omega (arith, z, ty .1))) (omega (arith, ty .1))
-        (fault-law here rest k n made f fs fine deep stands m (ty .0) (ty .1)
+        (fault-law here rest k n live m (ty .0) (ty .1)
         ∙ ap comes (sym (act-here ∙ i)))
     quiet (goes gs [] zero) i ty g =
         inl (record {
@@ -247,8 +245,8 @@ module _ {p outcomes : List ℕ} {s : State} {t0 : List ℕ} {room : ℕ} (here 
           can = ap (moves p outcomes s n) does;
           words =
               ap (λ (d : Did). withPart store n (d .words)) stepped
-              ∙ part-put c (laid here rest k n) rest n (runs gs) made
-              (after-long here rest k n made f fs fine deep stands (goes gs [] 0) does n (runs gs) (process-same c n (runs gs) made))
+              ∙ part-put c (laid here rest k n) rest n (runs gs) (live .made)
+              (after-long here rest k n live (goes gs [] 0) does n (runs gs) (process-same c n (runs gs) (live .made)))
               ∙ ap (λ (a : Act). encode (applied p outcomes k s n a .config) ++ rest) (sym does);
           lines = ap (λ (a : Act). applied p outcomes k s n a .lines) does;
           used = ap (λ (a : Act). applied p outcomes k s n a .used) does;
@@ -264,7 +262,7 @@ module _ {p outcomes : List ℕ} {s : State} {t0 : List ℕ} {room : ℕ} (here 
     quiet ends i ty g =
         single-other 113 g (λ z. absurd (omega (arith, z))) (λ z. absurd (omega (arith, z))) (λ z. absurd (omega (arith, z)))
         (λ z. absurd (omega (arith, z))) (λ z. absurd (omega (arith, z))) (omega arith)
-        (ends-law here rest k n made f fs fine deep stands ∙ ap comes (sym (act-here ∙ i)))
+        (ends-law here rest k n live ∙ ap comes (sym (act-here ∙ i)))
     quiet (makes x gs) i ty g = absurd g
     quiet (forks m args gs) i ty g = absurd g
     quiet (offers o) i ty g = absurd g
@@ -272,22 +270,22 @@ module _ {p outcomes : List ℕ} {s : State} {t0 : List ℕ} {room : ℕ} (here 
     -- an op with one line
     loud : (code : ℕ) (a : Act) → atFrame p outcomes s f fs ≡ a → ActTyped p (reached .kinds) (c .qubits) (length (c .processes)) a
         → ActWithin (valuesOf (processAt c n .frames)) (c .qubits) (c .channels) a → Alone a
-        → Concluded p (reached .kept) outcomes s f fs fine deep (reached .narrow (f .place)) (sound here rest k n .qubitCount) a
+        → Concluded outcomes s (live .busy) (sound here rest k n .qubitCount) a
         (concludeOp p words code (c .qubits) (c .channels) outcomes (s .used))
         → singleOp p outcomes lines store room counted n code ≡ comes a
     unfolding moves
     loud code idle i ty wi al g = absurd g
     loud code stuck i ty wi al g = absurd ty
     loud code (faults m) i ty wi al g =
-        fault-as here rest k n made f fs fine deep stands code m (ty .0) (ty .1) g
+        fault-as here rest k n live code m (ty .0) (ty .1) g
     loud code (goes gs [] u) i ty wi al g = absurd g
     loud code (goes gs (e ∷ []) u) i ty wi al g =
-        line-law here rest k n made f fs fine deep stands code gs e u (act-here ∙ i) g
+        line-law here rest k n live code gs e u (act-here ∙ i) g
         (wi .1 .0 .notMade .0) (wi .1 .0 .notMade .1) (al .1)
     loud code (goes gs (e ∷ g ∷ es) u) i ty wi al h = absurd h
-    loud code ends i ty wi al g = ends-as here rest k n made f fs fine deep stands code g
+    loud code ends i ty wi al g = ends-as here rest k n live code g
     loud code (makes (qubit q) gs) i ty wi al g =
-        made-law here rest k n made f fs fine deep stands code (qubit q) gs (act-here ∙ i) g (λ j d e. not-end e)
+        made-law here rest k n live code (qubit q) gs (act-here ∙ i) g (λ j d e. not-end e)
       where
         not-end : {j : ℕ} {d : Bool} → qubit q ≡ end j d → ⊥
         not-end e = subst is-qubit e tt
@@ -297,7 +295,7 @@ module _ {p outcomes : List ℕ} {s : State} {t0 : List ℕ} {room : ℕ} (here 
             is-qubit (channel x) = ⊥
             is-qubit (end x y) = ⊥
     loud code (makes (channel q) gs) i ty wi al g =
-        made-law here rest k n made f fs fine deep stands code (channel q) gs (act-here ∙ i) g (λ j d e. not-end e)
+        made-law here rest k n live code (channel q) gs (act-here ∙ i) g (λ j d e. not-end e)
       where
         not-end : {j : ℕ} {d : Bool} → channel q ≡ end j d → ⊥
         not-end e = subst is-channel e tt
@@ -317,15 +315,15 @@ module _ {p outcomes : List ℕ} {s : State} {t0 : List ℕ} {room : ℕ} (here 
         (λ z. absurd (omega (arith, z, less))) (λ z. absurd (omega (arith, z, less))) (omega (arith, less))
         (loud (100 + op) (atFrame p outcomes s f fs) refl typed-act within-act
         (frame-alone p outcomes s f fs (λ z. absurd (omega (arith, z, e, less))) (λ z. absurd (omega (arith, z, e, less))))
-        (concluded-op p (reached .kept) outcomes s f fs fine deep (reached .narrow (f .place)) (sound here rest k n .qubitCount) op e h high)
+        (concluded-op outcomes s (live .busy) (sound here rest k n .qubitCount) op e h high)
         ∙ ap comes (sym act-here))
 
     at-work : Law
     unfolding entryOp isOffer offerAt
-    at-work = ⊎-elim left-to (λ h. quiet (atFrame p outcomes s f fs) refl typed-act (step-agrees p (reached .kept) outcomes s f fs fine deep (reached .narrow (f .place)) h high)) (decide (isLeft (opAt p (f .place))))
+    at-work = ⊎-elim left-to (λ h. quiet (atFrame p outcomes s f fs) refl typed-act (step-agrees outcomes s (live .busy) h high)) (decide (isLeft (opAt p (f .place))))
       where
         stepped : isLeft (opAt p (f .place)) ≡ true → stepOp p words ≡ did (100 + opAt p (f .place)) words
-        stepped h = step-left p (reached .kept) outcomes s f fs fine deep (reached .narrow (f .place)) h
+        stepped h = step-left outcomes s (live .busy) h
 
         at-op : (op : ℕ) → isLeft (opAt p (f .place)) ≡ true → opAt p (f .place) ≡ op → stepOp p (partOf store n) ≡ did (100 + op) (partOf store n)
         at-op op h e = left-at (100 + op) (stepped h ∙ ap (λ (i : ℕ). did (100 + i) words) e)
@@ -333,7 +331,7 @@ module _ {p outcomes : List ℕ} {s : State} {t0 : List ℕ} {room : ℕ} (here 
         fork-at : isLeft (opAt p (f .place)) ≡ true → opAt p (f .place) ≡ 14 → Law
         fork-at h e =
             other 114 (at-op 14 h e) (λ z. absurd (omega (arith, z)))
-            (fork-law here rest k n made f fs fine deep stands e going
+            (fork-law here rest k n live e going
             ∙ forks-come)
           where
             forks-come : tried here rest k n (applied p outcomes k s n (actOf p outcomes s n)) ≡ comes (actOf p outcomes s n)
@@ -351,12 +349,12 @@ module _ {p outcomes : List ℕ} {s : State} {t0 : List ℕ} {room : ℕ} (here 
             (λ i. let e = eqb-true (opAt p (f .place)) 15 i in
             other 115 (at-op 15 h e) (λ z. absurd (omega (arith, z)))
             (paired 115
-            ∙ send-law here rest k n owned t holding made f fs fine deep stands e going near))
+            ∙ send-law here rest k n owned t holding live e going near))
             (λ i. ⊎-elim
             (λ j. let e = eqb-true (opAt p (f .place)) 16 j in
             other 116 (at-op 16 h e) (λ z. absurd (omega (arith, z)))
             (paired 116
-            ∙ receive-law here rest k n owned t holding made f fs fine deep stands e going near))
+            ∙ receive-law here rest k n owned t holding live e going near))
             (λ j. tells (opAt p (f .place)) refl (left-tells (opAt p (f .place)) h x (eqb-false (opAt p (f .place)) 15 i) (eqb-false (opAt p (f .place)) 16 j)) (stepped h))
             (decide (eqb (opAt p (f .place)) 16)))
             (decide (eqb (opAt p (f .place)) 15))
@@ -367,7 +365,7 @@ module _ {p outcomes : List ℕ} {s : State} {t0 : List ℕ} {room : ℕ} (here 
   by-process : n < length (c .processes) → (st : Status) (fs : List Frame) → processAt c n ≡ record { status = st; frames = fs } → ProcessSound p c (record { status = st; frames = fs }) → Law
   unfolding headOf processWords statusWords padded actOf byStatus
   by-process made running [] i h = absurd (omega (arith, h .status))
-  by-process made running (f ∷ fs) i h = at-work made f fs (h .frames) (omega (arith, h .depth)) i
+  by-process made running (f ∷ fs) i h = at-work (record { made = made; busy = busy-at reached (h .frames) (omega (arith, h .depth)); stands = i })
   by-process made finished fs i h =
       over (processWords (record { status = finished; frames = fs })) (part-is c (laid here rest k n) rest n made ∙ ap processWords i) refl
       (ap (λ (pr : Process). byStatus (pr .status) (atFrames p outcomes s (pr .frames))) i)

@@ -13,15 +13,15 @@ use lib.Dec.{eqb, leb, ltb}
 use borrow.Author.Tests.{ltb-true, ltb-false}
 use Rattle.lists.specs.Lists.{All}
 use Rattle.lists.proofs.Tests.{decide}
-use Rattle.table.specs.Table.{opAt, argAt}
+use Rattle.table.specs.Table.{opAt}
 use Rattle.table.specs.Ops.{opOf, ops, opNewQ, opNewC, opGate, opMeas, gateQubits}
 use Rattle.table.specs.Reading.{takenAt}
-use Rattle.table.proofs.Accepted.{Kept}
 use Rattle.machine.specs.Value.{Thing, qubit, channel, end, Value, empty, int, bool, ref, isEmpty, word32}
 use Rattle.machine.specs.State.{Frame, State, Event, atPlace, withPending, push, gatedTwo, measured}
 use Rattle.machine.specs.Act.{Act, idle, stuck, faults, goes, ends, makes, forks, offers, At, withOutcome, doNewQ, doNewC, doGate, doGateOne, doGateTwo, doMeas, doings, doingOf, passedBy}
 use Rattle.machine.specs.Entry.{runs, making}
 use Rattle.machine.specs.Sound.{ValueSound, FrameSound}
+use Rattle.machine.proofs.Reached.{stacked, AtWork}
 use Rattle.layout.specs.Layout.{valueWords, processWords}
 use Rattle.layout.proofs.Frames.{tagOf, numberOf}
 use Rattle.store.specs.declared.values.Val.{Val}
@@ -29,7 +29,7 @@ use Rattle.store.specs.declared.head.Head.{Head}
 use Rattle.store.specs.Words.{valueAt, topAt, popped}
 use Rattle.store.proofs.Vals.{valOf}
 use Rattle.ops.specs.Did.{intVal, pushOn, onTop, dropTop, emptyTwo}
-use Rattle.ops.proofs.Places.{head, push-words, drop-words, drop-to-words, top-words}
+use Rattle.ops.proofs.Places.{headIn, push-words, drop-words, drop-to-words, top-words}
 use Rattle.ops.proofs.Meaning.{Height, w, hd, a, scene, act, act-zero, act-one, act-two, act-short, taken-by, tag-test, read-top, read-second}
 use Rattle.events.specs.declared.told.Told.{Told}
 use Rattle.events.specs.Told.{Left, left, faultTold, lineTold, measuredTold, qubitAt, newqOp, newcOp, dropTwo, gateOne, gateTwo, gateOp, measOp}
@@ -63,23 +63,22 @@ drop-none [] (suc n) h = refl
 drop-none (o ∷ os) zero h = absurd (not-suc-le-zero h)
 drop-none (o ∷ os) (suc n) h = drop-none os n (le-of-suc-le-suc h)
 
-module _ (p : List ℕ) (kept : Kept p) (outcomes : List ℕ) (s : State) (f : Frame) (fs : List Frame)
-    (sound : All (FrameSound p (s .config)) (f ∷ fs)) (deep : length fs < 8) (small : argAt p (f .place) < 65536)
+module _ {p : List ℕ} (outcomes : List ℕ) (s : State) {f : Frame} {fs : List Frame} (busy : AtWork p (s .config) f fs)
     (few : s .config .qubits ≤ 32) where
   abbrev words : List ℕ
-  words = w p kept outcomes s f fs sound deep small
+  words = w outcomes s busy
 
   abbrev top : Head
-  top = hd p kept outcomes s f fs sound deep small
+  top = hd outcomes s busy
 
   abbrev arg : ℕ
-  arg = a p kept outcomes s f fs sound deep small
+  arg = a outcomes s busy
 
   abbrev does : Act
-  does = act p kept outcomes s f fs sound deep small
+  does = act outcomes s busy
 
   abbrev stage : ℕ → List Value → At
-  stage = scene p kept outcomes s f fs sound deep small
+  stage = scene outcomes s busy
 
   abbrev pub Good : Act → Left → Type 0
   Good x d = Height x → Tells x words d
@@ -99,19 +98,19 @@ module _ (p : List ℕ) (kept : Kept p) (outcomes : List ℕ) (s : State) (f : F
       (cond b (left (lineTold kind n 65535 65535) (pushOn words top (record { tag = tag; number = n }))) (left (faultTold fault) words))
   unfolding passedBy
   made-tells t tag kind fault n v l true h =
-      ap₂ left (sym l) (ap (pushOn words top) (sym v) ∙ push-words p kept (s .config) f fs sound deep (ref t) h)
+      ap₂ left (sym l) (ap (pushOn words top) (sym v) ∙ push-words (busy .stack) (ref t) h)
   made-tells t tag kind fault n v l false h = refl
 
   pub newq-tells : opAt p (f .place) ≡ 7 → Good does (newqOp words top (s .config .qubits))
   unfolding newqOp doingOf doings doNewQ opOf ops opNewQ passedBy making valOf tagOf numberOf valueWords
   newq-tells e =
-      by (act-zero p kept outcomes s f fs sound deep small 7 e (taken-by p kept outcomes s f fs sound deep small 7 e)) refl
+      by (act-zero outcomes s busy 7 e (taken-by outcomes s busy 7 e)) refl
       (made-tells (qubit (s .config .qubits)) 3 1 22 (s .config .qubits) refl refl (ltb (s .config .qubits) 32))
 
   pub newc-tells : opAt p (f .place) ≡ 8 → Good does (newcOp words top (s .config .channels))
   unfolding newcOp doingOf doings doNewC opOf ops opNewC passedBy making valOf tagOf numberOf valueWords
   newc-tells e =
-      by (act-zero p kept outcomes s f fs sound deep small 8 e (taken-by p kept outcomes s f fs sound deep small 8 e)) refl
+      by (act-zero outcomes s busy 8 e (taken-by outcomes s busy 8 e)) refl
       (made-tells (channel (s .config .channels)) 4 2 21 (s .config .channels) refl refl (ltb (s .config .channels) 16))
 
   -- GATE
@@ -121,13 +120,13 @@ module _ (p : List ℕ) (kept : Kept p) (outcomes : List ℕ) (s : State) (f : F
   fits-line n h = mod-eq-of-lt (omega (arith, few))
 
   pending-sound : (vs : List Value) → f .pending ≡ vs → All (ValueSound (s .config)) vs
-  pending-sound vs q = subst (All (ValueSound (s .config))) q (sound .0 .pending)
+  pending-sound vs q = subst (All (ValueSound (s .config))) q (busy .stack .sound .0 .pending)
 
   -- too few pending values
   short : (k n : ℕ) (d : Left) (vs : List Value) → opAt p (f .place) ≡ k → takenAt p (f .place) ≡ n → f .pending ≡ vs → length vs < n
       → Good does d
   short k n d vs e t q h =
-      by (act-short p kept outcomes s f fs sound deep small k n e t (subst (λ (l : List Value). length l < n) (sym q) h)) refl (λ h. tt)
+      by (act-short outcomes s busy k n e t (subst (λ (l : List Value). length l < n) (sym q) h)) refl (λ h. tt)
 
   -- an op of one operand, and of two
   one-op : (k : ℕ) (d : Left) → opAt p (f .place) ≡ k → takenAt p (f .place) ≡ 1
@@ -137,7 +136,7 @@ module _ (p : List ℕ) (kept : Kept p) (outcomes : List ℕ) (s : State) (f : F
     where
       go : (vs : List Value) → f .pending ≡ vs → Good does d
       go [] q = short k 1 d [] e t q (omega arith)
-      go (u ∷ us) q = by (act-one p kept outcomes s f fs sound deep small k u us e t q) refl (g u us q)
+      go (u ∷ us) q = by (act-one outcomes s busy k u us e t q) refl (g u us q)
 
   two-op : (k : ℕ) (d : Left) → opAt p (f .place) ≡ k → takenAt p (f .place) ≡ 2
       → ((y x : Value) (us : List Value) → f .pending ≡ y ∷ x ∷ us
@@ -148,7 +147,7 @@ module _ (p : List ℕ) (kept : Kept p) (outcomes : List ℕ) (s : State) (f : F
       go : (vs : List Value) → f .pending ≡ vs → Good does d
       go [] q = short k 2 d [] e t q (omega arith)
       go (u ∷ []) q = short k 2 d (u ∷ []) e t q (omega arith)
-      go (y ∷ x ∷ us) q = by (act-two p kept outcomes s f fs sound deep small k y x us e t q) refl (g y x us q)
+      go (y ∷ x ∷ us) q = by (act-two outcomes s busy k y x us e t q) refl (g y x us q)
 
   -- on one qubit
 
@@ -157,7 +156,7 @@ module _ (p : List ℕ) (kept : Kept p) (outcomes : List ℕ) (s : State) (f : F
       ≡ cond (isEmpty u) (left (faultTold 20) words) (k (valOf u .number % 65536))
   read-one u us k q =
       ap (λ (v : Val). cond (eqb (v .tag) 0) (left (faultTold 20) words) (k (v .number % 65536)))
-      (read-top p kept outcomes s f fs sound deep small u us q)
+      (read-top outcomes s busy u us q)
       ∙ ap (λ (b : Bool). cond b (left (faultTold 20) words) (k (valOf u .number % 65536))) (tag-test u)
 
   on-one : (u : Value) (us : List Value) → f .pending ≡ u ∷ us
@@ -170,7 +169,7 @@ module _ (p : List ℕ) (kept : Kept p) (outcomes : List ℕ) (s : State) (f : F
   on-one (ref (qubit n)) us q h =
       ap₂ (λ (m : ℕ) (l : List ℕ). left (lineTold 3 arg m 65535) l)
       (fits-line n (pending-sound (ref (qubit n) ∷ us) q .0))
-      (drop-words p kept (s .config) f fs sound deep (ref (qubit n)) us q)
+      (drop-words (busy .stack) (ref (qubit n)) us q)
   on-one (ref (channel n)) us q h = tt
   on-one (ref (end n r)) us q h = tt
 
@@ -180,8 +179,8 @@ module _ (p : List ℕ) (kept : Kept p) (outcomes : List ℕ) (s : State) (f : F
       → dropTwo words top ≡ processWords (runs (atPlace (suc (f .place)) (withPending us f) ∷ fs))
   unfolding dropTwo popped
   dropped-two y x us q =
-      ap₂ dropTop (drop-to-words p kept (s .config) f fs sound deep y (x ∷ us) (f .place) q) head-one
-      ∙ drop-words p kept (s .config) g fs sound-one deep x us refl
+      ap₂ dropTop (drop-to-words (busy .stack) y (x ∷ us) (f .place) q) head-one
+      ∙ drop-words (stacked (busy .stack .kept) sound-one (busy .stack .deep)) x us refl
     where
       g : Frame
       g = atPlace (f .place) (withPending (x ∷ us) f)
@@ -189,24 +188,24 @@ module _ (p : List ℕ) (kept : Kept p) (outcomes : List ℕ) (s : State) (f : F
       sound-one : All (FrameSound p (s .config)) (g ∷ fs)
       sound-one = (
         record {
-          method = sound .0 .method;
-          behind = sound .0 .behind;
-          inside = sound .0 .inside;
-          width = sound .0 .width;
-          height = omega (arith, sound .0 .height, ap length q);
-          slots = sound .0 .slots;
+          method = busy .stack .sound .0 .method;
+          behind = busy .stack .sound .0 .behind;
+          inside = busy .stack .sound .0 .inside;
+          width = busy .stack .sound .0 .width;
+          height = omega (arith, busy .stack .sound .0 .height, ap length q);
+          slots = busy .stack .sound .0 .slots;
           pending = pending-sound (y ∷ x ∷ us) q .1;
         },
-        sound .1,
+        busy .stack .sound .1,
       )
 
       fewer : (length (f .pending) + 4294967295) % 4294967296 ≡ length (x ∷ us)
       fewer =
           ap (λ (n : ℕ). n % 4294967296) (omega (arith, ap length q))
           ∙ add-mod-right (length (x ∷ us)) 4294967296
-          ∙ mod-eq-of-lt (omega (arith, sound .0 .height, ap length q))
+          ∙ mod-eq-of-lt (omega (arith, busy .stack .sound .0 .height, ap length q))
 
-      head-one : popped top ≡ head p kept (s .config) g fs sound-one deep
+      head-one : popped top ≡ headIn g fs
       head-one = λ i. record {
         status = 1;
         fault = 0;
@@ -227,8 +226,8 @@ module _ (p : List ℕ) (kept : Kept p) (outcomes : List ℕ) (s : State) (f : F
       (λ (u v : Val). cond (eqb (u .tag) 0 || eqb (v .tag) 0) (left (faultTold 20) words)
       (cond (eqb (u .number % 65536) (v .number % 65536)) (left (faultTold 27) words)
       (left (lineTold 3 arg (u .number % 65536) (v .number % 65536)) (dropTwo words top))))
-      (read-second p kept outcomes s f fs sound deep small y x us q)
-      (read-top p kept outcomes s f fs sound deep small y (x ∷ us) q)
+      (read-second outcomes s busy y x us q)
+      (read-top outcomes s busy y (x ∷ us) q)
       ∙ ap₂
       (λ (b c : Bool). cond (b || c) (left (faultTold 20) words)
       (cond (eqb (valOf x .number % 65536) (valOf y .number % 65536)) (left (faultTold 27) words)
@@ -291,7 +290,7 @@ module _ (p : List ℕ) (kept : Kept p) (outcomes : List ℕ) (s : State) (f : F
   gate-tells e = ⊎-elim single double (decide (leb arg 5))
     where
       taken : takenAt p (f .place) ≡ cond (leb arg 5) 1 2
-      taken = taken-by p kept outcomes s f fs sound deep small 10 e
+      taken = taken-by outcomes s busy 10 e
 
       single : leb arg 5 ≡ true → Good does (cond (leb arg 5) (gateOne words top arg) (gateTwo words top arg))
       single t =
@@ -338,7 +337,7 @@ module _ (p : List ℕ) (kept : Kept p) (outcomes : List ℕ) (s : State) (f : F
           by (ap onward (drop-some outcomes (s .used) (ltb-true (s .used) (length outcomes) t))) (ap answer t)
           (λ h. ap₂ (λ (m : ℕ) (l : List ℕ). left (measuredTold m (getD outcomes (s .used) 0)) l)
           (fits-line n (pending-sound (ref (qubit n) ∷ us) q .0))
-          (top-words p kept (s .config) f fs sound deep (ref (qubit n)) (int (pos (getD outcomes (s .used) 0))) us q))
+          (top-words (busy .stack) (ref (qubit n)) (int (pos (getD outcomes (s .used) 0))) us q))
 
       none : ltb (s .used) (length outcomes) ≡ false → Good (onward (drop (s .used) outcomes)) (answer (ltb (s .used) (length outcomes)))
       none t =
@@ -361,7 +360,7 @@ module _ (p : List ℕ) (kept : Kept p) (outcomes : List ℕ) (s : State) (f : F
   pub meas-tells : opAt p (f .place) ≡ 11 → Good does (measOp words top outcomes (s .used))
   unfolding measOp doingOf doings opOf ops opMeas
   meas-tells e =
-      one-op 11 (measOp words top outcomes (s .used)) e (taken-by p kept outcomes s f fs sound deep small 11 e)
+      one-op 11 (measOp words top outcomes (s .used)) e (taken-by outcomes s busy 11 e)
       (λ u us q.
       as-left (cond (isEmpty u || false) (faults 20) (doMeas (stage 1 (u ∷ us))))
       (read-one u us

@@ -7,14 +7,12 @@ use mathlib.Core.List.{List, [], _∷_}
 use native.Mathlib.Omega.{arith}
 use lib.ListN.{getD, length}
 use lib.Dec.{eqb, ltb, leb}
-use Rattle.lists.specs.Lists.{All}
 use Rattle.lists.proofs.Tests.{cond-both}
 use Rattle.table.specs.Table.{opAt, argAt}
-use Rattle.table.proofs.Accepted.{Kept}
 use Rattle.machine.specs.State.{Frame, State, finished, stopped, finishes}
 use Rattle.machine.specs.Act.{Act, idle, stuck, faults, goes, ends, makes, forks, offers, atFrame}
 use Rattle.machine.specs.Entry.{runs, making}
-use Rattle.machine.specs.Sound.{FrameSound}
+use Rattle.machine.proofs.Reached.{AtWork}
 use Rattle.layout.specs.Layout.{processWords}
 use Rattle.layout.proofs.RoundTrip.{process-length}
 use Rattle.store.specs.declared.head.Head.{Head}
@@ -59,28 +57,27 @@ meas-apart w h os u =
     cond-both Apart (eqb (valueAt w (topAt h 1) .tag) 0) (λ z. absurd (omega arith))
     (cond-both Apart (ltb u (length os)) (λ z. (λ e. omega arith, λ e. omega arith)) (λ z. absurd (omega arith)))
 
-module _ (p : List ℕ) (kept : Kept p) (outcomes : List ℕ) (s : State) (f : Frame) (fs : List Frame)
-    (sound : All (FrameSound p (s .config)) (f ∷ fs)) (deep : length fs < 8) (small : argAt p (f .place) < 65536)
+module _ {p : List ℕ} (outcomes : List ℕ) (s : State) {f : Frame} {fs : List Frame} (busy : AtWork p (s .config) f fs)
     (few : s .config .qubits ≤ 32) where
   abbrev words : List ℕ
-  words = w p kept outcomes s f fs sound deep small
+  words = w outcomes s busy
 
   abbrev top : Head
-  top = hd p kept outcomes s f fs sound deep small
+  top = hd outcomes s busy
 
   abbrev does : Act
-  does = act p kept outcomes s f fs sound deep small
+  does = act outcomes s busy
 
   pub concluded-fault : (n : ℕ) → 0 < n → n < 100 → (q c : ℕ) (os : List ℕ) (u : ℕ)
       → concludeOp p words n q c os u ≡ left (faultTold n) (processWords (record { status = stopped n; frames = f ∷ fs }))
   unfolding concludeOp settled
   concluded-fault n a b q c os u =
       ap settled (sym (tells-fault p words n q c os u (λ e. omega arith) (λ e. omega arith) (λ e. omega arith) (λ e. omega arith) (λ e. omega arith) refl))
-      ∙ ap (left (faultTold n)) (settles-stopped words (faultTold n) (λ e. omega arith) ∙ stopped-words p kept (s .config) f fs sound deep n)
+      ∙ ap (left (faultTold n)) (settles-stopped words (faultTold n) (λ e. omega arith) ∙ stopped-words (busy .stack) n)
 
   words-long : length words ≡ 512
   words-long =
-      process-length p (s .config) (runs (f ∷ fs)) (record { status = omega arith; depth = omega (arith, deep); frames = sound })
+      process-length p (s .config) (runs (f ∷ fs)) (record { status = omega arith; depth = omega (arith, busy .stack .deep); frames = busy .stack .sound })
 
   pub concluded-ends : (q c : ℕ) (os : List ℕ) (u : ℕ)
       → concludeOp p words 113 q c os u ≡ left (lineTold 9 65535 65535 65535) (processWords (record { status = finished; frames = [] }))
@@ -110,7 +107,7 @@ module _ (p : List ℕ) (kept : Kept p) (outcomes : List ℕ) (s : State) (f : F
   settles (faults n) d h q =
       ap settled q
       ∙ ap (left (faultTold n))
-      (settles-stopped words (faultTold n) (λ e. subst Apart q h e .1 refl) ∙ stopped-words p kept (s .config) f fs sound deep n)
+      (settles-stopped words (faultTold n) (λ e. subst Apart q h e .1 refl) ∙ stopped-words (busy .stack) n)
   settles (goes gs [] u) d h q = absurd q
   settles (goes gs (e ∷ []) u) d h q =
       ap settled q ∙ ap (left (toldOf u e)) (settles-as-left (processWords (runs gs)) (toldOf u e) refl (subst Apart q h refl .0))
@@ -124,7 +121,7 @@ module _ (p : List ℕ) (kept : Kept p) (outcomes : List ℕ) (s : State) (f : F
   -- the op's answer over the head that is read is the one over the frame at work
   by-head : (answer : Head → Left) → Apart (answer top) → Tells does words (answer top) → Concluded does (settled (answer (headOf words)))
   by-head answer a t =
-      subst (λ (h : Head). Concluded does (settled (answer h))) (sym (head-is p kept (s .config) f fs sound deep)) (settles does (answer top) a t)
+      subst (λ (h : Head). Concluded does (settled (answer h))) (sym (head-is (busy .stack))) (settles does (answer top) a t)
 
   pub concluded-op : (k : ℕ) → opAt p (f .place) ≡ k → isTelling k ≡ true → Height (atFrame p outcomes s f fs)
       → Concluded (atFrame p outcomes s f fs)
@@ -139,15 +136,15 @@ module _ (p : List ℕ) (kept : Kept p) (outcomes : List ℕ) (s : State) (f : F
   concluded-op (suc (suc (suc (suc (suc (suc zero)))))) e t h = absurd (true≢false (sym t))
   concluded-op (suc (suc (suc (suc (suc (suc (suc zero))))))) e t h =
       by-head (λ g. newqOp words g (s .config .qubits)) (newq-apart words top (s .config .qubits))
-      (newq-tells p kept outcomes s f fs sound deep small few e h)
+      (newq-tells outcomes s busy few e h)
   concluded-op (suc (suc (suc (suc (suc (suc (suc (suc zero)))))))) e t h =
       by-head (λ g. newcOp words g (s .config .channels)) (newc-apart words top (s .config .channels))
-      (newc-tells p kept outcomes s f fs sound deep small few e h)
+      (newc-tells outcomes s busy few e h)
   concluded-op (suc (suc (suc (suc (suc (suc (suc (suc (suc zero))))))))) e t h = absurd (true≢false (sym t))
   concluded-op (suc (suc (suc (suc (suc (suc (suc (suc (suc (suc zero)))))))))) e t h =
       by-head (λ g. gateOp words g (argAt p (g .place))) (gate-apart words top (argAt p (f .place)))
-      (gate-tells p kept outcomes s f fs sound deep small few e h)
+      (gate-tells outcomes s busy few e h)
   concluded-op (suc (suc (suc (suc (suc (suc (suc (suc (suc (suc (suc zero))))))))))) e t h =
       by-head (λ g. measOp words g outcomes (s .used)) (meas-apart words top outcomes (s .used))
-      (meas-tells p kept outcomes s f fs sound deep small few e h)
+      (meas-tells outcomes s busy few e h)
   concluded-op (suc (suc (suc (suc (suc (suc (suc (suc (suc (suc (suc (suc k)))))))))))) e t h = absurd (true≢false (sym t))

@@ -1,13 +1,11 @@
 -- The words of a process that is over are those of a stopped or of a finished process.
-use Prim.Native.Nat.{ℕ, _<_}
+use Prim.Native.Nat.{ℕ}
 use mathlib.Core.Path.{_≡_, ap}
 use mathlib.Core.List.{List, [], _∷_, flatten}
 use lib.ListN.{set, length}
-use Rattle.lists.specs.Lists.{All}
-use Rattle.table.proofs.Accepted.{Kept}
 use Rattle.machine.specs.State.{Frame, Config, finished, stopped}
 use Rattle.machine.specs.Entry.{runs}
-use Rattle.machine.specs.Sound.{FrameSound}
+use Rattle.machine.proofs.Reached.{Stack}
 use Rattle.layout.specs.Layout.{padded, statusWords, processWords}
 use Rattle.store.specs.declared.head.Head.{Head}
 use Rattle.store.specs.Words.{finishedHead, stoppedHead, putStatus}
@@ -15,12 +13,11 @@ use Rattle.store.proofs.Cleared.{all-cleared}
 use Rattle.ops.proofs.Places.{head-is}
 use Rattle.events.specs.Ended.{stoppedWords, finishedWords}
 
-pub stopped-words : (p : List ℕ) (kept : Kept p) (c : Config) (f : Frame) (fs : List Frame) (sound : All (FrameSound p c) (f ∷ fs))
-    (deep : length fs < 8) (n : ℕ)
+pub stopped-words : {p : List ℕ} {c : Config} {f : Frame} {fs : List Frame} → Stack p c f fs → (n : ℕ)
     → stoppedWords (processWords (runs (f ∷ fs))) n ≡ processWords (record { status = stopped n; frames = f ∷ fs })
 unfolding stoppedWords putStatus stoppedHead processWords statusWords padded
-stopped-words p kept c f fs sound deep n =
-    ap (λ (h : Head). putStatus (processWords (runs (f ∷ fs))) (stoppedHead h n)) (head-is p kept c f fs sound deep)
+stopped-words {f = f} {fs = fs} stack n =
+    ap (λ (h : Head). putStatus (processWords (runs (f ∷ fs))) (stoppedHead h n)) (head-is stack)
 
 pub finished-words : (w : List ℕ) → length w ≡ 512 → finishedWords w ≡ processWords (record { status = finished; frames = [] })
 unfolding finishedWords putStatus finishedHead processWords statusWords padded flatten

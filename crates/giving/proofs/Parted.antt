@@ -9,13 +9,14 @@ use lib.ListN.{getD, set, take, drop, length, replicate, length-append, length-r
 use lib.Seq.{take-at, drop-cons, append-snoc, set-append-seam, getD-take}
 use Rattle.lists.specs.Lists.{any, All}
 use Rattle.lists.proofs.Any.{All-drop, All-implies}
-use Rattle.table.specs.Table.{argAt, offsetOf}
+use Rattle.table.specs.Table.{offsetOf}
 use Rattle.table.proofs.Accepted.{Kept}
 use Rattle.machine.specs.Value.{Thing, qubit, channel, end, Value, empty, int, bool, ref}
 use Rattle.machine.specs.State.{Frame, State, Config, atPlace, withPending, started}
 use Rattle.machine.specs.Act.{passedBy}
 use Rattle.machine.specs.Entry.{lostWith, without, frameWithout, framesWithout, thingsOf, runs}
 use Rattle.machine.specs.Sound.{FrameSound}
+use Rattle.machine.proofs.Reached.{Stack, stacked, AtWork}
 use Rattle.layout.specs.Layout.{padded, valueWords, headWords, frameValues, statusWords, processWords}
 use Rattle.layout.proofs.Frames.{tagOf}
 use Rattle.store.specs.declared.head.Head.{Head}
@@ -23,7 +24,7 @@ use Rattle.store.specs.Words.{valueAt, putValue, headAt, headOf, putTop, slotAt
 use Rattle.store.proofs.Vals.{valOf}
 use Rattle.store.proofs.Given.{Sized, given-words}
 use Rattle.ops.specs.Did.{onTop, dropTo}
-use Rattle.ops.proofs.Places.{head, head-is, place-small, slot-read, slot-put, drop-to-words, top-words, move-words}
+use Rattle.ops.proofs.Places.{headIn, head-is, place-small, slot-read, slot-put, drop-to-words, top-words, move-words}
 use Rattle.events.specs.Told.{dropTwo}
 use Rattle.events.proofs.Answers.{dropped-two}
 use Rattle.giving.specs.Given.{thingGiven, givenWords, sentWords, takenWords, startedWords, beganWords, droppedOnce, retiredBy, stayed, retiredWords}
@@ -105,19 +106,19 @@ things-more (ref t ∷ vs) v = ap {B = List Thing} (λ l. t ∷ l) (things-more 
 sized : (p : List ℕ) (c : Config) (f : Frame) → FrameSound p c f → Sized f
 sized p c f h = record { width = h .width; height = h .height }
 
-module _ (p : List ℕ) (kept : Kept p) (c : Config) (f : Frame) (fs : List Frame) (sound : All (FrameSound p c) (f ∷ fs)) (deep : length fs < 8) where
+module _ {p : List ℕ} {c : Config} {f : Frame} {fs : List Frame} (stack : Stack p c f fs) where
   abbrev words : List ℕ
   words = processWords (runs (f ∷ fs))
 
   -- a value given away, if it is a thing
 
   frames-word : (24 * headOf words .frames) % 65536 ≡ 24 * length (f ∷ fs)
-  frames-word = ap (λ (h : Head). (24 * h .frames) % 65536) (head-is p kept c f fs sound deep) ∙ mod-eq-of-lt (omega arith)
+  frames-word = ap (λ (h : Head). (24 * h .frames) % 65536) (head-is stack) ∙ mod-eq-of-lt (omega arith)
 
   thing-given : (t : Thing) → emptiedBy words (valOf (ref t)) ((24 * headOf words .frames) % 65536) ≡ processWords (runs (framesWithout (t ∷ []) (f ∷ fs)))
   thing-given t =
       ap (emptiedBy words (valOf (ref t))) frames-word
-      ∙ given-words t (f ∷ fs) (All-implies (FrameSound p c) Sized (sized p c) (f ∷ fs) sound) (omega arith)
+      ∙ given-words t (f ∷ fs) (All-implies (FrameSound p c) Sized (sized p c) (f ∷ fs) (stack .sound)) (omega arith)
 
   pub value-given : (v : Value) → givenWords words (valOf v) ≡ processWords (runs (framesWithout (thingsOf (v ∷ [])) (f ∷ fs)))
   unfolding givenWords thingGiven valOf tagOf valueWords thingsOf
@@ -134,35 +135,35 @@ module _ (p : List ℕ) (kept : Kept p) (c : Config) (f : Frame) (fs : List Fram
       → takenWords words (valOf v) ≡ processWords (runs (atPlace (suc (f .place)) (withPending (v ∷ us) f) ∷ fs))
   unfolding takenWords
   value-taken u v us q =
-      ap (λ (h : Head). onTop words h (valOf v)) (head-is p kept c f fs sound deep)
-      ∙ top-words p kept c f fs sound deep u v us q
+      ap (λ (h : Head). onTop words h (valOf v)) (head-is stack)
+      ∙ top-words stack u v us q
 
   -- FORK: operands off one by one
 
   sound-fewer : (j : ℕ) → FrameSound p c (withPending (drop j (f .pending)) f)
   sound-fewer j = record {
-    method = sound .0 .method;
-    behind = sound .0 .behind;
-    inside = sound .0 .inside;
-    width = sound .0 .width;
-    height = omega (arith, sound .0 .height, length-drop j (f .pending));
-    slots = sound .0 .slots;
-    pending = All-drop _ j (f .pending) (sound .0 .pending);
+    method = stack .sound .0 .method;
+    behind = stack .sound .0 .behind;
+    inside = stack .sound .0 .inside;
+    width = stack .sound .0 .width;
+    height = omega (arith, stack .sound .0 .height, length-drop j (f .pending));
+    slots = stack .sound .0 .slots;
+    pending = All-drop _ j (f .pending) (stack .sound .0 .pending);
   }
 
 -- a frame with other pending values is the frame
-module _ (p : List ℕ) (kept : Kept p) (c : Config) (f : Frame) (fs : List Frame) (sound : All (FrameSound p c) (f ∷ fs)) (deep : length fs < 8) where
+module _ {p : List ℕ} {c : Config} {f : Frame} {fs : List Frame} (stack : Stack p c f fs) where
   abbrev left : ℕ → Frame
   left j = withPending (drop j (f .pending)) f
 
-  all-left : (j : ℕ) → All (FrameSound p c) (left j ∷ fs)
-  all-left j = (sound-fewer p kept c f fs sound deep j, sound .1)
+  stack-left : (j : ℕ) → Stack p c (left j) fs
+  stack-left j = record { kept = stack .kept; sound = (sound-fewer stack j, stack .sound .1); deep = stack .deep }
 
   once : (j : ℕ) → j < length (f .pending) → droppedOnce (processWords (runs (left j ∷ fs))) ≡ processWords (runs (left (suc j) ∷ fs))
   unfolding droppedOnce
   once j h =
-      ap (λ (h : Head). dropTo (processWords (runs (left j ∷ fs))) h (h .place)) (head-is p kept c (left j) fs (all-left j) deep)
-      ∙ drop-to-words p kept c (left j) fs (all-left j) deep (getD (f .pending) j empty) (drop (suc j) (f .pending)) (f .place)
+      ap (λ (h : Head). dropTo (processWords (runs (left j ∷ fs))) h (h .place)) (head-is (stack-left j))
+      ∙ drop-to-words (stack-left j) (getD (f .pending) j empty) (drop (suc j) (f .pending)) (f .place)
       (drop-cons (f .pending) j empty h)
 
   retired-by : (j : ℕ) → j ≤ length (f .pending) → retiredBy (processWords (runs (f ∷ fs))) j ≡ processWords (runs (left j ∷ fs))
@@ -173,27 +174,26 @@ module _ (p : List ℕ) (kept : Kept p) (c : Config) (f : Frame) (fs : List Fram
   stayed-words : (j : ℕ) → stayed (processWords (runs (left j ∷ fs))) ≡ processWords (runs (passedBy j f ∷ fs))
   unfolding stayed passedBy stepped movedTo putTop
   stayed-words j =
-      ap (λ (h : Head). putTop (processWords (runs (left j ∷ fs))) (stepped h)) (head-is p kept c (left j) fs (all-left j) deep)
-      ∙ ap (λ (k : ℕ). putTop (processWords (runs (left j ∷ fs))) (movedTo (head p kept c (left j) fs (all-left j) deep) k))
-      (mod-eq-of-lt (omega (arith, place-small p kept c f fs sound deep)) ∙ omega arith)
-      ∙ move-words p kept c (left j) fs (all-left j) deep (suc (f .place))
+      ap (λ (h : Head). putTop (processWords (runs (left j ∷ fs))) (stepped h)) (head-is (stack-left j))
+      ∙ ap (λ (k : ℕ). putTop (processWords (runs (left j ∷ fs))) (movedTo (headIn (left j) fs) k))
+      (mod-eq-of-lt (omega (arith, place-small stack)) ∙ omega arith)
+      ∙ move-words (stack-left j) (suc (f .place))
 
   pub operands-off : (n : ℕ) → n ≤ length (f .pending) → retiredWords (processWords (runs (f ∷ fs))) n ≡ processWords (runs (passedBy n f ∷ fs))
   unfolding retiredWords
   operands-off n h = ap stayed (retired-by n h) ∙ stayed-words n
 
 -- SEND: both operands off, and the value given away
-pub value-sent : (p : List ℕ) (kept : Kept p) (outcomes : List ℕ) (s : State) (f : Frame) (fs : List Frame)
-    (sound : All (FrameSound p (s .config)) (f ∷ fs)) (deep : length fs < 8) (small : argAt p (f .place) < 65536) (few : s .config .qubits ≤ 32)
-    (v x : Value) (us : List Value) → f .pending ≡ v ∷ x ∷ us
+pub value-sent : {p : List ℕ} (outcomes : List ℕ) (s : State) {f : Frame} {fs : List Frame} (busy : AtWork p (s .config) f fs)
+    → s .config .qubits ≤ 32 → (v x : Value) (us : List Value) → f .pending ≡ v ∷ x ∷ us
     → (after : All (FrameSound p (s .config)) (atPlace (suc (f .place)) (withPending us f) ∷ fs))
     → sentWords (processWords (runs (f ∷ fs))) (valOf v)
     ≡ processWords (runs (framesWithout (thingsOf (v ∷ [])) (atPlace (suc (f .place)) (withPending us f) ∷ fs)))
 unfolding sentWords
-value-sent p kept outcomes s f fs sound deep small few v x us q after =
-    ap (λ (h : Head). givenWords (dropTwo (processWords (runs (f ∷ fs))) h) (valOf v)) (head-is p kept (s .config) f fs sound deep)
-    ∙ ap (λ (l : List ℕ). givenWords l (valOf v)) (dropped-two p kept outcomes s f fs sound deep small few v x us q)
-    ∙ value-given p kept (s .config) (atPlace (suc (f .place)) (withPending us f)) fs after deep v
+value-sent outcomes s {f} {fs} busy few v x us q after =
+    ap (λ (h : Head). givenWords (dropTwo (processWords (runs (f ∷ fs))) h) (valOf v)) (head-is (busy .stack))
+    ∙ ap (λ (l : List ℕ). givenWords l (valOf v)) (dropped-two outcomes s busy few v x us q)
+    ∙ value-given (stacked (busy .stack .kept) after (busy .stack .deep)) v
 
 -- FORK's child
 
@@ -236,12 +236,12 @@ module _ (p : List ℕ) (kept : Kept p) (c : Config) (m : ℕ) (xs : List Value)
       → putValue (processWords (runs (started p m xs ∷ []))) (64 + 2 * length xs) (valOf v) ≡ processWords (runs (started p m (xs ++ (v ∷ [])) ∷ []))
   unfolding started slotAt
   slot-filled v h =
-      slot-put p kept c (started p m xs) [] sound (omega arith) (length xs) v h
+      slot-put (stacked kept sound (omega arith)) (length xs) v h
       ∙ ap (λ (l : List Value). processWords (runs (record { method = m; place = offsetOf p m; slots = l; pending = [] } ∷ []))) (slots-with xs v h)
 
   pub slot-found : (j : ℕ) → j < length xs → length xs ≤ 16
       → valueAt (processWords (runs (started p m xs ∷ []))) (64 + 2 * j) ≡ valOf (getD xs j empty)
   unfolding started slotAt
   slot-found j h l =
-      slot-read p kept c (started p m xs) [] sound (omega arith) j (omega arith)
+      slot-read (stacked kept sound (omega arith)) j (omega arith)
       ∙ ap valOf (getD-take 16 (xs ++ replicate 16 empty) j empty (omega arith) ∙ List·getD-append xs (replicate 16 empty) empty j h)

@@ -8,14 +8,13 @@ use native.Mathlib.Omega.{arith}
 use lib.ListN.{getD, take, length, length-append, length-map, length-reverse}
 use lib.Seq.{take-suc, length-take-le}
 use lib.Dec.{leb}
-use Rattle.lists.specs.Lists.{All}
 use Rattle.lists.proofs.Any.{All-getD, All-take, All-reverse}
 use Rattle.machine.specs.Value.{Thing, qubit, channel, end, Value, empty, int, bool, ref, thingKind, thingNo}
-use Rattle.machine.specs.State.{Frame, Config, Line, processAt, lineOf, gave}
-use Rattle.machine.specs.Entry.{thingsOf, runs}
-use Rattle.machine.specs.Sound.{Made, ValueSound, FrameSound}
+use Rattle.machine.specs.State.{Frame, Config, Line, lineOf, gave}
+use Rattle.machine.specs.Entry.{thingsOf}
+use Rattle.machine.specs.Sound.{Made, ValueSound}
 use Rattle.machine.specs.Answer.{traceAfter}
-use Rattle.table.proofs.Accepted.{Kept}
+use Rattle.machine.proofs.Reached.{Running}
 use Rattle.layout.specs.Layout.{valueWords, encode}
 use Rattle.layout.proofs.Frames.{tagOf, numberOf}
 use Rattle.store.specs.declared.values.Val.{Val}
@@ -90,10 +89,8 @@ gifts-count : (k n to : ℕ) (vs : List Value) → length (giftLines k n to vs) 
 gifts-count k n to vs = length-map (map (gave to) (thingsOf vs)) (lineOf k n) ∙ length-map (thingsOf vs) (gave to)
 
 -- the arguments of the process at work
-module _ (p : List ℕ) (kept : Kept p) (c : Config) (laid : Laid c) (rest : List ℕ) (n : ℕ) (made : n < length (c .processes))
-    (fewQ : c .qubits ≤ 32) (fewC : c .channels ≤ 16)
-    (f : Frame) (fs : List Frame) (sound : All (FrameSound p c) (f ∷ fs)) (deep : length fs < 8) (stands : processAt c n ≡ runs (f ∷ fs))
-    (args : ℕ) (enough : args ≤ length (f .pending)) where
+module _ {p : List ℕ} {c : Config} (laid : Laid c) (rest : List ℕ) {n : ℕ} {f : Frame} {fs : List Frame} (live : Running p c n f fs)
+    (fewQ : c .qubits ≤ 32) (fewC : c .channels ≤ 16) (args : ℕ) (enough : args ≤ length (f .pending)) where
   abbrev given : List Value
   given = reverse (take args (f .pending))
 
@@ -103,10 +100,10 @@ module _ (p : List ℕ) (kept : Kept p) (c : Config) (laid : Laid c) (rest : Lis
   given-sound : (j : ℕ) → ValueSound c (getD given j empty)
   given-sound j =
       All-getD (ValueSound c) given j empty
-      (All-reverse (ValueSound c) (take args (f .pending)) (All-take (ValueSound c) args (f .pending) (sound .0 .pending))) tt
+      (All-reverse (ValueSound c) (take args (f .pending)) (All-take (ValueSound c) args (f .pending) (live .busy .stack .sound .0 .pending))) tt
 
   read : (j : ℕ) → j < args → operandOf (encode c ++ rest) n (args - j) ≡ valOf (getD given j empty)
-  read j h = operand-at p kept c f fs sound deep c laid rest n made stands args j h enough
+  read j h = operand-at (live .busy .stack) c laid rest n (live .made) (live .stands) args j h enough
 
   things-next : (j : ℕ) → j < args → thingsOf (take (suc j) given) ≡ thingsOf (take j given) ++ thingsOf (getD given j empty ∷ [])
   things-next j h = ap thingsOf (take-suc given j empty (omega (arith, given-count))) ∙ things-more (take j given) (getD given j empty)

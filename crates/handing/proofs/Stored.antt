@@ -9,14 +9,14 @@ use lib.Seq.{take-all, take-suc, length-take-le, getD-take, set-append-seam, set
 use Rattle.lists.specs.Lists.{any, All}
 use Rattle.lists.proofs.Tests.{cond-both}
 use Rattle.lists.proofs.Any.{All-append, All-take, All-replicate, All-reverse, All-map, All-implies}
-use Rattle.table.specs.Table.{argAt, methods}
-use Rattle.table.proofs.Accepted.{Kept}
+use Rattle.table.specs.Table.{methods}
 use Rattle.table.proofs.Methods.{inside-offset}
 use Rattle.machine.specs.Value.{Thing, Value, empty}
 use Rattle.machine.specs.State.{Frame, Process, Config, State, processAt, setProcess, started, atPlace, withPending}
 use Rattle.machine.specs.Act.{passedBy}
 use Rattle.machine.specs.Entry.{lostWith, without, frameWithout, framesWithout, thingsOf, runs, joined}
 use Rattle.machine.specs.Sound.{ValueSound, FrameSound}
+use Rattle.machine.proofs.Reached.{Stack, stacked, Running}
 use Rattle.machine.proofs.Giving.{process-same, process-other, count-set, joined-old, joined-new}
 use Rattle.layout.specs.Layout.{processWords, encode}
 use Rattle.layout.proofs.RoundTrip.{process-length}
@@ -25,7 +25,7 @@ use Rattle.store.specs.declared.values.Val.{Val}
 use Rattle.store.specs.declared.head.Head.{Head}
 use Rattle.store.specs.Words.{valueAt, putValue, headOf, topAt}
 use Rattle.store.proofs.Vals.{valOf}
-use Rattle.ops.proofs.Places.{head, head-is, top-read}
+use Rattle.ops.proofs.Places.{headIn, head-is, top-read}
 use Rattle.parts.specs.Parts.{partAt, partOf, withPart}
 use Rattle.parts.proofs.Encoded.{Laid, laid-set, laid-joined, part-is, part-put, part-unmade, part-joined}
 use Rattle.giving.specs.Given.{givenWords, sentWords, takenWords, beganWords, retiredWords}
@@ -48,16 +48,15 @@ part-changed c laid rest n g pr pr′ l e q long =
     ∙ part-put c laid rest n pr′ l long
 
 -- the operand of a process that is its argument number j, where it has so many arguments
-pub operand-at : (p : List ℕ) (kept : Kept p) (c : Config) (f : Frame) (fs : List Frame) (sound : All (FrameSound p c) (f ∷ fs)) (deep : length fs < 8)
-    (d : Config) (laid : Laid d) (rest : List ℕ) (n : ℕ) → n < length (d .processes) → processAt d n ≡ runs (f ∷ fs)
+pub operand-at : {p : List ℕ} {c : Config} {f : Frame} {fs : List Frame} → Stack p c f fs → (d : Config) (laid : Laid d) (rest : List ℕ) (n : ℕ) → n < length (d .processes) → processAt d n ≡ runs (f ∷ fs)
     → (args j : ℕ) → j < args → args ≤ length (f .pending)
     → operandOf (encode d ++ rest) n (args - j) ≡ valOf (getD (reverse (take args (f .pending))) j empty)
 unfolding operandOf
-operand-at p kept c f fs sound deep d laid rest n l e args j h enough =
+operand-at {f = f} {fs = fs} stack d laid rest n l e args j h enough =
     ap (λ (w : List ℕ). valueAt w (topAt (headOf w) (args - j))) (part-is d laid rest n l ∙ ap processWords e)
-    ∙ ap (λ (h : Head). valueAt (processWords (runs (f ∷ fs))) (topAt h (args - j))) (head-is p kept c f fs sound deep)
-    ∙ ap (λ (d : ℕ). valueAt (processWords (runs (f ∷ fs))) (topAt (head p kept c f fs sound deep) d)) {x = args - j} {y = suc (args - suc j)} (omega (arith, h))
-    ∙ top-read p kept c f fs sound deep (args - suc j) (omega (arith, h, enough))
+    ∙ ap (λ (h : Head). valueAt (processWords (runs (f ∷ fs))) (topAt h (args - j))) (head-is stack)
+    ∙ ap (λ (d : ℕ). valueAt (processWords (runs (f ∷ fs))) (topAt (headIn f fs) d)) {x = args - j} {y = suc (args - suc j)} (omega (arith, h))
+    ∙ top-read stack (args - suc j) (omega (arith, h, enough))
     ∙ ap valOf (sym same)
   where
     same : getD (reverse (take args (f .pending))) j empty ≡ getD (f .pending) (args - suc j) empty
@@ -69,12 +68,8 @@ operand-at p kept c f fs sound deep d laid rest n l e args j h enough =
 
 -- meetings
 
-module _ (p : List ℕ) (kept : Kept p) (outcomes : List ℕ) (s : State) (laid : Laid (s .config)) (rest : List ℕ) (few : s .config .qubits ≤ 32) where
-  pub met-store : (n r : ℕ) (f : Frame) (fs : List Frame) (sound : All (FrameSound p (s .config)) (f ∷ fs)) (deep : length fs < 8)
-      (small : argAt p (f .place) < 65536)
-      (g : Frame) (gs : List Frame) (sound′ : All (FrameSound p (s .config)) (g ∷ gs)) (deep′ : length gs < 8)
-      → n < length (s .config .processes) → r < length (s .config .processes) → n ≢ r
-      → processAt (s .config) n ≡ runs (f ∷ fs) → processAt (s .config) r ≡ runs (g ∷ gs)
+module _ {p : List ℕ} (outcomes : List ℕ) (s : State) (laid : Laid (s .config)) (rest : List ℕ) (few : s .config .qubits ≤ 32) where
+  pub met-store : {n r : ℕ} {f : Frame} {fs : List Frame} (giver : Running p (s .config) n f fs) {g : Frame} {gs : List Frame} (taker : Running p (s .config) r g gs) → n ≢ r
       → (v x u : Value) (us ws : List Value) → f .pending ≡ v ∷ x ∷ us → g .pending ≡ u ∷ ws
       → (after : All (FrameSound p (s .config)) (atPlace (suc (f .place)) (withPending us f) ∷ fs))
       → length (processWords (runs (framesWithout (thingsOf (v ∷ [])) (atPlace (suc (f .place)) (withPending us f) ∷ fs)))) ≡ 512
@@ -83,14 +78,14 @@ module _ (p : List ℕ) (kept : Kept p) (outcomes : List ℕ) (s : State) (laid 
       ≡ encode (setProcess (setProcess (s .config) n (runs (framesWithout (thingsOf (v ∷ [])) (atPlace (suc (f .place)) (withPending us f) ∷ fs)))) r
       (runs (atPlace (suc (g .place)) (withPending (v ∷ ws) g) ∷ gs))) ++ rest
   unfolding metWords
-  met-store n r f fs sound deep small g gs sound′ deep′ ln lr ne en er v x u us ws q q′ after long long′ =
+  met-store {n} {r} {f} {fs} giver {g} {gs} taker ne v x u us ws q q′ after long long′ =
       ap (λ (w : List ℕ). withPart w r (takenWords (partOf w r) (valOf v)))
-      (part-changed (s .config) laid rest n (λ w. sentWords w (valOf v)) (runs (f ∷ fs)) sender ln en
-      (value-sent p kept outcomes s f fs sound deep small few v x us q after) long)
+      (part-changed (s .config) laid rest n (λ w. sentWords w (valOf v)) (runs (f ∷ fs)) sender (giver .made) (giver .stands)
+      (value-sent outcomes s (giver .busy) few v x us q after) long)
       ∙ part-changed (setProcess (s .config) n sender) (laid-set (s .config) n sender laid long) rest r (λ w. takenWords w (valOf v)) (runs (g ∷ gs)) receiver
-      (subst (λ (k : ℕ). r < k) (sym (count-same n sender)) lr)
-      (process-other (s .config) n r sender (λ i. ne (sym i)) ∙ er)
-      (value-taken p kept (s .config) g gs sound′ deep′ u v ws q′) long′
+      (subst (λ (k : ℕ). r < k) (sym (count-same n sender)) (taker .made))
+      (process-other (s .config) n r sender (λ i. ne (sym i)) ∙ taker .stands)
+      (value-taken (taker .busy .stack) u v ws q′) long′
     where
       sender : Process
       sender = runs (framesWithout (thingsOf (v ∷ [])) (atPlace (suc (f .place)) (withPending us f) ∷ fs))
@@ -145,8 +140,7 @@ set-twice : (c : Config) (n : ℕ) (pr pr′ : Process) → setProcess (setProce
 unfolding setProcess
 set-twice c n pr pr′ = ap {B = Config} (λ l. record { processes = l; qubits = c .qubits; channels = c .channels }) (set-set (c .processes) n pr pr′)
 
-module _ (p : List ℕ) (kept : Kept p) (c : Config) (laid : Laid c) (rest : List ℕ) (n : ℕ) (made : n < length (c .processes)) (free : length (c .processes) < 8)
-    (f : Frame) (fs : List Frame) (sound : All (FrameSound p c) (f ∷ fs)) (deep : length fs < 8) (stands : processAt c n ≡ runs (f ∷ fs))
+module _ {p : List ℕ} {c : Config} (laid : Laid c) (rest : List ℕ) {n : ℕ} {f : Frame} {fs : List Frame} (live : Running p c n f fs) (free : length (c .processes) < 8)
     (m : ℕ) (method : m < methods p) (args : ℕ) (enough : args ≤ length (f .pending)) (few : args ≤ 8)
     (after : All (FrameSound p c) (passedBy args f ∷ fs)) where
   abbrev child : ℕ
@@ -160,7 +154,7 @@ module _ (p : List ℕ) (kept : Kept p) (c : Config) (laid : Laid c) (rest : Lis
   given-count = length-reverse (take args (f .pending)) ∙ length-take-le args (f .pending) enough
 
   given-sound : All (ValueSound c) given
-  given-sound = All-reverse (ValueSound c) (take args (f .pending)) (All-take (ValueSound c) args (f .pending) (sound .0 .pending))
+  given-sound = All-reverse (ValueSound c) (take args (f .pending)) (All-take (ValueSound c) args (f .pending) (live .busy .stack .sound .0 .pending))
 
   begun-process : ℕ → Process
   begun-process j = runs (started p m (take j given) ∷ [])
@@ -171,7 +165,7 @@ module _ (p : List ℕ) (kept : Kept p) (c : Config) (laid : Laid c) (rest : Lis
     record {
       method = method;
       behind = omega arith;
-      inside = inside-offset p kept m method .ahead;
+      inside = inside-offset p (live .busy .stack .kept) m method .ahead;
       width = length-take-le 16 (take j given ++ replicate 16 empty) (omega (arith, length-append (take j given) (replicate 16 empty)));
       height = omega arith;
       slots =
@@ -198,7 +192,7 @@ module _ (p : List ℕ) (kept : Kept p) (c : Config) (laid : Laid c) (rest : Lis
   child-counted j = omega (arith, length-append (c .processes) (begun-process j ∷ []))
 
   parent-counted : (j : ℕ) → n < length (with-child j .processes)
-  parent-counted j = omega (arith, made, child-counted j)
+  parent-counted j = omega (arith, live .made, child-counted j)
 
   begun-store : beganAt p (set (encode c ++ rest) 0 (child + 1)) child m ≡ encode (with-child 0) ++ rest
   unfolding beganAt begun-process
@@ -211,7 +205,7 @@ module _ (p : List ℕ) (kept : Kept p) (c : Config) (laid : Laid c) (rest : Lis
   -- the operand that is argument j
   operand-read : (j : ℕ) → j < args → operandOf (encode (with-child j) ++ rest) n (args - j) ≡ valOf (getD given j empty)
   operand-read j h =
-      operand-at p kept c f fs sound deep (with-child j) (child-laid j) rest n (parent-counted j) (joined-old c (begun-process j) n made ∙ stands) args j h enough
+      operand-at (live .busy .stack) (with-child j) (child-laid j) rest n (parent-counted j) (joined-old c (begun-process j) n (live .made) ∙ (live .stands)) args j h enough
 
   taken-count : (j : ℕ) → j ≤ args → length (take j given) ≡ j
   taken-count j h = length-take-le j given (omega (arith, given-count))
@@ -227,7 +221,7 @@ module _ (p : List ℕ) (kept : Kept p) (c : Config) (laid : Laid c) (rest : Lis
       filled : putValue (processWords (begun-process j)) (64 + 2 * j) (valOf (getD given j empty)) ≡ processWords (begun-process (suc j))
       filled =
           ap (λ (k : ℕ). putValue (processWords (begun-process j)) (64 + 2 * k) (valOf (getD given j empty))) (sym (taken-count j (omega arith)))
-          ∙ slot-filled p kept c m (take j given) (begun-sound j) (getD given j empty) (omega (arith, few, taken-count j (omega arith)))
+          ∙ slot-filled p (live .busy .stack .kept) c m (take j given) (begun-sound j) (getD given j empty) (omega (arith, few, taken-count j (omega arith)))
           ∙ ap (λ (l : List Value). processWords (runs (started p m l ∷ []))) (sym (take-suc given j empty (omega (arith, given-count))))
 
   all-handed : (j : ℕ) → j ≤ args → argsHanded (encode (with-child 0) ++ rest) n child args j ≡ encode (with-child j) ++ rest
@@ -246,7 +240,7 @@ module _ (p : List ℕ) (kept : Kept p) (c : Config) (laid : Laid c) (rest : Lis
   unfolding parent framesWithout
   parent-long j =
       running-long p c (frameWithout (thingsOf (take j given)) (passedBy args f)) (framesWithout (thingsOf (take j given)) fs) (parent-frame j)
-      (subst (λ (k : ℕ). k < 8) (sym (length-map fs (frameWithout (thingsOf (take j given))))) deep)
+      (subst (λ (k : ℕ). k < 8) (sym (length-map fs (frameWithout (thingsOf (take j given))))) (live .busy .stack .deep))
 
   abbrev with-both : ℕ → Config
   with-both j = setProcess (with-child args) n (parent j)
@@ -261,13 +255,13 @@ module _ (p : List ℕ) (kept : Kept p) (c : Config) (laid : Laid c) (rest : Lis
   unfolding retiredAt parent thingsOf
   retired-store =
       part-changed (with-child args) (child-laid args) rest n (λ w. retiredWords w args) (runs (f ∷ fs)) (parent 0) (parent-counted args)
-      (joined-old c (begun-process args) n made ∙ stands)
-      (operands-off p kept c f fs sound deep args enough
+      (joined-old c (begun-process args) n (live .made) ∙ (live .stands))
+      (operands-off (live .busy .stack) args enough
       ∙ ap (λ (l : List Frame). processWords (runs l)) (sym (frames-without-none (passedBy args f ∷ fs))))
       (parent-long 0)
 
   apart : child ≢ n
-  apart e = absurd (omega (arith, made, e))
+  apart e = absurd (omega (arith, live .made, e))
 
   child-there : (j : ℕ) → processAt (with-both j) child ≡ begun-process args
   child-there j = process-other (with-child args) n child (parent j) apart ∙ joined-new c (begun-process args)
@@ -278,7 +272,7 @@ module _ (p : List ℕ) (kept : Kept p) (c : Config) (laid : Laid c) (rest : Lis
   slot-there j h =
       ap (λ (w : List ℕ). valueAt w (64 + 2 * j))
       (part-is (with-both j) (both-laid j) rest child (subst (λ (k : ℕ). child < k) (sym (both-count j)) (child-counted args)) ∙ ap processWords (child-there j))
-      ∙ slot-found p kept c m (take args given) (begun-sound args) j (omega (arith, h, taken-count args (omega arith))) (omega (arith, few, taken-count args (omega arith)))
+      ∙ slot-found p (live .busy .stack .kept) c m (take args given) (begun-sound args) j (omega (arith, h, taken-count args (omega arith))) (omega (arith, few, taken-count args (omega arith)))
       ∙ ap valOf (getD-take args given j empty h)
 
   one-given : (j : ℕ) → j < args → argGiven (encode (with-both j) ++ rest) n child j ≡ encode (with-both (suc j)) ++ rest
@@ -288,8 +282,7 @@ module _ (p : List ℕ) (kept : Kept p) (c : Config) (laid : Laid c) (rest : Lis
       ∙ part-changed (with-both j) (both-laid j) rest n (λ w. givenWords w (valOf (getD given j empty))) (parent j) (parent (suc j))
       (subst (λ (k : ℕ). n < k) (sym (both-count j)) (parent-counted args))
       (process-same (with-child args) n (parent j) (parent-counted args))
-      (value-given p kept c (frameWithout (thingsOf (take j given)) (passedBy args f)) (framesWithout (thingsOf (take j given)) fs) (parent-frame j)
-      (subst (λ (k : ℕ). k < 8) (sym (length-map fs (frameWithout (thingsOf (take j given))))) deep) (getD given j empty)
+      (value-given (stacked (live .busy .stack .kept) (parent-frame j) (subst (λ (k : ℕ). k < 8) (sym (length-map fs (frameWithout (thingsOf (take j given))))) (live .busy .stack .deep))) (getD given j empty)
       ∙ ap (λ (l : List Frame). processWords (runs l)) more)
       (parent-long (suc j))
       ∙ ap (λ (d : Config). encode d ++ rest) (set-twice (with-child args) n (parent j) (parent (suc j)))
@@ -318,4 +311,4 @@ module _ (p : List ℕ) (kept : Kept p) (c : Config) (laid : Laid c) (rest : Lis
       ∙ ap (λ (l : List Value). encode (setProcess (joined c (runs (started p m l ∷ []))) n (runs (framesWithout (thingsOf l) (passedBy args f ∷ fs)))) ++ rest)
       (take-all args given (omega (arith, given-count)))
       ∙ ap (λ (d : Config). encode d ++ rest)
-      (joined-other c (runs (started p m given ∷ [])) n (runs (framesWithout (thingsOf given) (passedBy args f ∷ fs))) made)
+      (joined-other c (runs (started p m given ∷ [])) n (runs (framesWithout (thingsOf given) (passedBy args f ∷ fs))) (live .made))

@@ -10,16 +10,14 @@ use native.Mathlib.Omega.{arith}
 use lib.ListN.{getD, length, replicate}
 use lib.Dec.{eqb}
 use borrow.Author.Tests.{eqb-true, eqb-false, ne-eqb}
-use Rattle.lists.specs.Lists.{All}
-use Rattle.table.specs.Table.{opAt, argAt}
+use Rattle.table.specs.Table.{opAt}
 use Rattle.table.specs.Ops.{opOf, ops, opSend, opRecv}
 use Rattle.table.specs.Reading.{takenAt}
-use Rattle.table.proofs.Accepted.{Kept}
 use Rattle.machine.specs.Value.{qubit, channel, end, Value, empty, int, bool, ref, isEmpty}
 use Rattle.machine.specs.State.{Frame, State, finished, stopped, atPlace, withPending}
 use Rattle.machine.specs.Act.{Offer, sends, receives, Act, idle, stuck, faults, goes, ends, makes, forks, offers, At, doSend, doRecv, doings, doingOf, atFrame}
 use Rattle.machine.specs.Entry.{runs, Meeting, joins, offered, meetsWith, isMeeting}
-use Rattle.machine.specs.Sound.{FrameSound}
+use Rattle.machine.proofs.Reached.{AtWork}
 use Rattle.layout.specs.Layout.{padded, valueWords, statusWords, processWords}
 use Rattle.layout.proofs.Frames.{tagOf, numberOf}
 use Rattle.store.specs.declared.values.Val.{Val}
@@ -110,19 +108,18 @@ module _ (p : List ℕ) where
 
 -- a running process
 
-module _ (p : List ℕ) (kept : Kept p) (outcomes : List ℕ) (s : State) (f : Frame) (fs : List Frame)
-    (sound : All (FrameSound p (s .config)) (f ∷ fs)) (deep : length fs < 8) (small : argAt p (f .place) < 65536) where
+module _ {p : List ℕ} (outcomes : List ℕ) (s : State) {f : Frame} {fs : List Frame} (busy : AtWork p (s .config) f fs) where
   abbrev words : List ℕ
-  words = w p kept outcomes s f fs sound deep small
+  words = w outcomes s busy
 
   abbrev top : Head
-  top = hd p kept outcomes s f fs sound deep small
+  top = hd outcomes s busy
 
   abbrev does : Act
-  does = act p kept outcomes s f fs sound deep small
+  does = act outcomes s busy
 
   abbrev stage : ℕ → List Value → At
-  stage = scene p kept outcomes s f fs sound deep small
+  stage = scene outcomes s busy
 
   abbrev Good : Act → Stand → Type 0
   Good x st = Stands x st × From f fs x
@@ -138,13 +135,13 @@ module _ (p : List ℕ) (kept : Kept p) (outcomes : List ℕ) (s : State) (f : F
       ap (λ (h : Head). cond (eqb (h .status) 1)
       (cond (eqb (opAt p (h .place)) 15) (sendOf words h) (cond (eqb (opAt p (h .place)) 16) (receiveOf words h) (standing 1)))
       (standing 0))
-      (head-is p kept (s .config) f fs sound deep)
+      (head-is (busy .stack))
 
   -- too few pending values
   short : (k n : ℕ) (st : Stand) (vs : List Value) → opAt p (f .place) ≡ k → takenAt p (f .place) ≡ n → f .pending ≡ vs → length vs < n
       → Good does st
   short k n st vs e t q h =
-      by (act-short p kept outcomes s f fs sound deep small k n e t (subst (λ (l : List Value). length l < n) (sym q) h)) refl (tt, tt)
+      by (act-short outcomes s busy k n e t (subst (λ (l : List Value). length l < n) (sym q) h)) refl (tt, tt)
 
   -- SEND
 
@@ -168,8 +165,8 @@ module _ (p : List ℕ) (kept : Kept p) (outcomes : List ℕ) (s : State) (f : F
   unfolding sendOf emptyTwo
   read-send y x us q =
       ap₂ (λ (u v : Val). cond (eqb (u .tag) 0 || eqb (v .tag) 0) (standing 1) (record { kind = 2; end = u; value = v }))
-      (read-second p kept outcomes s f fs sound deep small y x us q)
-      (read-top p kept outcomes s f fs sound deep small y (x ∷ us) q)
+      (read-second outcomes s busy y x us q)
+      (read-top outcomes s busy y (x ∷ us) q)
       ∙ ap₂ (λ (b c : Bool). cond (b || c) (standing 1) (record { kind = 2; end = valOf x; value = valOf y })) (tag-test x) (tag-test y)
 
   at-send : opAt p (f .place) ≡ 15 → Good does (sendOf words top)
@@ -177,13 +174,13 @@ module _ (p : List ℕ) (kept : Kept p) (outcomes : List ℕ) (s : State) (f : F
   at-send e = go (f .pending) refl
     where
       taken : takenAt p (f .place) ≡ 2
-      taken = taken-by p kept outcomes s f fs sound deep small 15 e
+      taken = taken-by outcomes s busy 15 e
 
       go : (vs : List Value) → f .pending ≡ vs → Good does (sendOf words top)
       go [] q = short 15 2 (sendOf words top) [] e taken q (omega arith)
       go (u ∷ []) q = short 15 2 (sendOf words top) (u ∷ []) e taken q (omega arith)
       go (y ∷ x ∷ us) q =
-          by (act-two p kept outcomes s f fs sound deep small 15 y x us e taken q) (read-send y x us q) (sent y x us q (isEmpty y) refl)
+          by (act-two outcomes s busy 15 y x us e taken q) (read-send y x us q) (sent y x us q (isEmpty y) refl)
 
   -- RECV
 
@@ -203,7 +200,7 @@ module _ (p : List ℕ) (kept : Kept p) (outcomes : List ℕ) (s : State) (f : F
   unfolding receiveOf
   read-receive u us q =
       ap (λ (v : Val). cond (eqb (v .tag) 0) (standing 1) (record { kind = 3; end = v; value = did.none }))
-      (read-top p kept outcomes s f fs sound deep small u us q)
+      (read-top outcomes s busy u us q)
       ∙ ap (λ (b : Bool). cond b (standing 1) (record { kind = 3; end = valOf u; value = did.none })) (tag-test u)
 
   at-receive : opAt p (f .place) ≡ 16 → Good does (receiveOf words top)
@@ -211,12 +208,12 @@ module _ (p : List ℕ) (kept : Kept p) (outcomes : List ℕ) (s : State) (f : F
   at-receive e = go (f .pending) refl
     where
       taken : takenAt p (f .place) ≡ 1
-      taken = taken-by p kept outcomes s f fs sound deep small 16 e
+      taken = taken-by outcomes s busy 16 e
 
       go : (vs : List Value) → f .pending ≡ vs → Good does (receiveOf words top)
       go [] q = short 16 1 (receiveOf words top) [] e taken q (omega arith)
       go (u ∷ us) q =
-          by (act-one p kept outcomes s f fs sound deep small 16 u us e taken q) (read-receive u us q) (received u us q)
+          by (act-one outcomes s busy 16 u us e taken q) (read-receive u us q) (received u us q)
 
   -- any op
 

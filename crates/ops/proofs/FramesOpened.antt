@@ -6,13 +6,11 @@ use native.Mathlib.Nat.{mod-eq-of-lt, add-mod-right, le-of-suc-le, le-of-suc-le-
 use lib.Seq.{set-at, take-suc, take-append-add, length-take-le, drop-cons}
 use native.Mathlib.Omega.{arith}
 use lib.ListN.{getD, set, take, drop, length, replicate, length-append, length-replicate, length-set, length-reverse, length-drop, replicate-append-replicate}
-use Rattle.lists.specs.Lists.{All}
 use Rattle.table.specs.Table.{offsetOf}
-use Rattle.table.proofs.Accepted.{Kept}
 use Rattle.machine.specs.Value.{Value, empty}
 use Rattle.machine.specs.State.{Frame, Config, atPlace, withPending, push, started}
 use Rattle.machine.specs.Entry.{runs}
-use Rattle.machine.specs.Sound.{FrameSound}
+use Rattle.machine.proofs.Reached.{Stack, stacked}
 use Rattle.layout.specs.Layout.{padded, valueWords, headWords, frameValues, processWords}
 use Rattle.layout.proofs.Frames.{tagOf, numberOf, write, frame-slot-set, frame-pop, frame-pending-get, frame-size}
 use Rattle.layout.proofs.Process.{Fitting, headsBelow, valuesBelow, process-fitting, below-heads, below-values}
@@ -23,7 +21,7 @@ use Rattle.store.specs.Words.{valueAt, putValue, headAt, putTop, topAt, stepped
 use Rattle.store.proofs.Cleared.{blank, blank-all, values-cleared, heads-cleared}
 use Rattle.ops.specs.Did.{none, frameAt, begun, opened, closed, handed}
 use Rattle.store.proofs.Vals.{valOf}
-use Rattle.ops.proofs.Places.{head, head-is, place-small, push-back}
+use Rattle.ops.proofs.Places.{headIn, head-is, place-small, push-back}
 
 -- RET
 
@@ -31,12 +29,12 @@ blank-head : (f : Frame) → blank 3 (headWords f) ≡ replicate 4 0
 unfolding blank headWords
 blank-head f = refl
 
-module _ (p : List ℕ) (kept : Kept p) (c : Config) (f g : Frame) (gs : List Frame) (sound : All (FrameSound p c) (f ∷ g ∷ gs)) (deep : length (g ∷ gs) < 8) where
+module _ {p : List ℕ} {c : Config} {f g : Frame} {gs : List Frame} (stack : Stack p c f (g ∷ gs)) where
   fits-top : Fitting (length (g ∷ gs)) (headsBelow (g ∷ gs)) (headWords f) (valuesBelow (g ∷ gs)) (frameValues f)
-  fits-top = process-fitting p c f (g ∷ gs) sound deep
+  fits-top = process-fitting p c f (g ∷ gs) (stack .sound) (stack .deep)
 
   -- the words with the frame f closed
-  pub closed-words : closed (processWords (runs (f ∷ g ∷ gs))) (head p kept c f (g ∷ gs) sound deep) ≡ processWords (runs (g ∷ gs))
+  pub closed-words : closed (processWords (runs (f ∷ g ∷ gs))) (headIn f (g ∷ gs)) ≡ processWords (runs (g ∷ gs))
   unfolding closed frameAt headAt headWords
   closed-words =
       ap (λ (w : List ℕ). set (clearedFrom (clearedFrom w (16 + 48 * suc (suc (length gs))) 48) (4 + 4 * suc (suc (length gs))) 3) 2 ((suc (suc (length gs)) + 4294967295) % 4294967296))
@@ -51,7 +49,7 @@ module _ (p : List ℕ) (kept : Kept p) (c : Config) (f g : Frame) (gs : List Fr
       ∙ ap (λ (l : List ℕ). whole (suc (suc (length gs))) (HB ++ l) (VB ++ replicate 48 0)) head-blank)
       ∙ whole-count (suc (suc (length gs))) (HB ++ replicate 4 0) (VB ++ replicate 48 0) blank-fit zeros-fit ((suc (suc (length gs)) + 4294967295) % 4294967296)
       ∙ ap (λ (n : ℕ). whole n (HB ++ replicate 4 0) (VB ++ replicate 48 0)) count
-      ∙ whole-zeros (suc (length gs)) HB VB 4 48 (omega (arith, fits-top .headsLong, deep)) (omega (arith, fits-top .valuesLong, deep))
+      ∙ whole-zeros (suc (length gs)) HB VB 4 48 (omega (arith, fits-top .headsLong, stack .deep)) (omega (arith, fits-top .valuesLong, stack .deep))
       ∙ ap₂ (whole (suc (length gs))) (below-heads g gs) (below-values g gs)
       ∙ sym (process-whole g gs)
     where
@@ -62,35 +60,35 @@ module _ (p : List ℕ) (kept : Kept p) (c : Config) (f g : Frame) (gs : List Fr
       VB = valuesBelow (g ∷ gs)
 
       heads-fit : length (HB ++ headWords f) ≤ 56
-      heads-fit = omega (arith, length-append HB (headWords f), fits-top .headsLong, fits-top .headLong, deep)
+      heads-fit = omega (arith, length-append HB (headWords f), fits-top .headsLong, fits-top .headLong, stack .deep)
 
       values-fit : length (VB ++ frameValues f) ≤ 448
-      values-fit = omega (arith, length-append VB (frameValues f), fits-top .valuesLong, fits-top .frameLong, deep)
+      values-fit = omega (arith, length-append VB (frameValues f), fits-top .valuesLong, fits-top .frameLong, stack .deep)
 
       zeros-fit : length (VB ++ replicate 48 0) ≤ 448
-      zeros-fit = omega (arith, length-append VB (replicate 48 0), fits-top .valuesLong, length-replicate {A = ℕ} 48 0, deep)
+      zeros-fit = omega (arith, length-append VB (replicate 48 0), fits-top .valuesLong, length-replicate {A = ℕ} 48 0, stack .deep)
 
       blank-fit : length (HB ++ replicate 4 0) ≤ 56
-      blank-fit = omega (arith, length-append HB (replicate 4 0), fits-top .headsLong, length-replicate {A = ℕ} 4 0, deep)
+      blank-fit = omega (arith, length-append HB (replicate 4 0), fits-top .headsLong, length-replicate {A = ℕ} 4 0, stack .deep)
 
       head-blank : blank 3 (headWords f) ≡ replicate 4 0
       head-blank = blank-head f
 
       count : (suc (suc (length gs)) + 4294967295) % 4294967296 ≡ suc (length gs)
-      count = ap (λ (n : ℕ). n % 4294967296) {x = suc (suc (length gs)) + 4294967295} {y = suc (length gs) + 4294967296} (omega arith) ∙ add-mod-right (suc (length gs)) 4294967296 ∙ mod-eq-of-lt (omega (arith, deep))
+      count = ap (λ (n : ℕ). n % 4294967296) {x = suc (suc (length gs)) + 4294967295} {y = suc (length gs) + 4294967296} (omega arith) ∙ add-mod-right (suc (length gs)) 4294967296 ∙ mod-eq-of-lt (omega (arith, stack .deep))
 
   -- a value handed to the frame g
   pub handed-words : (v : Value) → length (g .pending) < 8 → handed (processWords (runs (g ∷ gs))) (valOf v) ≡ processWords (runs (push v g ∷ gs))
   unfolding handed
   handed-words v h =
-      ap (λ (k : Head). putTop (putValue (processWords (runs (g ∷ gs))) (topAt k 0) (valOf v)) (pushed k)) (head-is p kept c g gs (sound .1) shallow)
+      ap (λ (k : Head). putTop (putValue (processWords (runs (g ∷ gs))) (topAt k 0) (valOf v)) (pushed k)) (head-is (stacked (stack .kept) (stack .sound .1) shallow))
       ∙ at-once
     where
       shallow : length gs < 8
-      shallow = omega (arith, deep)
+      shallow = omega (arith, stack .deep)
 
-      at-once : putTop (putValue (processWords (runs (g ∷ gs))) (topAt (head p kept c g gs (sound .1) shallow) 0) (valOf v)) (pushed (head p kept c g gs (sound .1) shallow)) ≡ processWords (runs (push v g ∷ gs))
-      at-once = push-back p kept c g gs (sound .1) shallow v h
+      at-once : putTop (putValue (processWords (runs (g ∷ gs))) (topAt (headIn g gs) 0) (valOf v)) (pushed (headIn g gs)) ≡ processWords (runs (push v g ∷ gs))
+      at-once = push-back (stacked (stack .kept) (stack .sound .1) shallow) v h
 
 -- CALL
 
@@ -186,10 +184,10 @@ args-started vs n small enough =
     total : length (reverse (take n vs)) + (16 - n) ≡ 16
     total = omega (arith, length-reverse (take n vs), length-take-le n vs enough)
 
-module _ (p : List ℕ) (kept : Kept p) (c : Config) (f : Frame) (fs : List Frame) (sound : All (FrameSound p c) (f ∷ fs)) (deep : length fs < 8)
+module _ {p : List ℕ} {c : Config} {f : Frame} {fs : List Frame} (stack : Stack p c f fs)
     (room : suc (length fs) < 8) (m n : ℕ) (small : n ≤ 8) (enough : n ≤ length (f .pending)) where
   fits-frame : Fitting (length fs) (headsBelow fs) (headWords f) (valuesBelow fs) (frameValues f)
-  fits-frame = process-fitting p c f fs sound deep
+  fits-frame = process-fitting p c f fs (stack .sound) (stack .deep)
 
   -- the caller and the new frame once j arguments are moved
   caller : ℕ → Frame
@@ -205,7 +203,7 @@ module _ (p : List ℕ) (kept : Kept p) (c : Config) (f : Frame) (fs : List Fram
 
   caller-long : (j : ℕ) → length (frameValues (caller j)) ≡ 48
   unfolding caller
-  caller-long j = frame-size (caller j) (sound .0 .width) (omega (arith, length-drop j (f .pending), sound .0 .height))
+  caller-long j = frame-size (caller j) (stack .sound .0 .width) (omega (arith, length-drop j (f .pending), stack .sound .0 .height))
 
   callee-long : (j : ℕ) → length (frameValues (callee j)) ≡ 48
   unfolding callee
@@ -233,7 +231,7 @@ module _ (p : List ℕ) (kept : Kept p) (c : Config) (f : Frame) (fs : List Fram
       ∙ ap (λ (l : List ℕ). whole (suc (length fs)) ((headsBelow fs ++ headWords f) ++ replicate 4 0) ((valuesBelow fs ++ frameValues f) ++ l)) (blank-frame m (offsetOf p m))
 
   -- one argument moved
-  moved-one : (j : ℕ) → j < n → moveOne (state j) (topAt (head p kept c f fs sound deep) 1 - 2 * j) (frameAt (suc (length fs) + 1) + 2 * (n - suc j)) ≡ state (suc j)
+  moved-one : (j : ℕ) → j < n → moveOne (state j) (topAt (headIn f fs) 1 - 2 * j) (frameAt (suc (length fs) + 1) + 2 * (n - suc j)) ≡ state (suc j)
   unfolding moveOne topAt frameAt caller callee argsAfter valOf tagOf numberOf valueWords
   moved-one j h =
       ap (λ (v : Val). putValue (putValue (state j) to v) from none) read
@@ -243,14 +241,14 @@ module _ (p : List ℕ) (kept : Kept p) (c : Config) (f : Frame) (fs : List Fram
       ∙ ap (λ (l : List ℕ). whole (suc (length fs)) heads ((valuesBelow fs ++ frameValues (caller j)) ++ l)) slotted)
       ∙ write-mid (suc (length fs)) heads (valuesBelow fs) (frameValues (caller j)) (frameValues (callee (suc j))) from (32 + 2 * length (drop (suc j) (f .pending))) empty
       heads-fit (omega (arith, length-append (valuesBelow fs ++ frameValues (caller j)) (frameValues (callee (suc j))), length-append (valuesBelow fs) (frameValues (caller j)), fits-frame .valuesLong, caller-long j, callee-long (suc j), room))
-      (omega (arith, caller-long j, length-drop (suc j) (f .pending), sound .0 .height, h, enough)) from-is
+      (omega (arith, caller-long j, length-drop (suc j) (f .pending), stack .sound .0 .height, h, enough)) from-is
       ∙ ap (λ (l : List ℕ). whole (suc (length fs)) heads ((valuesBelow fs ++ l) ++ frameValues (callee (suc j)))) popped-off
     where
       heads : List ℕ
       heads = (headsBelow fs ++ headWords f) ++ replicate 4 0
 
       from : ℕ
-      from = topAt (head p kept c f fs sound deep) 1 - 2 * j
+      from = topAt (headIn f fs) 1 - 2 * j
 
       to : ℕ
       to = frameAt (suc (length fs) + 1) + 2 * (n - suc j)
@@ -273,9 +271,9 @@ module _ (p : List ℕ) (kept : Kept p) (c : Config) (f : Frame) (fs : List Fram
       read : valueAt (state j) from ≡ valOf (getD (f .pending) j empty)
       read =
           value-mid (suc (length fs)) heads (valuesBelow fs) (frameValues (caller j)) (frameValues (callee j)) from (32 + 2 * length (drop (suc j) (f .pending))) (getD (f .pending) j empty)
-          heads-fit (values-fit j) (omega (arith, caller-long j, length-drop (suc j) (f .pending), sound .0 .height, h, enough)) from-is
-          (frame-pending-get (caller j) (sound .0 .width) 0 0 (32 + 2 * length (drop (suc j) (f .pending))) (omega (arith, left)) (omega arith) (omega (arith, left)) ∙ ap (λ (v : Value). tagOf v) top-is)
-          (frame-pending-get (caller j) (sound .0 .width) 0 1 (32 + 2 * length (drop (suc j) (f .pending)) + 1) (omega (arith, left)) (omega arith) (omega (arith, left)) ∙ ap (λ (v : Value). numberOf v) top-is)
+          heads-fit (values-fit j) (omega (arith, caller-long j, length-drop (suc j) (f .pending), stack .sound .0 .height, h, enough)) from-is
+          (frame-pending-get (caller j) (stack .sound .0 .width) 0 0 (32 + 2 * length (drop (suc j) (f .pending))) (omega (arith, left)) (omega arith) (omega (arith, left)) ∙ ap (λ (v : Value). tagOf v) top-is)
+          (frame-pending-get (caller j) (stack .sound .0 .width) 0 1 (32 + 2 * length (drop (suc j) (f .pending)) + 1) (omega (arith, left)) (omega arith) (omega (arith, left)) ∙ ap (λ (v : Value). numberOf v) top-is)
 
       to-is : to ≡ 64 + (length (valuesBelow fs ++ frameValues (caller j)) + 2 * (n - suc j))
       to-is = omega (arith, length-append (valuesBelow fs) (frameValues (caller j)), fits-frame .valuesLong, caller-long j)
@@ -285,15 +283,15 @@ module _ (p : List ℕ) (kept : Kept p) (c : Config) (f : Frame) (fs : List Fram
 
       popped-off : write (frameValues (caller j)) (32 + 2 * length (drop (suc j) (f .pending))) empty ≡ frameValues (caller (suc j))
       popped-off =
-          frame-pop (caller j) (sound .0 .width) (32 + 2 * length (drop (suc j) (f .pending))) (getD (f .pending) j empty) (drop (suc j) (f .pending))
-          (drop-cons (f .pending) j empty (omega (arith, h, enough))) (omega (arith, length-drop (suc j) (f .pending), sound .0 .height, h, enough)) refl
+          frame-pop (caller j) (stack .sound .0 .width) (32 + 2 * length (drop (suc j) (f .pending))) (getD (f .pending) j empty) (drop (suc j) (f .pending))
+          (drop-cons (f .pending) j empty (omega (arith, h, enough))) (omega (arith, length-drop (suc j) (f .pending), stack .sound .0 .height, h, enough)) refl
 
   -- all of them moved
-  moved-all : (j : ℕ) → j ≤ n → movedDown (processWords (runs (f ∷ fs))) (topAt (head p kept c f fs sound deep) 1) (frameAt (suc (length fs) + 1)) n j ≡ state j
+  moved-all : (j : ℕ) → j ≤ n → movedDown (processWords (runs (f ∷ fs))) (topAt (headIn f fs) 1) (frameAt (suc (length fs) + 1)) n j ≡ state j
   unfolding movedDown
   moved-all zero h = state-first
   moved-all (suc j) h =
-      ap (λ (l : List ℕ). moveOne l (topAt (head p kept c f fs sound deep) 1 - 2 * j) (frameAt (suc (length fs) + 1) + 2 * (n - suc j))) (moved-all j (le-of-suc-le h))
+      ap (λ (l : List ℕ). moveOne l (topAt (headIn f fs) 1 - 2 * j) (frameAt (suc (length fs) + 1) + 2 * (n - suc j))) (moved-all j (le-of-suc-le h))
       ∙ moved-one j h
 
   -- the caller behind its CALL, and the frame called
@@ -304,13 +302,13 @@ module _ (p : List ℕ) (kept : Kept p) (c : Config) (f : Frame) (fs : List Fram
   called = started p m (reverse (take n (f .pending)))
 
   place-next : (f .place + 1) % 4294967296 ≡ suc (f .place)
-  place-next = mod-eq-of-lt (omega (arith, place-small p kept c f fs sound deep)) ∙ omega arith
+  place-next = mod-eq-of-lt (omega (arith, place-small stack)) ∙ omega arith
 
   pending-less : (length (f .pending) + 4294967296 - n) % 4294967296 ≡ length (drop n (f .pending))
   pending-less =
       ap (λ (k : ℕ). k % 4294967296) {x = length (f .pending) + 4294967296 - n} {y = length (f .pending) - n + 4294967296} (omega (arith, enough))
       ∙ add-mod-right (length (f .pending) - n) 4294967296
-      ∙ mod-eq-of-lt (omega (arith, sound .0 .height))
+      ∙ mod-eq-of-lt (omega (arith, stack .sound .0 .height))
       ∙ sym (length-drop n (f .pending))
 
   -- the place is no part of a frame's values
@@ -350,7 +348,7 @@ module _ (p : List ℕ) (kept : Kept p) (c : Config) (f : Frame) (fs : List Fram
   unfolding callee started
   called-values = ap (λ (l : List Value). frameValues (record { method = m; place = offsetOf p m; slots = l; pending = [] })) (args-started (f .pending) n small enough)
 
-  pub opened-words : opened p (processWords (runs (f ∷ fs))) (head p kept c f fs sound deep) m n ≡ processWords (runs (called ∷ behind ∷ fs))
+  pub opened-words : opened p (processWords (runs (f ∷ fs))) (headIn f fs) m n ≡ processWords (runs (called ∷ behind ∷ fs))
   unfolding opened begun putTop headAt stepped lessBy headWords started
   opened-words =
       ap (λ (l : List ℕ). set (set (set (set (set l (4 + 4 * suc (length fs) + 1) place′) (4 + 4 * suc (length fs) + 2) pending′) (4 + 4 * (suc (length fs) + 1)) m) (4 + 4 * (suc (length fs) + 1) + 1) (offsetOf p m)) 2 (suc (length fs) + 1))

@@ -16,14 +16,14 @@ use Rattle.lists.proofs.Tests.{and-left, decide}
 use Rattle.table.specs.Table.{methods, offsetOf, returnOf, paramsOf, opAt, argAt, ownerOf, slotType}
 use Rattle.table.specs.Ops.{opOf, ops, opInt, opBool, opGet, opPut, opDrop, opClear, opEnd, opJump, opJFalse, opArith, opCompare, opNot, opCall, opRet, returned, unlisted}
 use Rattle.table.specs.Reading.{takenAt}
-use Rattle.table.proofs.Accepted.{Kept}
 use Rattle.table.proofs.Methods.{inside-bound, inside-owner}
 use native.Mathlib.Nat.{le-of-suc-le, le-of-suc-le-suc, not-suc-le-zero}
 use Rattle.machine.specs.Value.{qubit, channel, end, Value, empty, int, bool, ref, isEmpty, inRange, signed16, word32, eqZ, sideOf}
 use Rattle.machine.specs.State.{Frame, State, atPlace, withPending, withSlot, started}
 use Rattle.machine.specs.Act.{Act, idle, stuck, faults, goes, ends, makes, forks, offers, At, present, pushes, twoInts, result, doInt, doBool, doGet, doPut, doDrop, doClear, doEnd, doJump, doJFalse, doAdd, doSub, doEq, doLess, doNot, doCall, doRet, returnTo, doings, doingOf, passedBy, sceneOf, atFrame}
 use Rattle.machine.specs.Entry.{runs}
-use Rattle.machine.specs.Sound.{ValueSound, FrameSound}
+use Rattle.machine.specs.Sound.{ValueSound}
+use Rattle.machine.proofs.Reached.{Stack, AtWork}
 use Rattle.layout.specs.Layout.{valueWords, processWords}
 use Rattle.layout.proofs.Frames.{tagOf, numberOf}
 use Rattle.store.specs.declared.values.Val.{Val}
@@ -33,7 +33,7 @@ use Rattle.ops.specs.Did.{Did, did, none, intVal, boolVal, unlessEmpty, 
 use Rattle.ops.proofs.Ints.{Shifted, sum-shifted, difference-shifted, less-same, words-same}
 use Rattle.ops.proofs.FramesOpened.{opened-words, closed-words, handed-words}
 use Rattle.store.proofs.Vals.{valOf}
-use Rattle.ops.proofs.Places.{head, head-is, slot-read, top-read, push-words, slot-words, drop-words, drop-to-words, move-words, top-words, two-words}
+use Rattle.ops.proofs.Places.{headIn, head-is, slot-read, top-read, push-words, slot-words, drop-words, drop-to-words, move-words, top-words, two-words}
 
 -- What an act within one process that writes no line leaves, as code and words; the root frame's return is left to the
 -- caller, as 113. No other act agrees with anything.
@@ -100,13 +100,12 @@ end-value zero n h = refl
 end-value (suc zero) n h = refl
 end-value (suc (suc a)) n h = absurd (omega arith)
 
-module _ (p : List ℕ) (kept : Kept p) (outcomes : List ℕ) (s : State) (f : Frame) (fs : List Frame)
-    (sound : All (FrameSound p (s .config)) (f ∷ fs)) (deep : length fs < 8) (small : argAt p (f .place) < 65536) where
+module _ {p : List ℕ} (outcomes : List ℕ) (s : State) {f : Frame} {fs : List Frame} (busy : AtWork p (s .config) f fs) where
   abbrev pub w : List ℕ
   w = processWords (runs (f ∷ fs))
 
   abbrev pub hd : Head
-  hd = head p kept (s .config) f fs sound deep
+  hd = headIn f fs
 
   abbrev pub a : ℕ
   a = argAt p (f .place)
@@ -181,7 +180,7 @@ module _ (p : List ℕ) (kept : Kept p) (outcomes : List ℕ) (s : State) (f : F
   pub argument-kept : (k : ℕ) → opAt p (f .place) ≡ k → T (opOf k .argument p (ownerOf p (f .place)) a)
   argument-kept k e =
       subst (λ (o : ℕ). T (opOf o .argument p (ownerOf p (f .place)) a)) e
-      (kept .argument (f .place) (inside-bound p kept (record { method = sound .0 .method; behind = sound .0 .behind; ahead = sound .0 .inside })))
+      (busy .stack .kept .argument (f .place) (inside-bound p (busy .stack .kept) (record { method = busy .stack .sound .0 .method; behind = busy .stack .sound .0 .behind; ahead = busy .stack .sound .0 .inside })))
 
   -- agreement, carried along what the act and the function's answer are
   abbrev pub Good : Act → Did → Type 0
@@ -219,12 +218,12 @@ module _ (p : List ℕ) (kept : Kept p) (outcomes : List ℕ) (s : State) (f : F
   -- the top value, and the one below it
   pub read-top : (u : Value) (us : List Value) → f .pending ≡ u ∷ us → valueAt w (topAt hd 1) ≡ valOf u
   read-top u us q =
-      top-read p kept (s .config) f fs sound deep 0 (subst (λ (l : List Value). 0 < length l) (sym q) (omega arith))
+      top-read (busy .stack) 0 (subst (λ (l : List Value). 0 < length l) (sym q) (omega arith))
       ∙ ap (λ (l : List Value). valOf (getD l 0 empty)) q
 
   pub read-second : (y x : Value) (us : List Value) → f .pending ≡ y ∷ x ∷ us → valueAt w (topAt hd 2) ≡ valOf x
   read-second y x us q =
-      top-read p kept (s .config) f fs sound deep 1 (subst (λ (l : List Value). 1 < length l) (sym q) (omega arith))
+      top-read (busy .stack) 1 (subst (λ (l : List Value). 1 < length l) (sym q) (omega arith))
       ∙ ap (λ (l : List Value). valOf (getD l 1 empty)) q
 
   -- one operand: fault 20, or what the op does with a value that is not empty
@@ -251,14 +250,14 @@ module _ (p : List ℕ) (kept : Kept p) (outcomes : List ℕ) (s : State) (f : F
   pub int-agrees : opAt p (f .place) ≡ 1 → Good act (did 0 (pushOn w hd (intVal (signExtended a))))
   unfolding doingOf doings doInt opOf ops opInt passedBy
   int-agrees e =
-      by (act-zero 1 e (taken-by 1 e)) (ap (λ (v : Val). did 0 (pushOn w hd v)) (int-value a small))
-      (λ h. ap (did 0) (push-words p kept (s .config) f fs sound deep (int (signed16 a)) h))
+      by (act-zero 1 e (taken-by 1 e)) (ap (λ (v : Val). did 0 (pushOn w hd v)) (int-value a (busy .small)))
+      (λ h. ap (did 0) (push-words (busy .stack) (int (signed16 a)) h))
 
   pub bool-agrees : opAt p (f .place) ≡ 2 → Good act (did 0 (pushOn w hd (boolVal a)))
   unfolding doingOf doings doBool opOf ops opBool passedBy
   bool-agrees e =
       by (act-zero 2 e (taken-by 2 e)) (ap (λ (v : Val). did 0 (pushOn w hd v)) (bool-value a (leb→le a 1 (argument-kept 2 e))))
-      (λ h. ap (did 0) (push-words p kept (s .config) f fs sound deep (bool (eqb a 1)) h))
+      (λ h. ap (did 0) (push-words (busy .stack) (bool (eqb a 1)) h))
 
   -- GET
 
@@ -269,9 +268,9 @@ module _ (p : List ℕ) (kept : Kept p) (outcomes : List ℕ) (s : State) (f : F
   get-value : (v : Value) → Good (present v (pushes (scene 0 (f .pending)))) (cond (isEmpty v) (did 20 w) (did 0 (pushOn w hd (valOf v))))
   unfolding passedBy
   get-value empty h = refl
-  get-value (int z) h = ap (did 0) (push-words p kept (s .config) f fs sound deep (int z) h)
-  get-value (bool b) h = ap (did 0) (push-words p kept (s .config) f fs sound deep (bool b) h)
-  get-value (ref t) h = ap (did 0) (push-words p kept (s .config) f fs sound deep (ref t) h)
+  get-value (int z) h = ap (did 0) (push-words (busy .stack) (int z) h)
+  get-value (bool b) h = ap (did 0) (push-words (busy .stack) (bool b) h)
+  get-value (ref t) h = ap (did 0) (push-words (busy .stack) (ref t) h)
 
   pub get-agrees : opAt p (f .place) ≡ 3 → Good act (getOp w hd a)
   unfolding getOp doingOf doings doGet opOf ops opGet
@@ -282,7 +281,7 @@ module _ (p : List ℕ) (kept : Kept p) (outcomes : List ℕ) (s : State) (f : F
       (get-value (getD (f .slots) a empty))
     where
       read : valueAt w (slotAt hd a) ≡ valOf (getD (f .slots) a empty)
-      read = slot-read p kept (s .config) f fs sound deep a (get-slot e)
+      read = slot-read (busy .stack) a (get-slot e)
 
   -- PUT, DROP, CLEAR
 
@@ -295,13 +294,13 @@ module _ (p : List ℕ) (kept : Kept p) (outcomes : List ℕ) (s : State) (f : F
   put-agrees e =
       top-op 4 (λ v. did 0 (inSlot w hd a v)) e (taken-by 4 e)
       (λ u us q n h. ap (did 0)
-      (slot-words p kept (s .config) f fs sound deep a u (put-slot e)
+      (slot-words (busy .stack) a u (put-slot e)
       ∙ ap (λ (vs : List Value). processWords (runs (withSlot a u (atPlace (suc (f .place)) (withPending vs f)) ∷ fs))) q))
 
   pub drop-agrees : opAt p (f .place) ≡ 5 → Good act (dropOp w hd)
   unfolding dropOp doingOf doings doDrop opOf ops opDrop
   drop-agrees e =
-      top-op 5 (λ v. did 0 (dropTop w hd)) e (taken-by 5 e) (λ u us q n h. ap (did 0) (drop-words p kept (s .config) f fs sound deep u us q))
+      top-op 5 (λ v. did 0 (dropTop w hd)) e (taken-by 5 e) (λ u us q n h. ap (did 0) (drop-words (busy .stack) u us q))
 
   clear-slot : opAt p (f .place) ≡ 6 → a < 16
   unfolding opOf ops opClear
@@ -310,7 +309,7 @@ module _ (p : List ℕ) (kept : Kept p) (outcomes : List ℕ) (s : State) (f : F
   pub clear-agrees : opAt p (f .place) ≡ 6 → Good act (did 0 (inSlot w hd a none))
   unfolding doingOf doings doClear opOf ops opClear passedBy valOf tagOf numberOf valueWords
   clear-agrees e =
-      by (act-zero 6 e (taken-by 6 e)) refl (λ h. ap (did 0) (slot-words p kept (s .config) f fs sound deep a empty (clear-slot e)))
+      by (act-zero 6 e (taken-by 6 e)) refl (λ h. ap (did 0) (slot-words (busy .stack) a empty (clear-slot e)))
 
   -- END
 
@@ -330,7 +329,7 @@ module _ (p : List ℕ) (kept : Kept p) (outcomes : List ℕ) (s : State) (f : F
       found (ref (channel k)) us q n h =
           ap (did 0)
           (ap (onTop w hd) (end-value a k side)
-          ∙ top-words p kept (s .config) f fs sound deep (ref (channel k)) (ref (end k (sideOf a))) us q)
+          ∙ top-words (busy .stack) (ref (channel k)) (ref (end k (sideOf a))) us q)
       found (ref (end k r)) us q n h = tt
 
   -- JUMP and JFALSE
@@ -339,7 +338,7 @@ module _ (p : List ℕ) (kept : Kept p) (outcomes : List ℕ) (s : State) (f : F
   unfolding jumpOp targetOf doingOf doings doJump opOf ops opJump
   jump-agrees e =
       by (act-zero 17 e (taken-by 17 e)) refl
-      (λ h. ap (did 0) (move-words p kept (s .config) f fs sound deep (offsetOf p (f .method) + a)))
+      (λ h. ap (did 0) (move-words (busy .stack) (offsetOf p (f .method) + a)))
 
   pub jfalse-agrees : opAt p (f .place) ≡ 18 → Good act (jfalseOp p w hd a)
   unfolding jfalseOp targetOf doingOf doings doJFalse opOf ops opJFalse valOf numberOf valueWords
@@ -351,9 +350,9 @@ module _ (p : List ℕ) (kept : Kept p) (outcomes : List ℕ) (s : State) (f : F
           (cond (eqb (valOf u .number) 0) (did 0 (dropTo w hd (offsetOf p (f .method) + a))) (did 0 (dropTop w hd)))
       found empty us q n h = tt
       found (int z) us q n h = tt
-      found (bool true) us q n h = ap (did 0) (drop-words p kept (s .config) f fs sound deep (bool true) us q)
+      found (bool true) us q n h = ap (did 0) (drop-words (busy .stack) (bool true) us q)
       found (bool false) us q n h =
-          ap (did 0) (drop-to-words p kept (s .config) f fs sound deep (bool false) us (offsetOf p (f .method) + a) q)
+          ap (did 0) (drop-to-words (busy .stack) (bool false) us (offsetOf p (f .method) + a) q)
       found (ref t) us q n h = tt
 
   -- NOT
@@ -366,8 +365,8 @@ module _ (p : List ℕ) (kept : Kept p) (outcomes : List ℕ) (s : State) (f : F
           → Good (doNot (scene 1 (u ∷ us))) (did 0 (onTop w hd (boolVal (bit (eqb (valOf u .number) 0)))))
       found empty us q n h = tt
       found (int z) us q n h = tt
-      found (bool true) us q n h = ap (did 0) (top-words p kept (s .config) f fs sound deep (bool true) (bool false) us q)
-      found (bool false) us q n h = ap (did 0) (top-words p kept (s .config) f fs sound deep (bool false) (bool true) us q)
+      found (bool true) us q n h = ap (did 0) (top-words (busy .stack) (bool true) (bool false) us q)
+      found (bool false) us q n h = ap (did 0) (top-words (busy .stack) (bool false) (bool true) us q)
       found (ref t) us q n h = tt
 
   -- two ints
@@ -402,7 +401,7 @@ module _ (p : List ℕ) (kept : Kept p) (outcomes : List ℕ) (s : State) (f : F
       values empty (ref r) us q h = refl
       values (int y) empty us q h = refl
       values (int y) (int x) us q h =
-          let fine : All (ValueSound (s .config)) (int y ∷ int x ∷ us) = subst (All (ValueSound (s .config))) q (sound .0 .pending) in
+          let fine : All (ValueSound (s .config)) (int y ∷ int x ∷ us) = subst (All (ValueSound (s .config))) q (busy .stack .sound .0 .pending) in
           both x y us q (fine .1 .0) (fine .0) h
       values (int y) (bool b) us q h = tt
       values (int y) (ref r) us q h = tt
@@ -439,7 +438,7 @@ module _ (p : List ℕ) (kept : Kept p) (outcomes : List ℕ) (s : State) (f : F
       within : (inRange z ≡ true) × (word32 z ≡ n % 4294967296) → Agrees (result (scene 2 (y ∷ x ∷ us)) z) w (did 0 (overTwo w hd (intVal (n % 4294967296))))
       within e =
           subst (λ (b : Bool). Agrees (cond b (pushes (scene 2 (y ∷ x ∷ us)) (int z)) (faults 26)) w (did 0 (overTwo w hd (intVal (n % 4294967296))))) (sym (e .0))
-          (ap (did 0) (ap (λ (m : ℕ). overTwo w hd (intVal m)) (sym (e .1)) ∙ two-words p kept (s .config) f fs sound deep y x (int z) us q))
+          (ap (did 0) (ap (λ (m : ℕ). overTwo w hd (intVal m)) (sym (e .1)) ∙ two-words (busy .stack) y x (int z) us q))
 
   pub add-agrees : opAt p (f .place) ≡ 19 → Good act (addOp w hd)
   unfolding addOp doingOf doings doAdd opOf ops opArith
@@ -458,9 +457,9 @@ module _ (p : List ℕ) (kept : Kept p) (outcomes : List ℕ) (s : State) (f : F
       → Good (pushes (scene 2 (y ∷ x ∷ us)) (bool c)) (did 0 (overTwo w hd (boolVal (bit b))))
   unfolding valOf tagOf numberOf valueWords
   test-good b true y x us e q h =
-      ap (did 0) (ap (λ (t : Bool). overTwo w hd (boolVal (bit t))) e ∙ two-words p kept (s .config) f fs sound deep y x (bool true) us q)
+      ap (did 0) (ap (λ (t : Bool). overTwo w hd (boolVal (bit t))) e ∙ two-words (busy .stack) y x (bool true) us q)
   test-good b false y x us e q h =
-      ap (did 0) (ap (λ (t : Bool). overTwo w hd (boolVal (bit t))) e ∙ two-words p kept (s .config) f fs sound deep y x (bool false) us q)
+      ap (did 0) (ap (λ (t : Bool). overTwo w hd (boolVal (bit t))) e ∙ two-words (busy .stack) y x (bool false) us q)
 
   pub eq-agrees : opAt p (f .place) ≡ 21 → Good act (eqOp w hd)
   unfolding eqOp doingOf doings doEq opOf ops opCompare
@@ -478,7 +477,7 @@ module _ (p : List ℕ) (kept : Kept p) (outcomes : List ℕ) (s : State) (f : F
 
   -- the method that instruction place belongs to is the frame's
   pub owner-is : ownerOf p (f .place) ≡ f .method
-  owner-is = inside-owner p kept (record { method = sound .0 .method; behind = sound .0 .behind; ahead = sound .0 .inside })
+  owner-is = inside-owner p (busy .stack .kept) (record { method = busy .stack .sound .0 .method; behind = busy .stack .sound .0 .behind; ahead = busy .stack .sound .0 .inside })
 
   any-taken : (vs : List Value) (j : ℕ) → j < length vs → any isEmpty (take (suc j) vs) ≡ (any isEmpty (take j vs) || isEmpty (getD vs j empty))
   any-taken [] j h = absurd (not-suc-le-zero h)
@@ -500,13 +499,13 @@ module _ (p : List ℕ) (kept : Kept p) (outcomes : List ℕ) (s : State) (f : F
   empty-args (suc j) h =
       ap₂ _||_ (empty-args j (le-of-suc-le h))
       (ap (λ (i : ℕ). eqb (getD w i 0) 0) {x = topAt hd 1 - 2 * j} {y = topAt hd (suc j)} (omega arith)
-      ∙ ap (λ (v : Val). eqb (v .tag) 0) (top-read p kept (s .config) f fs sound deep j h)
+      ∙ ap (λ (v : Val). eqb (v .tag) 0) (top-read (busy .stack) j h)
       ∙ tag-test (getD (f .pending) j empty))
       ∙ sym (any-taken (f .pending) j h)
 
   call-method : opAt p (f .place) ≡ 12 → paramsOf p a ≤ 8
   unfolding opOf ops opCall
-  call-method e = kept .rows a (ltb→lt a (methods p) (argument-kept 12 e)) .params
+  call-method e = busy .stack .kept .rows a (ltb→lt a (methods p) (argument-kept 12 e)) .params
 
   pub call-agrees : opAt p (f .place) ≡ 12 → Good act (callOp p w hd a)
   unfolding callOp doingOf doings doCall opOf ops opCall
@@ -525,7 +524,7 @@ module _ (p : List ℕ) (kept : Kept p) (outcomes : List ℕ) (s : State) (f : F
           → Good (cond b starts (faults 25)) (cond (leb 8 (suc (length fs))) (did 25 w) (did 0 (opened p w hd a n)))
       room-test true t l h =
           ap (λ (b : Bool). cond b (did 25 w) (did 0 (opened p w hd a n))) (lt-leb 8 (suc (length fs)) (ltb-true (suc (length fs)) 8 t))
-          ∙ ap (did 0) (opened-words p kept (s .config) f fs sound deep (ltb-true (suc (length fs)) 8 t) a n (call-method e) l)
+          ∙ ap (did 0) (opened-words (busy .stack) (ltb-true (suc (length fs)) 8 t) a n (call-method e) l)
       room-test false t l h =
           ap (λ (b : Bool). cond b (did 25 w) (did 0 (opened p w hd a n))) (le-leb 8 (suc (length fs)) (ltb-false (suc (length fs)) 8 t))
 
@@ -553,46 +552,45 @@ returned-one : (t : ℕ) → eqb t 0 ≡ false → length (returned t) ≡ 1
 unfolding returned
 returned-one t e = ap (λ (b : Bool). length (cond b [] (t ∷ []))) e
 
-module _ (p : List ℕ) (kept : Kept p) (outcomes : List ℕ) (s : State) (f : Frame) where
-  -- a return of vs into the frames fs
-  abbrev Returns : List Value → (fs : List Frame) → All (FrameSound p (s .config)) (f ∷ fs) → length fs < 8 → Did → Type 0
-  Returns vs fs sound deep d = Height (returnTo vs fs) → Agrees (returnTo vs fs) (processWords (runs (f ∷ fs))) d
+-- a return of vs into the frames fs, from frame f
+abbrev Returns : Frame → List Value → List Frame → Did → Type 0
+Returns f vs fs d = Height (returnTo vs fs) → Agrees (returnTo vs fs) (processWords (runs (f ∷ fs))) d
 
-  void-return : (fs : List Frame) (sound : All (FrameSound p (s .config)) (f ∷ fs)) (deep : length fs < 8)
-      → Returns [] fs sound deep
-      (cond (eqb (suc (length fs)) 1) (did 113 (processWords (runs (f ∷ fs)))) (did 0 (closed (processWords (runs (f ∷ fs))) (head p kept (s .config) f fs sound deep))))
-  void-return [] sound deep h = refl
-  void-return (g ∷ gs) sound deep h =
-      ap (λ (b : Bool). cond b (did 113 (processWords (runs (f ∷ g ∷ gs)))) (did 0 (closed (processWords (runs (f ∷ g ∷ gs))) (head p kept (s .config) f (g ∷ gs) sound deep))))
+module _ {p : List ℕ} (outcomes : List ℕ) (s : State) {f : Frame} where
+  void-return : (fs : List Frame) → Stack p (s .config) f fs
+      → Returns f [] fs
+      (cond (eqb (suc (length fs)) 1) (did 113 (processWords (runs (f ∷ fs)))) (did 0 (closed (processWords (runs (f ∷ fs))) (headIn f fs))))
+  void-return [] stack h = refl
+  void-return (g ∷ gs) stack h =
+      ap (λ (b : Bool). cond b (did 113 (processWords (runs (f ∷ g ∷ gs)))) (did 0 (closed (processWords (runs (f ∷ g ∷ gs))) (headIn f (g ∷ gs)))))
       (ne-eqb (suc (suc (length gs))) 1 (λ e. omega arith))
-      ∙ ap (did 0) (closed-words p kept (s .config) f g gs sound deep)
+      ∙ ap (did 0) (closed-words stack)
 
-  value-return : (u : Value) (fs : List Frame) (sound : All (FrameSound p (s .config)) (f ∷ fs)) (deep : length fs < 8)
-      → Returns (u ∷ []) fs sound deep
-      (cond (eqb (suc (length fs)) 1) (did 113 (processWords (runs (f ∷ fs)))) (did 0 (handed (closed (processWords (runs (f ∷ fs))) (head p kept (s .config) f fs sound deep)) (valOf u))))
-  value-return u [] sound deep h = refl
-  value-return u (g ∷ gs) sound deep h =
-      ap (λ (b : Bool). cond b (did 113 (processWords (runs (f ∷ g ∷ gs)))) (did 0 (handed (closed (processWords (runs (f ∷ g ∷ gs))) (head p kept (s .config) f (g ∷ gs) sound deep)) (valOf u))))
+  value-return : (u : Value) (fs : List Frame) → Stack p (s .config) f fs
+      → Returns f (u ∷ []) fs
+      (cond (eqb (suc (length fs)) 1) (did 113 (processWords (runs (f ∷ fs)))) (did 0 (handed (closed (processWords (runs (f ∷ fs))) (headIn f fs)) (valOf u))))
+  value-return u [] stack h = refl
+  value-return u (g ∷ gs) stack h =
+      ap (λ (b : Bool). cond b (did 113 (processWords (runs (f ∷ g ∷ gs)))) (did 0 (handed (closed (processWords (runs (f ∷ g ∷ gs))) (headIn f (g ∷ gs))) (valOf u))))
       (ne-eqb (suc (suc (length gs))) 1 (λ e. omega arith))
       ∙ ap (did 0)
-      (ap (λ (l : List ℕ). handed l (valOf u)) (closed-words p kept (s .config) f g gs sound deep)
-      ∙ handed-words p kept (s .config) f g gs sound deep u h)
+      (ap (λ (l : List ℕ). handed l (valOf u)) (closed-words stack)
+      ∙ handed-words stack u h)
 
-  pub ret-agrees : (fs : List Frame) (sound : All (FrameSound p (s .config)) (f ∷ fs)) (deep : length fs < 8) (small : argAt p (f .place) < 65536)
-      → opAt p (f .place) ≡ 13
-      → Good p kept outcomes s f fs sound deep small (atFrame p outcomes s f fs) (retOp p (processWords (runs (f ∷ fs))) (head p kept (s .config) f fs sound deep))
+  pub ret-agrees : {fs : List Frame} (busy : AtWork p (s .config) f fs) → opAt p (f .place) ≡ 13
+      → Good outcomes s busy (atFrame p outcomes s f fs) (retOp p (processWords (runs (f ∷ fs))) (headIn f fs))
   unfolding retOp doingOf doings doRet opOf ops opRet
-  ret-agrees fs sound deep small e =
+  ret-agrees {fs} busy e =
       ⊎-elim (λ t. void (eqb-true (returnOf p (f .method)) 0 t) t) (λ t. valued t) (decide (eqb (returnOf p (f .method)) 0))
     where
       w : List ℕ
       w = processWords (runs (f ∷ fs))
 
       hd : Head
-      hd = head p kept (s .config) f fs sound deep
+      hd = headIn f fs
 
       taken : takenAt p (f .place) ≡ length (returned (returnOf p (f .method)))
-      taken = taken-by p kept outcomes s f fs sound deep small 13 e ∙ ap (λ (m : ℕ). length (returned (returnOf p m))) (owner-is p kept outcomes s f fs sound deep small)
+      taken = taken-by outcomes s busy 13 e ∙ ap (λ (m : ℕ). length (returned (returnOf p m))) (owner-is outcomes s busy)
 
       none-taken : returnOf p (f .method) ≡ 0 → takenAt p (f .place) ≡ 0
       none-taken z = taken ∙ ap (λ (t : ℕ). length (returned t)) z ∙ returned-none
@@ -600,19 +598,19 @@ module _ (p : List ℕ) (kept : Kept p) (outcomes : List ℕ) (s : State) (f : F
       one-taken : eqb (returnOf p (f .method)) 0 ≡ false → takenAt p (f .place) ≡ 1
       one-taken t = taken ∙ returned-one (returnOf p (f .method)) t
 
-      void : returnOf p (f .method) ≡ 0 → eqb (returnOf p (f .method)) 0 ≡ true → Good p kept outcomes s f fs sound deep small (atFrame p outcomes s f fs) (retOp p w hd)
+      void : returnOf p (f .method) ≡ 0 → eqb (returnOf p (f .method)) 0 ≡ true → Good outcomes s busy (atFrame p outcomes s f fs) (retOp p w hd)
       void z t =
-          by p kept outcomes s f fs sound deep small
-          (act-zero p kept outcomes s f fs sound deep small 13 e (none-taken z))
+          by outcomes s busy
+          (act-zero outcomes s busy 13 e (none-taken z))
           (ap (λ (b : Bool). cond b (cond (eqb (suc (length fs)) 1) (did 113 w) (did 0 (closed w hd))) (unlessEmpty (valueAt w (topAt hd 1)) w (cond (eqb (suc (length fs)) 1) (did 113 w) (did 0 (handed (closed w hd) (valueAt w (topAt hd 1))))))) t)
-          (void-return fs sound deep)
+          (void-return fs (busy .stack))
 
-      valued : eqb (returnOf p (f .method)) 0 ≡ false → Good p kept outcomes s f fs sound deep small (atFrame p outcomes s f fs) (retOp p w hd)
+      valued : eqb (returnOf p (f .method)) 0 ≡ false → Good outcomes s busy (atFrame p outcomes s f fs) (retOp p w hd)
       valued t =
-          as-did p kept outcomes s f fs sound deep small (atFrame p outcomes s f fs)
+          as-did outcomes s busy (atFrame p outcomes s f fs)
           (ap (λ (b : Bool). cond b (cond (eqb (suc (length fs)) 1) (did 113 w) (did 0 (closed w hd))) (unlessEmpty (valueAt w (topAt hd 1)) w (cond (eqb (suc (length fs)) 1) (did 113 w) (did 0 (handed (closed w hd) (valueAt w (topAt hd 1))))))) t)
-          (top-op p kept outcomes s f fs sound deep small 13 (λ v. cond (eqb (suc (length fs)) 1) (did 113 w) (did 0 (handed (closed w hd) v))) e (one-taken t)
-          (λ u us q n. value-return u fs sound deep))
+          (top-op outcomes s busy 13 (λ v. cond (eqb (suc (length fs)) 1) (did 113 w) (did 0 (handed (closed w hd) v))) e (one-taken t)
+          (λ u us q n. value-return u fs (busy .stack)))
 
 -- one step
 
@@ -645,48 +643,47 @@ left-answers p w h (suc (suc (suc (suc (suc (suc (suc (suc (suc (suc (suc (suc (
 left-answers p w h (suc (suc (suc (suc (suc (suc (suc (suc (suc (suc (suc (suc (suc (suc (suc (suc zero)))))))))))))))) a t = refl
 left-answers p w h (suc (suc (suc (suc (suc (suc (suc (suc (suc (suc (suc (suc (suc (suc (suc (suc (suc k))))))))))))))))) a t = absurd (true≢false (sym t))
 
-module _ (p : List ℕ) (kept : Kept p) (outcomes : List ℕ) (s : State) (f : Frame) (fs : List Frame)
-    (sound : All (FrameSound p (s .config)) (f ∷ fs)) (deep : length fs < 8) (small : argAt p (f .place) < 65536) where
+module _ {p : List ℕ} (outcomes : List ℕ) (s : State) {f : Frame} {fs : List Frame} (busy : AtWork p (s .config) f fs) where
   -- a running process's step is its op's function
   step-is : stepOp p (processWords (runs (f ∷ fs)))
-      ≡ actOp p (processWords (runs (f ∷ fs))) (head p kept (s .config) f fs sound deep) (opAt p (f .place)) (argAt p (f .place))
+      ≡ actOp p (processWords (runs (f ∷ fs))) (headIn f fs) (opAt p (f .place)) (argAt p (f .place))
   unfolding stepOp
   step-is =
       ap (λ (h : Head). cond (eqb (h .status) 1) (actOp p (processWords (runs (f ∷ fs))) h (opAt p (h .place)) (argAt p (h .place))) (did 1 (processWords (runs (f ∷ fs)))))
-      (head-is p kept (s .config) f fs sound deep)
+      (head-is (busy .stack))
 
   -- an op that is left answers 100 and its number
   pub step-left : isLeft (opAt p (f .place)) ≡ true → stepOp p (processWords (runs (f ∷ fs))) ≡ did (100 + opAt p (f .place)) (processWords (runs (f ∷ fs)))
-  step-left t = step-is ∙ left-answers p (processWords (runs (f ∷ fs))) (head p kept (s .config) f fs sound deep) (opAt p (f .place)) (argAt p (f .place)) t
+  step-left t = step-is ∙ left-answers p (processWords (runs (f ∷ fs))) (headIn f fs) (opAt p (f .place)) (argAt p (f .place)) t
 
   op-agrees : (op : ℕ) → opAt p (f .place) ≡ op → isLeft op ≡ false
-      → Good p kept outcomes s f fs sound deep small (atFrame p outcomes s f fs) (actOp p (processWords (runs (f ∷ fs))) (head p kept (s .config) f fs sound deep) op (argAt p (f .place)))
+      → Good outcomes s busy (atFrame p outcomes s f fs) (actOp p (processWords (runs (f ∷ fs))) (headIn f fs) op (argAt p (f .place)))
   unfolding actOp opFunctions intOp boolOp clearOp opOf ops unlisted
-  op-agrees zero e t = absurd (argument-kept p kept outcomes s f fs sound deep small 0 e)
-  op-agrees (suc zero) e t = int-agrees p kept outcomes s f fs sound deep small e
-  op-agrees (suc (suc zero)) e t = bool-agrees p kept outcomes s f fs sound deep small e
-  op-agrees (suc (suc (suc zero))) e t = get-agrees p kept outcomes s f fs sound deep small e
-  op-agrees (suc (suc (suc (suc zero)))) e t = put-agrees p kept outcomes s f fs sound deep small e
-  op-agrees (suc (suc (suc (suc (suc zero))))) e t = drop-agrees p kept outcomes s f fs sound deep small e
-  op-agrees (suc (suc (suc (suc (suc (suc zero)))))) e t = clear-agrees p kept outcomes s f fs sound deep small e
+  op-agrees zero e t = absurd (argument-kept outcomes s busy 0 e)
+  op-agrees (suc zero) e t = int-agrees outcomes s busy e
+  op-agrees (suc (suc zero)) e t = bool-agrees outcomes s busy e
+  op-agrees (suc (suc (suc zero))) e t = get-agrees outcomes s busy e
+  op-agrees (suc (suc (suc (suc zero)))) e t = put-agrees outcomes s busy e
+  op-agrees (suc (suc (suc (suc (suc zero))))) e t = drop-agrees outcomes s busy e
+  op-agrees (suc (suc (suc (suc (suc (suc zero)))))) e t = clear-agrees outcomes s busy e
   op-agrees (suc (suc (suc (suc (suc (suc (suc zero))))))) e t = absurd (true≢false t)
   op-agrees (suc (suc (suc (suc (suc (suc (suc (suc zero)))))))) e t = absurd (true≢false t)
-  op-agrees (suc (suc (suc (suc (suc (suc (suc (suc (suc zero))))))))) e t = end-agrees p kept outcomes s f fs sound deep small e
+  op-agrees (suc (suc (suc (suc (suc (suc (suc (suc (suc zero))))))))) e t = end-agrees outcomes s busy e
   op-agrees (suc (suc (suc (suc (suc (suc (suc (suc (suc (suc zero)))))))))) e t = absurd (true≢false t)
   op-agrees (suc (suc (suc (suc (suc (suc (suc (suc (suc (suc (suc zero))))))))))) e t = absurd (true≢false t)
-  op-agrees (suc (suc (suc (suc (suc (suc (suc (suc (suc (suc (suc (suc zero)))))))))))) e t = call-agrees p kept outcomes s f fs sound deep small e
-  op-agrees (suc (suc (suc (suc (suc (suc (suc (suc (suc (suc (suc (suc (suc zero))))))))))))) e t = ret-agrees p kept outcomes s f fs sound deep small e
+  op-agrees (suc (suc (suc (suc (suc (suc (suc (suc (suc (suc (suc (suc zero)))))))))))) e t = call-agrees outcomes s busy e
+  op-agrees (suc (suc (suc (suc (suc (suc (suc (suc (suc (suc (suc (suc (suc zero))))))))))))) e t = ret-agrees outcomes s busy e
   op-agrees (suc (suc (suc (suc (suc (suc (suc (suc (suc (suc (suc (suc (suc (suc zero)))))))))))))) e t = absurd (true≢false t)
   op-agrees (suc (suc (suc (suc (suc (suc (suc (suc (suc (suc (suc (suc (suc (suc (suc zero))))))))))))))) e t = absurd (true≢false t)
   op-agrees (suc (suc (suc (suc (suc (suc (suc (suc (suc (suc (suc (suc (suc (suc (suc (suc zero)))))))))))))))) e t = absurd (true≢false t)
-  op-agrees (suc (suc (suc (suc (suc (suc (suc (suc (suc (suc (suc (suc (suc (suc (suc (suc (suc zero))))))))))))))))) e t = jump-agrees p kept outcomes s f fs sound deep small e
-  op-agrees (suc (suc (suc (suc (suc (suc (suc (suc (suc (suc (suc (suc (suc (suc (suc (suc (suc (suc zero)))))))))))))))))) e t = jfalse-agrees p kept outcomes s f fs sound deep small e
-  op-agrees (suc (suc (suc (suc (suc (suc (suc (suc (suc (suc (suc (suc (suc (suc (suc (suc (suc (suc (suc zero))))))))))))))))))) e t = add-agrees p kept outcomes s f fs sound deep small e
-  op-agrees (suc (suc (suc (suc (suc (suc (suc (suc (suc (suc (suc (suc (suc (suc (suc (suc (suc (suc (suc (suc zero)))))))))))))))))))) e t = sub-agrees p kept outcomes s f fs sound deep small e
-  op-agrees (suc (suc (suc (suc (suc (suc (suc (suc (suc (suc (suc (suc (suc (suc (suc (suc (suc (suc (suc (suc (suc zero))))))))))))))))))))) e t = eq-agrees p kept outcomes s f fs sound deep small e
-  op-agrees (suc (suc (suc (suc (suc (suc (suc (suc (suc (suc (suc (suc (suc (suc (suc (suc (suc (suc (suc (suc (suc (suc zero)))))))))))))))))))))) e t = less-agrees p kept outcomes s f fs sound deep small e
-  op-agrees (suc (suc (suc (suc (suc (suc (suc (suc (suc (suc (suc (suc (suc (suc (suc (suc (suc (suc (suc (suc (suc (suc (suc zero))))))))))))))))))))))) e t = not-agrees p kept outcomes s f fs sound deep small e
-  op-agrees (suc (suc (suc (suc (suc (suc (suc (suc (suc (suc (suc (suc (suc (suc (suc (suc (suc (suc (suc (suc (suc (suc (suc (suc k)))))))))))))))))))))))) e t = absurd (argument-kept p kept outcomes s f fs sound deep small (suc (suc (suc (suc (suc (suc (suc (suc (suc (suc (suc (suc (suc (suc (suc (suc (suc (suc (suc (suc (suc (suc (suc (suc k)))))))))))))))))))))))) e)
+  op-agrees (suc (suc (suc (suc (suc (suc (suc (suc (suc (suc (suc (suc (suc (suc (suc (suc (suc zero))))))))))))))))) e t = jump-agrees outcomes s busy e
+  op-agrees (suc (suc (suc (suc (suc (suc (suc (suc (suc (suc (suc (suc (suc (suc (suc (suc (suc (suc zero)))))))))))))))))) e t = jfalse-agrees outcomes s busy e
+  op-agrees (suc (suc (suc (suc (suc (suc (suc (suc (suc (suc (suc (suc (suc (suc (suc (suc (suc (suc (suc zero))))))))))))))))))) e t = add-agrees outcomes s busy e
+  op-agrees (suc (suc (suc (suc (suc (suc (suc (suc (suc (suc (suc (suc (suc (suc (suc (suc (suc (suc (suc (suc zero)))))))))))))))))))) e t = sub-agrees outcomes s busy e
+  op-agrees (suc (suc (suc (suc (suc (suc (suc (suc (suc (suc (suc (suc (suc (suc (suc (suc (suc (suc (suc (suc (suc zero))))))))))))))))))))) e t = eq-agrees outcomes s busy e
+  op-agrees (suc (suc (suc (suc (suc (suc (suc (suc (suc (suc (suc (suc (suc (suc (suc (suc (suc (suc (suc (suc (suc (suc zero)))))))))))))))))))))) e t = less-agrees outcomes s busy e
+  op-agrees (suc (suc (suc (suc (suc (suc (suc (suc (suc (suc (suc (suc (suc (suc (suc (suc (suc (suc (suc (suc (suc (suc (suc zero))))))))))))))))))))))) e t = not-agrees outcomes s busy e
+  op-agrees (suc (suc (suc (suc (suc (suc (suc (suc (suc (suc (suc (suc (suc (suc (suc (suc (suc (suc (suc (suc (suc (suc (suc (suc k)))))))))))))))))))))))) e t = absurd (argument-kept outcomes s busy (suc (suc (suc (suc (suc (suc (suc (suc (suc (suc (suc (suc (suc (suc (suc (suc (suc (suc (suc (suc (suc (suc (suc (suc k)))))))))))))))))))))))) e)
 
   -- any other op does what the definitions say
   pub step-agrees : isLeft (opAt p (f .place)) ≡ false → Height (atFrame p outcomes s f fs)

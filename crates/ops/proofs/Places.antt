@@ -5,14 +5,12 @@ use mathlib.Core.List.{List, [], _∷_}
 use native.Mathlib.Nat.{mod-eq-of-lt, add-zero, add-mod-right}
 use native.Mathlib.Omega.{arith}
 use lib.ListN.{getD, set, length, length-set}
-use Rattle.lists.specs.Lists.{All}
-use Rattle.table.proofs.Accepted.{Kept}
 use Rattle.table.proofs.Methods.{end-within}
 use Rattle.machine.specs.Value.{Value, empty}
 use Rattle.machine.specs.State.{Frame, Config, atPlace, withPending, withSlot, push}
 use Rattle.machine.specs.Act.{passedBy}
 use Rattle.machine.specs.Entry.{runs}
-use Rattle.machine.specs.Sound.{FrameSound}
+use Rattle.machine.proofs.Reached.{Stack}
 use Rattle.layout.specs.Layout.{valueWords, headWords, frameValues, processWords}
 use Rattle.layout.proofs.Frames.{tagOf, numberOf, write, frame-slot-get, frame-slot-set, frame-pending-get, frame-pending-set, frame-push, frame-pop}
 use Rattle.layout.proofs.Process.{part, Fitting, headsBelow, valuesBelow, process-part, process-fitting, part-count, part-status, part-fault, part-head-get, part-head-set, part-value-get, part-value-set}
@@ -21,26 +19,30 @@ use Rattle.store.specs.Words.{valueAt, putValue, headAt, headOf, putTop, slotAt
 use Rattle.store.proofs.Vals.{valOf}
 use Rattle.ops.specs.Did.{none, pushOn, onTop, dropTop, dropTo, overTwo, inSlot}
 
-module _ (p : List ℕ) (kept : Kept p) (c : Config) (f : Frame) (fs : List Frame) (sound : All (FrameSound p c) (f ∷ fs)) (deep : length fs < 8) where
+-- the head of a process that runs with frame f above fs
+abbrev pub headIn : Frame → List Frame → Head
+headIn f fs = record {
+  status = 1;
+  fault = 0;
+  frames = suc (length fs);
+  method = f .method;
+  place = f .place;
+  pending = length (f .pending);
+}
+
+module _ {p : List ℕ} {c : Config} {f : Frame} {fs : List Frame} (stack : Stack p c f fs) where
   -- the words of the process, its head, and how its stretches fit
-  abbrev pub words : List ℕ
+  abbrev words : List ℕ
   words = processWords (runs (f ∷ fs))
 
-  abbrev pub head : Head
-  head = record {
-    status = 1;
-    fault = 0;
-    frames = suc (length fs);
-    method = f .method;
-    place = f .place;
-    pending = length (f .pending);
-  }
+  abbrev head : Head
+  head = headIn f fs
 
   abbrev stretches : List ℕ → List ℕ → List ℕ
   stretches hd vs = part (length fs) (headsBelow fs) hd (valuesBelow fs) vs
 
   fitting : Fitting (length fs) (headsBelow fs) (headWords f) (valuesBelow fs) (frameValues f)
-  fitting = process-fitting p c f fs sound deep
+  fitting = process-fitting p c f fs (stack .sound) (stack .deep)
 
   -- the same with other words of the same length in the frame at work
   fitting-as : (hd vs : List ℕ) → length hd ≡ 4 → length vs ≡ 48 → Fitting (length fs) (headsBelow fs) hd (valuesBelow fs) vs
@@ -56,7 +58,7 @@ module _ (p : List ℕ) (kept : Kept p) (c : Config) (f : Frame) (fs : List Fram
   words-part = process-part f fs
 
   pub place-small : f .place < 4096
-  place-small = omega (arith, sound .0 .inside, end-within p kept (f .method) (sound .0 .method), kept .sizes .instructions-most)
+  place-small = omega (arith, stack .sound .0 .inside, end-within p (stack .kept) (f .method) (stack .sound .0 .method), stack .kept .sizes .instructions-most)
 
   pub head-is : headOf words ≡ head
   unfolding headOf headAt headWords
@@ -91,16 +93,16 @@ module _ (p : List ℕ) (kept : Kept p) (c : Config) (f : Frame) (fs : List Fram
   unfolding slotAt tagOf numberOf
   slot-read s h =
       value-read (slotAt head s) (2 * s) (getD (f .slots) s empty) (omega arith) (omega arith)
-      (frame-slot-get f (sound .0 .width) s 0 (2 * s) h (omega arith) (omega arith))
-      (frame-slot-get f (sound .0 .width) s 1 (2 * s + 1) h (omega arith) refl)
+      (frame-slot-get f (stack .sound .0 .width) s 0 (2 * s) h (omega arith) (omega arith))
+      (frame-slot-get f (stack .sound .0 .width) s 1 (2 * s + 1) h (omega arith) refl)
 
   pub top-read : (d : ℕ) → d < length (f .pending) → valueAt words (topAt head (suc d)) ≡ valOf (getD (f .pending) d empty)
   unfolding topAt tagOf numberOf
   top-read d h =
       value-read (topAt head (suc d)) (32 + 2 * (length (f .pending) - suc d)) (getD (f .pending) d empty)
-      (omega (arith, sound .0 .height)) (omega (arith, h))
-      (frame-pending-get f (sound .0 .width) d 0 (32 + 2 * (length (f .pending) - suc d)) h (omega arith) (omega arith))
-      (frame-pending-get f (sound .0 .width) d 1 (32 + 2 * (length (f .pending) - suc d) + 1) h (omega arith) (omega arith))
+      (omega (arith, stack .sound .0 .height)) (omega (arith, h))
+      (frame-pending-get f (stack .sound .0 .width) d 0 (32 + 2 * (length (f .pending) - suc d)) h (omega arith) (omega arith))
+      (frame-pending-get f (stack .sound .0 .width) d 1 (32 + 2 * (length (f .pending) - suc d) + 1) h (omega arith) (omega arith))
 
   -- writes
 
@@ -165,7 +167,7 @@ module _ (p : List ℕ) (kept : Kept p) (c : Config) (f : Frame) (fs : List Fram
   unfolding pushOn topAt stepped pushed passedBy frameValues
   push-words v h =
       one-write (push v (passedBy 0 f)) (topAt head 0) (32 + 2 * length (f .pending)) v (stepped (pushed head)) (omega arith) (omega arith)
-      (frame-push f (sound .0 .width) (32 + 2 * length (f .pending)) v h refl)
+      (frame-push f (stack .sound .0 .width) (32 + 2 * length (f .pending)) v h refl)
       refl refl next-place (mod-eq-of-lt (omega arith) ∙ omega arith)
 
   -- a slot written
@@ -173,7 +175,7 @@ module _ (p : List ℕ) (kept : Kept p) (c : Config) (f : Frame) (fs : List Fram
   unfolding inSlot slotAt stepped passedBy frameValues
   slot-words s v h =
       one-write (withSlot s v (passedBy 0 f)) (slotAt head s) (2 * s) v (stepped head) (omega arith) (omega arith)
-      (frame-slot-set f (sound .0 .width) s (2 * s) v h refl)
+      (frame-slot-set f (stack .sound .0 .width) s (2 * s) v h refl)
       refl refl next-place refl
 
   -- a slot written, the frame staying where it stands
@@ -182,7 +184,7 @@ module _ (p : List ℕ) (kept : Kept p) (c : Config) (f : Frame) (fs : List Fram
   slot-put s v h =
       ap (λ (l : List ℕ). putValue l (slotAt head s) (valOf v)) words-part
       ∙ value-put (frameValues f) (slotAt head s) (2 * s) v long (omega arith) (omega arith)
-      ∙ ap (stretches (headWords f)) (frame-slot-set f (sound .0 .width) s (2 * s) v h refl)
+      ∙ ap (stretches (headWords f)) (frame-slot-set f (stack .sound .0 .width) s (2 * s) v h refl)
       ∙ sym (process-part (withSlot s v f) fs)
 
   -- the top value off, and the frame at instruction i
@@ -192,18 +194,18 @@ module _ (p : List ℕ) (kept : Kept p) (c : Config) (f : Frame) (fs : List Fram
   drop-at u us i h e k pl pe =
       one-write (atPlace i (withPending us f)) (topAt head 1) (32 + 2 * length us) empty h
       (omega (arith, less)) (omega (arith, ap length e))
-      (frame-pop f (sound .0 .width) (32 + 2 * length us) u us e less refl)
+      (frame-pop f (stack .sound .0 .width) (32 + 2 * length us) u us e less refl)
       refl k pl pe
     where
       less : length us < 8
-      less = omega (arith, sound .0 .height, ap length e)
+      less = omega (arith, stack .sound .0 .height, ap length e)
 
   -- one pending value fewer
   fewer : (u : Value) (us : List Value) → f .pending ≡ u ∷ us → (length (f .pending) + 4294967295) % 4294967296 ≡ length us
   fewer u us e =
       ap (λ (n : ℕ). n % 4294967296) (omega (arith, ap length e))
       ∙ add-mod-right (length us) 4294967296
-      ∙ mod-eq-of-lt (omega (arith, sound .0 .height, ap length e))
+      ∙ mod-eq-of-lt (omega (arith, stack .sound .0 .height, ap length e))
 
   pub drop-words : (u : Value) (us : List Value) → f .pending ≡ u ∷ us
       → dropTop words head ≡ processWords (runs (atPlace (suc (f .place)) (withPending us f) ∷ fs))
@@ -221,8 +223,8 @@ module _ (p : List ℕ) (kept : Kept p) (c : Config) (f : Frame) (fs : List Fram
   unfolding onTop topAt stepped frameValues
   top-words u v us e =
       one-write (atPlace (suc (f .place)) (withPending (v ∷ us) f)) (topAt head 1) (32 + 2 * (length (f .pending) - 1)) v (stepped head)
-      (omega (arith, sound .0 .height)) (omega (arith, ap length e))
-      (frame-pending-set f (sound .0 .width) 0 (32 + 2 * (length (f .pending) - 1)) v (omega (arith, ap length e)) refl
+      (omega (arith, stack .sound .0 .height)) (omega (arith, ap length e))
+      (frame-pending-set f (stack .sound .0 .width) 0 (32 + 2 * (length (f .pending) - 1)) v (omega (arith, ap length e)) refl
       ∙ ap (λ (l : List Value). frameValues (withPending (set l 0 v) f)) e)
       refl refl next-place (ap length e)
 
@@ -235,18 +237,18 @@ module _ (p : List ℕ) (kept : Kept p) (c : Config) (f : Frame) (fs : List Fram
       (sym (ap length second) ∙ write-long (frameValues (withPending (x ∷ us) f)) (32 + 2 * length us) v (sym (ap length first) ∙ write-long (frameValues f) (32 + 2 * suc (length us)) empty long))
       (ap (λ (l : List ℕ). putValue (putValue l (topAt head 1) none) (topAt head 2) (valOf v)) words-part
       ∙ ap (λ (l : List ℕ). putValue l (topAt head 2) (valOf v))
-      (value-put (frameValues f) (topAt head 1) (32 + 2 * suc (length us)) empty long (omega (arith, sound .0 .height, ap length e)) (omega (arith, ap length e))
+      (value-put (frameValues f) (topAt head 1) (32 + 2 * suc (length us)) empty long (omega (arith, stack .sound .0 .height, ap length e)) (omega (arith, ap length e))
       ∙ ap (stretches (headWords f)) first)
       ∙ value-put (frameValues (withPending (x ∷ us) f)) (topAt head 2) (32 + 2 * length us) v (sym (ap length first) ∙ write-long (frameValues f) (32 + 2 * suc (length us)) empty long)
-      (omega (arith, sound .0 .height, ap length e)) (omega (arith, ap length e))
+      (omega (arith, stack .sound .0 .height, ap length e)) (omega (arith, ap length e))
       ∙ ap (stretches (headWords f)) second)
       refl refl next-place (fewer y (x ∷ us) e)
     where
       first : write (frameValues f) (32 + 2 * suc (length us)) empty ≡ frameValues (withPending (x ∷ us) f)
-      first = frame-pop f (sound .0 .width) (32 + 2 * suc (length us)) y (x ∷ us) e (omega (arith, sound .0 .height, ap length e)) refl
+      first = frame-pop f (stack .sound .0 .width) (32 + 2 * suc (length us)) y (x ∷ us) e (omega (arith, stack .sound .0 .height, ap length e)) refl
 
       second : write (frameValues (withPending (x ∷ us) f)) (32 + 2 * length us) v ≡ frameValues (withPending (v ∷ us) f)
-      second = frame-pending-set (withPending (x ∷ us) f) (sound .0 .width) 0 (32 + 2 * length us) v (omega arith) (omega arith)
+      second = frame-pending-set (withPending (x ∷ us) f) (stack .sound .0 .width) 0 (32 + 2 * length us) v (omega arith) (omega arith)
 
   -- the frame at another instruction
   pub move-words : (i : ℕ) → putTop words (movedTo head i) ≡ processWords (runs (atPlace i f ∷ fs))
@@ -259,5 +261,5 @@ module _ (p : List ℕ) (kept : Kept p) (c : Config) (f : Frame) (fs : List Fram
   unfolding topAt pushed
   push-back v h =
       one-write (push v f) (topAt head 0) (32 + 2 * length (f .pending)) v (pushed head) (omega arith) (omega arith)
-      (frame-push f (sound .0 .width) (32 + 2 * length (f .pending)) v h refl)
+      (frame-push f (stack .sound .0 .width) (32 + 2 * length (f .pending)) v h refl)
       refl refl refl (mod-eq-of-lt (omega arith) ∙ omega arith)

@@ -1,5 +1,5 @@
 -- Texts in the parts in which they are written. These definitions follow the code.
-use Prim.Native.Nat.{ℕ, suc}
+use Prim.Native.Nat.{ℕ}
 use mathlib.Core.List.{List, [], _∷_, _++_}
 use lib.Dec.{ltb}
 use Rattle.lines.specs.declared.TraceLine.{TraceLine}

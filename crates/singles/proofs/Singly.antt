@@ -18,7 +18,7 @@ use Rattle.machine.specs.Entry.{Effect, runs, counted, making, applied, effectO
 use Rattle.machine.specs.Run.{fits}
 use Rattle.machine.specs.Answer.{traceAfter}
 use Rattle.machine.specs.Sound.{FrameSound, ConfigSound}
-use Rattle.machine.proofs.Reached.{Reached}
+use Rattle.machine.proofs.Reached.{Reached, Running}
 use Rattle.machine.proofs.Typing.{Typed}
 use Rattle.machine.proofs.Effects.{effect-typed}
 use Rattle.machine.proofs.Sound.{config-sound}
@@ -117,123 +117,123 @@ module _ {p outcomes : List ℕ} {s : State} {t0 : List ℕ} {room : ℕ} (here 
                 ∙ written.line-written (s .lines) t0 (lineOf k n ev) (omega (arith, here .holds, leb-false room (length (s .lines)) h))
                 ∙ ap (λ (l : List Line). traceAfter (s .lines ++ l) t0) (sym ls)
 
-    -- a running process
+  -- a running process
 
-    module _ (f : Frame) (fs : List Frame) (fine : All (FrameSound p config) (f ∷ fs)) (deep : length fs < 8) (stands : processAt config n ≡ runs (f ∷ fs)) where
-      pub part-now : partOf work n ≡ processWords (runs (f ∷ fs))
-      part-now = part-is config laid rest n made ∙ ap processWords stands
+  module _ {f : Frame} {fs : List Frame} (live : Running p config n f fs) where
+    pub part-now : partOf work n ≡ processWords (runs (f ∷ fs))
+    part-now = part-is config laid rest n (live .made) ∙ ap processWords (live .stands)
 
-      abbrev pub words : List ℕ
-      words = processWords (runs (f ∷ fs))
+    abbrev pub words : List ℕ
+    words = processWords (runs (f ∷ fs))
 
-      -- a fault, by whatever code it came
-      pub fault-as : (code m : ℕ) → 20 ≤ m → m ≤ 27
-          → concludeOp p words code (config .qubits) (config .channels) outcomes (s .used) ≡ left (faultTold m) (processWords (record { status = stopped m; frames = f ∷ fs }))
-          → singleOp p outcomes trace work room count n code ≡ tried (applied p outcomes k s n (faults m))
-      unfolding applied countedWords
-      fault-as code m low high conc =
-          single-law code (faultTold m) halted (stops m) (applied p outcomes k s n (faults m))
-          (ap (λ (w : List ℕ). concludeOp p w code (config .qubits) (config .channels) outcomes (s .used)) part-now
-          ∙ conc
-          ∙ ap (λ (gs : List Frame). left (faultTold m) (processWords (record { status = stopped m; frames = gs }))) (sym frames-are))
-          (process-length p config halted (record { status = (low, high, some); depth = deep-now; frames = fine-now }))
-          refl refl refl (omega arith) refl
-        where
-          halted : Process
-          halted = record { status = stopped m; frames = processAt config n .frames }
+    -- a fault, by whatever code it came
+    pub fault-as : (code m : ℕ) → 20 ≤ m → m ≤ 27
+        → concludeOp p words code (config .qubits) (config .channels) outcomes (s .used) ≡ left (faultTold m) (processWords (record { status = stopped m; frames = f ∷ fs }))
+        → singleOp p outcomes trace work room count n code ≡ tried (applied p outcomes k s n (faults m))
+    unfolding applied countedWords
+    fault-as code m low high conc =
+        single-law (live .made) code (faultTold m) halted (stops m) (applied p outcomes k s n (faults m))
+        (ap (λ (w : List ℕ). concludeOp p w code (config .qubits) (config .channels) outcomes (s .used)) part-now
+        ∙ conc
+        ∙ ap (λ (gs : List Frame). left (faultTold m) (processWords (record { status = stopped m; frames = gs }))) (sym frames-are))
+        (process-length p config halted (record { status = (low, high, some); depth = deep-now; frames = fine-now }))
+        refl refl refl (omega arith) refl
+      where
+        halted : Process
+        halted = record { status = stopped m; frames = processAt config n .frames }
 
-          frames-are : processAt config n .frames ≡ f ∷ fs
-          frames-are = ap (λ (pr : Process). pr .frames) stands
+        frames-are : processAt config n .frames ≡ f ∷ fs
+        frames-are = ap (λ (pr : Process). pr .frames) (live .stands)
 
-          some : 0 < length (processAt config n .frames)
-          some = subst (λ (gs : List Frame). 0 < length gs) (sym frames-are) (omega arith)
+        some : 0 < length (processAt config n .frames)
+        some = subst (λ (gs : List Frame). 0 < length gs) (sym frames-are) (omega arith)
 
-          deep-now : length (processAt config n .frames) ≤ 8
-          deep-now = subst (λ (gs : List Frame). length gs ≤ 8) (sym frames-are) (omega arith)
+        deep-now : length (processAt config n .frames) ≤ 8
+        deep-now = subst (λ (gs : List Frame). length gs ≤ 8) (sym frames-are) (omega arith)
 
-          fine-now : All (FrameSound p config) (processAt config n .frames)
-          fine-now = subst (All (FrameSound p config)) (sym frames-are) fine
+        fine-now : All (FrameSound p config) (processAt config n .frames)
+        fine-now = subst (All (FrameSound p config)) (sym frames-are) (live .busy .stack .sound)
 
-      pub fault-law : (m : ℕ) → 20 ≤ m → m ≤ 27 → singleOp p outcomes trace work room count n m ≡ tried (applied p outcomes k s n (faults m))
-      fault-law m low high =
-          fault-as m m low high
-          (concluded-fault p (reached .kept) outcomes s f fs fine deep (reached .narrow (f .place)) (sound .qubitCount) m (omega arith) (omega arith) (config .qubits) (config .channels) outcomes (s .used))
+    pub fault-law : (m : ℕ) → 20 ≤ m → m ≤ 27 → singleOp p outcomes trace work room count n m ≡ tried (applied p outcomes k s n (faults m))
+    fault-law m low high =
+        fault-as m m low high
+        (concluded-fault outcomes s (live .busy) (sound .qubitCount) m (omega arith) (omega arith) (config .qubits) (config .channels) outcomes (s .used))
 
-      -- the root frame's return
-      pub ends-as : (code : ℕ)
-          → concludeOp p words code (config .qubits) (config .channels) outcomes (s .used) ≡ left (toldOf 0 finishes) (processWords (record { status = finished; frames = [] }))
-          → singleOp p outcomes trace work room count n code ≡ tried (applied p outcomes k s n ends)
-      unfolding applied countedWords
-      ends-as code conc =
-          single-law code (toldOf 0 finishes) gone finishes (applied p outcomes k s n ends)
-          (ap (λ (w : List ℕ). concludeOp p w code (config .qubits) (config .channels) outcomes (s .used)) part-now ∙ conc)
-          (process-length p config gone (record { status = refl; depth = omega arith; frames = tt }))
-          refl refl refl (omega arith) refl
-        where
-          gone : Process
-          gone = record { status = finished; frames = [] }
+    -- the root frame's return
+    pub ends-as : (code : ℕ)
+        → concludeOp p words code (config .qubits) (config .channels) outcomes (s .used) ≡ left (toldOf 0 finishes) (processWords (record { status = finished; frames = [] }))
+        → singleOp p outcomes trace work room count n code ≡ tried (applied p outcomes k s n ends)
+    unfolding applied countedWords
+    ends-as code conc =
+        single-law (live .made) code (toldOf 0 finishes) gone finishes (applied p outcomes k s n ends)
+        (ap (λ (w : List ℕ). concludeOp p w code (config .qubits) (config .channels) outcomes (s .used)) part-now ∙ conc)
+        (process-length p config gone (record { status = refl; depth = omega arith; frames = tt }))
+        refl refl refl (omega arith) refl
+      where
+        gone : Process
+        gone = record { status = finished; frames = [] }
 
-      pub ends-law : singleOp p outcomes trace work room count n 113 ≡ tried (applied p outcomes k s n ends)
-      ends-law =
-          ends-as 113
-          (concluded-ends p (reached .kept) outcomes s f fs fine deep (reached .narrow (f .place)) (sound .qubitCount) (config .qubits) (config .channels) outcomes (s .used))
+    pub ends-law : singleOp p outcomes trace work room count n 113 ≡ tried (applied p outcomes k s n ends)
+    ends-law =
+        ends-as 113
+        (concluded-ends outcomes s (live .busy) (sound .qubitCount) (config .qubits) (config .channels) outcomes (s .used))
 
-      -- the words of a process after its entry fill its part
-      module _ (a : Act) (does : actOf p outcomes s n ≡ a) where
-        after-typed : Typed p (applied p outcomes k s n a .config)
-        unfolding effectOf
-        after-typed =
-            subst (λ (x : Act). Typed p (applied p outcomes k s n x .config)) does (effect-typed p (reached .kept) outcomes (reached .bytes) s (reached .kinds) (reached .typed) k n)
+    -- the words of a process after its entry fill its part
+    module _ (a : Act) (does : actOf p outcomes s n ≡ a) where
+      after-typed : Typed p (applied p outcomes k s n a .config)
+      unfolding effectOf
+      after-typed =
+          subst (λ (x : Act). Typed p (applied p outcomes k s n x .config)) does (effect-typed p (reached .kept) outcomes (reached .bytes) s (reached .kinds) (reached .typed) k n)
 
-        after-sound : ConfigSound p (applied p outcomes k s n a .config)
-        after-sound = config-sound p (reached .kept) (after-typed .0) (applied p outcomes k s n a .config) (after-typed .1)
+      after-sound : ConfigSound p (applied p outcomes k s n a .config)
+      after-sound = config-sound p (reached .kept) (after-typed .0) (applied p outcomes k s n a .config) (after-typed .1)
 
-        after-laid : Laid (applied p outcomes k s n a .config)
-        after-laid = laid-sound p (applied p outcomes k s n a .config) after-sound
+      after-laid : Laid (applied p outcomes k s n a .config)
+      after-laid = laid-sound p (applied p outcomes k s n a .config) after-sound
 
-        pub after-long : (q : ℕ) (pr : Process) → processAt (applied p outcomes k s n a .config) q ≡ pr → length (processWords pr) ≡ 512
-        unfolding processAt
-        after-long q pr e =
-            subst (λ (x : Process). length (processWords x) ≡ 512) e
-            (All-getD (λ x. length (processWords x) ≡ 512) (applied p outcomes k s n a .config .processes) q unmade after-laid
-            (process-length p config unmade (record { status = refl; depth = omega arith; frames = tt })))
+      pub after-long : (q : ℕ) (pr : Process) → processAt (applied p outcomes k s n a .config) q ≡ pr → length (processWords pr) ≡ 512
+      unfolding processAt
+      after-long q pr e =
+          subst (λ (x : Process). length (processWords x) ≡ 512) e
+          (All-getD (λ x. length (processWords x) ≡ 512) (applied p outcomes k s n a .config .processes) q unmade after-laid
+          (process-length p config unmade (record { status = refl; depth = omega arith; frames = tt })))
 
-      -- an op that goes on with one line of its own process
-      pub line-law : (code : ℕ) (gs : List Frame) (ev : Event) (u : ℕ) → actOf p outcomes s n ≡ goes gs (ev ∷ []) u
-          → concludeOp p words code (config .qubits) (config .channels) outcomes (s .used) ≡ left (toldOf u ev) (processWords (runs gs))
-          → ev .kind ≢ 1 → ev .kind ≢ 2 → u ≤ 1
-          → singleOp p outcomes trace work room count n code ≡ tried (applied p outcomes k s n (goes gs (ev ∷ []) u))
-      unfolding applied countedWords
-      line-law code gs ev u does conc one two few =
-          single-law code (toldOf u ev) (runs gs) ev (applied p outcomes k s n (goes gs (ev ∷ []) u))
-          (ap (λ (w : List ℕ). concludeOp p w code (config .qubits) (config .channels) outcomes (s .used)) part-now ∙ conc)
-          (after-long (goes gs (ev ∷ []) u) does n (runs gs) (process-same config n (runs gs) made))
-          refl refl refl few
-          (ap₂ (λ (x y : Bool). cond x (set w 1 ((getD w 1 0 + 1) % 4294967296)) (cond y (set w 2 ((getD w 2 0 + 1) % 4294967296)) w)) (ne-eqb (ev .kind) 1 one) (ne-eqb (ev .kind) 2 two))
-        where
-          w : List ℕ
-          w = encode (setProcess config n (runs gs)) ++ rest
+    -- an op that goes on with one line of its own process
+    pub line-law : (code : ℕ) (gs : List Frame) (ev : Event) (u : ℕ) → actOf p outcomes s n ≡ goes gs (ev ∷ []) u
+        → concludeOp p words code (config .qubits) (config .channels) outcomes (s .used) ≡ left (toldOf u ev) (processWords (runs gs))
+        → ev .kind ≢ 1 → ev .kind ≢ 2 → u ≤ 1
+        → singleOp p outcomes trace work room count n code ≡ tried (applied p outcomes k s n (goes gs (ev ∷ []) u))
+    unfolding applied countedWords
+    line-law code gs ev u does conc one two few =
+        single-law (live .made) code (toldOf u ev) (runs gs) ev (applied p outcomes k s n (goes gs (ev ∷ []) u))
+        (ap (λ (w : List ℕ). concludeOp p w code (config .qubits) (config .channels) outcomes (s .used)) part-now ∙ conc)
+        (after-long (goes gs (ev ∷ []) u) does n (runs gs) (process-same config n (runs gs) (live .made)))
+        refl refl refl few
+        (ap₂ (λ (x y : Bool). cond x (set w 1 ((getD w 1 0 + 1) % 4294967296)) (cond y (set w 2 ((getD w 2 0 + 1) % 4294967296)) w)) (ne-eqb (ev .kind) 1 one) (ne-eqb (ev .kind) 2 two))
+      where
+        w : List ℕ
+        w = encode (setProcess config n (runs gs)) ++ rest
 
-      -- a thing made
-      pub made-law : (code : ℕ) (t : Thing) (gs : List Frame) → actOf p outcomes s n ≡ makes t gs
-          → concludeOp p words code (config .qubits) (config .channels) outcomes (s .used) ≡ left (toldOf 0 (making t)) (processWords (runs gs))
-          → ((i : ℕ) (d : Bool) → t ≢ end i d)
-          → singleOp p outcomes trace work room count n code ≡ tried (applied p outcomes k s n (makes t gs))
-      unfolding applied countedWords making counted setProcess processAt
-      made-law code (qubit q) gs does conc never =
-          single-law code (toldOf 0 (making (qubit q))) (runs gs) (making (qubit q)) (applied p outcomes k s n (makes (qubit q) gs))
-          (ap (λ (w : List ℕ). concludeOp p w code (config .qubits) (config .channels) outcomes (s .used)) part-now ∙ conc)
-          (after-long (makes (qubit q) gs) does n (runs gs) (process-same config n (runs gs) made))
-          refl refl refl (omega arith)
-          (ap (set (encode (setProcess config n (runs gs)) ++ rest) 1)
-          (ap (λ (i : ℕ). (i + 1) % 4294967296) (qubits-word (setProcess config n (runs gs)) rest) ∙ mod-eq-of-lt (omega (arith, sound .qubitCount)) ∙ omega arith)
-          ∙ qubit-counted (setProcess config n (runs gs)) q rest)
-      made-law code (channel q) gs does conc never =
-          single-law code (toldOf 0 (making (channel q))) (runs gs) (making (channel q)) (applied p outcomes k s n (makes (channel q) gs))
-          (ap (λ (w : List ℕ). concludeOp p w code (config .qubits) (config .channels) outcomes (s .used)) part-now ∙ conc)
-          (after-long (makes (channel q) gs) does n (runs gs) (process-same config n (runs gs) made))
-          refl refl refl (omega arith)
-          (ap (set (encode (setProcess config n (runs gs)) ++ rest) 2)
-          (ap (λ (i : ℕ). (i + 1) % 4294967296) (channels-word (setProcess config n (runs gs)) rest) ∙ mod-eq-of-lt (omega (arith, sound .channelCount)) ∙ omega arith)
-          ∙ channel-counted (setProcess config n (runs gs)) q rest)
-      made-law code (end i d) gs does conc never = absurd (never i d refl)
+    -- a thing (live .made)
+    pub made-law : (code : ℕ) (t : Thing) (gs : List Frame) → actOf p outcomes s n ≡ makes t gs
+        → concludeOp p words code (config .qubits) (config .channels) outcomes (s .used) ≡ left (toldOf 0 (making t)) (processWords (runs gs))
+        → ((i : ℕ) (d : Bool) → t ≢ end i d)
+        → singleOp p outcomes trace work room count n code ≡ tried (applied p outcomes k s n (makes t gs))
+    unfolding applied countedWords making counted setProcess processAt
+    made-law code (qubit q) gs does conc never =
+        single-law (live .made) code (toldOf 0 (making (qubit q))) (runs gs) (making (qubit q)) (applied p outcomes k s n (makes (qubit q) gs))
+        (ap (λ (w : List ℕ). concludeOp p w code (config .qubits) (config .channels) outcomes (s .used)) part-now ∙ conc)
+        (after-long (makes (qubit q) gs) does n (runs gs) (process-same config n (runs gs) (live .made)))
+        refl refl refl (omega arith)
+        (ap (set (encode (setProcess config n (runs gs)) ++ rest) 1)
+        (ap (λ (i : ℕ). (i + 1) % 4294967296) (qubits-word (setProcess config n (runs gs)) rest) ∙ mod-eq-of-lt (omega (arith, sound .qubitCount)) ∙ omega arith)
+        ∙ qubit-counted (setProcess config n (runs gs)) q rest)
+    made-law code (channel q) gs does conc never =
+        single-law (live .made) code (toldOf 0 (making (channel q))) (runs gs) (making (channel q)) (applied p outcomes k s n (makes (channel q) gs))
+        (ap (λ (w : List ℕ). concludeOp p w code (config .qubits) (config .channels) outcomes (s .used)) part-now ∙ conc)
+        (after-long (makes (channel q) gs) does n (runs gs) (process-same config n (runs gs) (live .made)))
+        refl refl refl (omega arith)
+        (ap (set (encode (setProcess config n (runs gs)) ++ rest) 2)
+        (ap (λ (i : ℕ). (i + 1) % 4294967296) (channels-word (setProcess config n (runs gs)) rest) ∙ mod-eq-of-lt (omega (arith, sound .channelCount)) ∙ omega arith)
+        ∙ channel-counted (setProcess config n (runs gs)) q rest)
+    made-law code (end i d) gs does conc never = absurd (never i d refl)
