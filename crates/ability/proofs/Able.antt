@@ -15,7 +15,6 @@ use Rattle.lists.specs.Lists.{any, every, All, below}
 use Rattle.lists.proofs.Tests.{decide}
 use Rattle.lists.proofs.Any.{All-getD}
 use Rattle.table.specs.Table.{opAt}
-use Rattle.table.proofs.Accepted.{Kept}
 use Rattle.machine.specs.Value.{end, ref, sideNo}
 use Rattle.machine.specs.State.{Frame, Status, running, finished, stopped, Process, Config, State, processAt, unmade}
 use Rattle.machine.specs.Act.{Offer, sends, receives, Act, idle, stuck, faults, goes, ends, makes, forks, offers, atFrames, byStatus, actOf}

@@ -40,7 +40,7 @@ use Rattle.singles.specs.Came.{Came, came, movedTo}
 use Rattle.handing.specs.MeetingLines.{metLine, valueLine, metWritten}
 use Rattle.entries.specs.Meetings.{exchangeOp}
 use Rattle.singles.proofs.Here.{Here}
-use Rattle.singles.proofs.Singly.{config, sound, laid, count, took, full, tried}
+use Rattle.singles.proofs.Singly.{sound, laid, count, took, full, tried}
 
 module _ {p outcomes : List ℕ} {s : State} {t0 : List ℕ} {room : ℕ} (here : Here p outcomes s t0 room) (rest : List ℕ) (k n : ℕ) where
   abbrev reached : Reached p outcomes s

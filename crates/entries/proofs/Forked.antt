@@ -41,7 +41,7 @@ use Rattle.singles.specs.Single.{singleOp}
 use Rattle.handing.specs.ForkLines.{forkWritten}
 use Rattle.entries.specs.Forking.{forkDone, startOp, tryOp, forkOp}
 use Rattle.singles.proofs.Here.{Here}
-use Rattle.singles.proofs.Singly.{config, sound, laid, count, took, full, tried, part-now, fault-law}
+use Rattle.singles.proofs.Singly.{sound, laid, count, took, full, tried, part-now, fault-law}
 
 module _ {p outcomes : List ℕ} {s : State} {t0 : List ℕ} {room : ℕ} (here : Here p outcomes s t0 room) (rest : List ℕ) (k n : ℕ)
     {f : Frame} {fs : List Frame} (live : Running p (s .config) n f fs) where

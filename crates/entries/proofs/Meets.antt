@@ -13,7 +13,6 @@ use Rattle.lists.proofs.Tests.{decide}
 use Rattle.table.specs.Table.{opAt}
 use Rattle.table.specs.Ops.{opOf, ops, opSend, opRecv}
 use Rattle.table.specs.Reading.{takenAt}
-use Rattle.table.proofs.Accepted.{Kept}
 use Rattle.machine.specs.Value.{qubit, channel, end, Value, empty, int, bool, ref, isEmpty}
 use Rattle.machine.specs.State.{Frame, Status, running, finished, stopped, Process, Config, State, processAt}
 use Rattle.machine.specs.Act.{Offer, sends, receives, Act, idle, stuck, faults, goes, ends, makes, forks, offers, doSend, doRecv, doings, doingOf, atFrame, atFrames, byStatus, actOf}

@@ -1,8 +1,9 @@
 -- The state before each entry, and how the run goes on or ends there. What a loop over the schedule needs to know.
-use Prim.Native.Nat.{ℕ, zero, suc, _≤_, _<_}
+use Prim.Native.Nat.{ℕ, zero, suc, _+_, _≤_, _<_}
 use mathlib.Core.Path.{_≡_, refl, _∙_, ap, ap₂, subst}
-use mathlib.Core.Bool.{Bool, true, false, cond, not, _&&_}
-use mathlib.Core.List.{List, [], _∷_}
+use mathlib.Core.Bool.{Bool, true, false, cond, not, _&&_, true≢false}
+use mathlib.Core.List.{List, [], _∷_, append-nil}
+use mathlib.Core.Option.{Option, none, some}
 use native.Mathlib.Nat.{le-of-suc-le-suc, not-suc-le-zero}
 use native.Mathlib.Omega.{arith}
 use lib.ListN.{getD, drop, length}
@@ -13,13 +14,39 @@ use Rattle.lists.proofs.Tests.{passed, passes}
 use Rattle.lists.proofs.First.{any-below}
 use Rattle.table.proofs.Accepted.{Kept}
 use Rattle.machine.specs.State.{Status, running, finished, stopped, Process, State, processAt, start, unmade}
-use Rattle.machine.specs.Act.{Act, byStatus, actOf}
-use Rattle.machine.specs.Entry.{effectOf, moves, able}
+use Rattle.machine.specs.Act.{Act, idle, stuck, faults, goes, ends, makes, forks, offers, byStatus, actOf}
+use Rattle.machine.specs.Entry.{Meeting, nothing, meetingOf, meetingIf, isMeeting, applied, effectOf, moves, able}
 use Rattle.machine.specs.Run.{Result, isOver, allOver, noneAble, fits, afterEffect, ended, runFrom, run}
 use Rattle.machine.proofs.Typing.{Typed}
 use Rattle.machine.proofs.Effects.{effect-typed}
 use Rattle.machine.proofs.Sound.{start-typed}
 use Rattle.machine.proofs.Ownership as own
+
+-- an entry of a process that cannot move does nothing
+pub unable-nothing : (p outcomes : List ℕ) (k : ℕ) (s : State) (n : ℕ) → able p outcomes s n ≡ false → effectOf p outcomes k s n ≡ nothing s
+unfolding able effectOf meetingIf isMeeting applied moves
+unable-nothing p outcomes k s n e = go (actOf p outcomes s n) e
+  where
+    unmet : (m : Option Meeting) → isMeeting m ≡ false → meetingIf k s m ≡ nothing s
+    unmet none e = refl
+    unmet (some m) e = absurd (true≢false e)
+
+    go : (a : Act) → moves p outcomes s n a ≡ false → applied p outcomes k s n a ≡ nothing s
+    go idle e = refl
+    go stuck e = refl
+    go (faults m) e = absurd (true≢false e)
+    go (goes fs es u) e = absurd (true≢false e)
+    go ends e = absurd (true≢false e)
+    go (makes t fs) e = absurd (true≢false e)
+    go (forks m args fs) e = absurd (true≢false e)
+    go (offers o) e = unmet (meetingOf p outcomes s n o) e
+
+pub after-nothing : (s : State) → afterEffect s (nothing s) ≡ s
+unfolding afterEffect
+after-nothing s = λ i. record { config = s .config; used = added i; lines = append-nil (s .lines) i }
+  where
+    added : s .used + 0 ≡ s .used
+    added = omega arith
 
 -- the state before entry k, whether the run comes to it or not
 unfoldable pub stateAt : List ℕ → List ℕ → List ℕ → ℕ → State

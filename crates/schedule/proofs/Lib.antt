@@ -1,5 +1,7 @@
 pub mod Modest
 pub mod Ready
+pub mod Taking
+pub mod Bursting
 pub mod Began
 pub mod Accepting
 pub mod Turning

@@ -28,12 +28,14 @@ use Rattle.turns.specs.Knowing.{unknown, withIdle, stillKnown, unlessTold}
 use Rattle.turns.specs.Bursts.{Stop, stopsAt, namedOp, isDone, stopsHere, burstOp}
 use Rattle.turns.specs.Turned.{turned, turnAt}
 use Rattle.schedule.specs.Left.{leftAs, leaves}
-use Rattle.schedule.proofs.Ready.{Inputs, Ready, Over, Turns, Burst-good, ready-start, ready-last, state-sound, turn-law, burst-law}
+use Rattle.schedule.proofs.Ready.{Inputs, Ready, Over, ready-start, ready-last, state-sound}
+use Rattle.schedule.proofs.Taking.{Turns, turn-law}
+use Rattle.schedule.proofs.Bursting.{Burst-good, burst-law}
 
 -- the state before the entry at which a burst has stopped, or at the schedule's end
 pub record Going (p schedule outcomes : List ℕ) (room : ℕ) (rest t0 work trace : List ℕ) (t : List (List ℕ)) (lines used : ℕ) (b : Burst) : Type 0 where
-  pub given : Inputs p schedule outcomes t0 room
-  pub stands : Burst-good given rest trace t lines used (stopsAt b work)
+  pub given : Inputs p schedule outcomes t0 rest room
+  pub stands : Burst-good given trace t lines used (stopsAt b work)
 
 -- words of 16 bits, and bytes
 narrow-words : (p : List ℕ) → ((i : ℕ) → getD p i 0 < 65536) → (i : ℕ) → argAt p i < 65536
@@ -44,8 +46,8 @@ all-bytes : (xs : List ℕ) → ((i : ℕ) → getD xs i 0 < 256) → All (λ x.
 all-bytes [] h = tt
 all-bytes (x ∷ xs) h = (h 0, all-bytes xs (λ i. h (suc i)))
 
-pub inputs : (p schedule outcomes t0 : List ℕ) {room : ℕ} → Kept p → ((i : ℕ) → getD p i 0 < 65536) → ((i : ℕ) → getD outcomes i 0 < 256)
-    → length schedule ≤ 65535 → room ≡ length t0 / 6 → Inputs p schedule outcomes t0 room
+pub inputs : (p schedule outcomes t0 : List ℕ) {rest : List ℕ} {room : ℕ} → Kept p → ((i : ℕ) → getD p i 0 < 65536) → ((i : ℕ) → getD outcomes i 0 < 256)
+    → length schedule ≤ 65535 → room ≡ length t0 / 6 → Inputs p schedule outcomes t0 rest room
 inputs p schedule outcomes t0 kept words bytes short room = record {
   kept = kept;
   narrow = narrow-words p words;
@@ -68,21 +70,21 @@ burst-past p t schedule work k known (suc left) =
     d = namedOp p work (getD schedule k 0) known
 
 module _ {p schedule outcomes : List ℕ} {room : ℕ} {t0 : List ℕ} where
-  pub going-start : Inputs p schedule outcomes t0 room → (w0 : List ℕ) → w0 ≡ encode (startConfig p) ++ drop 8192 w0
+  pub going-start : {w0 : List ℕ} → Inputs p schedule outcomes t0 (drop 8192 w0) room → w0 ≡ encode (startConfig p) ++ drop 8192 w0
       → {t : List (List ℕ)} → t ≡ nobody → {known : Known} → known ≡ unknown
       → {b : Burst} {work : List ℕ} → stopsAt b work ≡ burstOp p t schedule w0 0 known (length schedule - 0)
       → Going p schedule outcomes room (drop 8192 w0) t0 work t0 t 0 0 b
-  going-start given w0 e {t} i {known} j told = record {
+  going-start {w0} given e {t} i {known} j told = record {
     given = given;
     stands =
-        subst (Burst-good given (drop 8192 w0) t0 t 0 0) (sym told)
-        (burst-law given (drop 8192 w0) (length schedule - 0) 0 refl
-        (subst (λ (k : Known). Ready given (drop 8192 w0) 0 w0 t0 t 0 0 k) (sym j)
-        (subst (λ (u : List (List ℕ)). Ready given (drop 8192 w0) 0 w0 t0 u 0 0 unknown) (sym i) (ready-start given (drop 8192 w0) w0 e))));
+        subst (Burst-good given t0 t 0 0) (sym told)
+        (burst-law given (length schedule - 0) 0 refl
+        (subst (λ (k : Known). Ready given 0 w0 t0 t 0 0 k) (sym j)
+        (subst (λ (u : List (List ℕ)). Ready given 0 w0 t0 u 0 0 unknown) (sym i) (ready-start given w0 e))));
   }
 
   module _ {rest work trace : List ℕ} {t : List (List ℕ)} {lines used : ℕ} {b : Burst} (g : Going p schedule outcomes room rest t0 work trace t lines used b) where
-    abbrev there : Ready (g .given) rest (b .at) work trace t lines used (b .known)
+    abbrev there : Ready (g .given) (b .at) work trace t lines used (b .known)
     there = g .stands .ready
 
     pub few-lines : lines < 16000000
@@ -96,14 +98,14 @@ module _ {p schedule outcomes : List ℕ} {room : ℕ} {t0 : List ℕ} where
     rest-kept =
         ap (drop 8192) (there .store)
         ∙ drop-at (encode (stateAt p outcomes schedule (b .at) .config)) rest 8192
-        (encode-length p (stateAt p outcomes schedule (b .at) .config) (state-sound (g .given) rest (b .at)))
+        (encode-length p (stateAt p outcomes schedule (b .at) .config) (state-sound (g .given) (b .at)))
 
     pub going-from : Going p schedule outcomes room (drop 8192 work) t0 work trace t lines used b
     going-from = subst (λ (l : List ℕ). Going p schedule outcomes room l t0 work trace t lines used b) (sym rest-kept) g
 
     -- the words that a run leaves
     over-leaves : (w0 : List ℕ) → rest ≡ drop 8192 w0 → {at end : ℕ} {work′ trace′ : List ℕ} {lines′ used′ : ℕ}
-        → Over (g .given) rest at end work′ trace′ lines′ used′
+        → Over (g .given) at end work′ trace′ lines′ used′
         → leftAs (record { end = end; entries = at; lines = lines′; used = used′ }) trace′ work′ ≡ leaves (run p outcomes room schedule) t0 w0
     unfolding leaves storeAfter
     over-leaves w0 same {at} {end} o =
@@ -116,15 +118,15 @@ module _ {p schedule outcomes : List ℕ} {room : ℕ} {t0 : List ℕ} where
         → leftAs (record { end = end; entries = b .at; lines = lines; used = used }) trace work ≡ leaves (run p outcomes room schedule) t0 w0
     going-ends w0 same h {end} e =
         ap (λ (x : ℕ). leftAs (record { end = x; entries = b .at; lines = lines; used = used }) trace work) e
-        ∙ over-leaves w0 same (ready-last (g .given) rest (b .at) there h)
+        ∙ over-leaves w0 same (ready-last (g .given) (b .at) there h)
 
     module _ (more : b .at < length schedule) {r : Turn} {trace′ work′ : List ℕ}
         (told : turned r trace′ work′ ≡ turnAt p schedule outcomes trace work room t lines used b) where
-      turn : Turns (g .given) rest (b .at) t lines (turned r trace′ work′)
+      turn : Turns (g .given) (b .at) t lines (turned r trace′ work′)
       unfolding turnAt
       turn =
-          subst (Turns (g .given) rest (b .at) t lines) (sym told)
-          (turn-law (g .given) rest (b .at) there more (b .code) (b .offer) (g .stands .came more))
+          subst (Turns (g .given) (b .at) t lines) (sym told)
+          (turn-law (g .given) (b .at) there more (b .code) (b .offer) (g .stands .came more))
 
       -- the run is over
       pub going-over : (w0 : List ℕ) → rest ≡ drop 8192 w0 → r .end ≢ 0
@@ -132,7 +134,7 @@ module _ {p schedule outcomes : List ℕ} {room : ℕ} {t0 : List ℕ} where
       going-over w0 same h = ⊎-elim (λ x. absurd (h (x .0))) (λ x. over-leaves w0 same (x .1)) turn
 
       module _ (goes : r .end ≡ 0) where
-        next : (lines ≤ r .lines) × Ready (g .given) rest (suc (b .at)) work′ trace′ (notedFrom t trace′ lines (r .lines - lines)) (r .lines) (r .used)
+        next : (lines ≤ r .lines) × Ready (g .given) (suc (b .at)) work′ trace′ (notedFrom t trace′ lines (r .lines - lines)) (r .lines) (r .used)
             (unlessTold (r .known) (toldFrom trace′ lines (r .lines - lines)))
         next = ⊎-elim (λ x. (x .1, x .2)) (λ x. absurd (x .0 goes)) turn
 
@@ -153,11 +155,11 @@ module _ {p schedule outcomes : List ℕ} {room : ℕ} {t0 : List ℕ} where
           going-next = record {
             given = g .given;
             stands =
-                subst (Burst-good (g .given) rest trace′ u (r .lines) (r .used)) (sym stops)
-                (burst-law (g .given) rest (length schedule - (b .at + 1)) (b .at + 1) refl
-                (subst (λ (n : ℕ). Ready (g .given) rest n work′ trace′ u (r .lines) (r .used) known) {x = suc (b .at)} {y = b .at + 1} (omega arith)
-                (subst (λ (x : Known). Ready (g .given) rest (suc (b .at)) work′ trace′ u (r .lines) (r .used) x) (sym (knows ∙ ap (unlessTold (r .known)) says))
-                (subst (λ (v : List (List ℕ)). Ready (g .given) rest (suc (b .at)) work′ trace′ v (r .lines) (r .used) (unlessTold (r .known) (toldFrom trace′ lines (r .lines - lines))))
+                subst (Burst-good (g .given) trace′ u (r .lines) (r .used)) (sym stops)
+                (burst-law (g .given) (length schedule - (b .at + 1)) (b .at + 1) refl
+                (subst (λ (n : ℕ). Ready (g .given) n work′ trace′ u (r .lines) (r .used) known) {x = suc (b .at)} {y = b .at + 1} (omega arith)
+                (subst (λ (x : Known). Ready (g .given) (suc (b .at)) work′ trace′ u (r .lines) (r .used) x) (sym (knows ∙ ap (unlessTold (r .known)) says))
+                (subst (λ (v : List (List ℕ)). Ready (g .given) (suc (b .at)) work′ trace′ v (r .lines) (r .used) (unlessTold (r .known) (toldFrom trace′ lines (r .lines - lines))))
                 (sym noted) (next .1)))));
           }
 

@@ -65,6 +65,25 @@ module _ (p work : List ℕ) (n : ℕ) (known : Known) (code : ℕ) where
     idle = known .idle;
   }
 
+-- what is known still was known before, and after a step the process moves on by itself
+
+module _ (p work : List ℕ) (n : ℕ) (known : Known) where
+  pub still-some : (code : ℕ) → stillKnown p work n known code .some ≡ true → known .some ≡ true
+  unfolding stillKnown
+  still-some code e = go (known .some) e
+    where
+      go : (b : Bool) → cond b (cond (eqb code 0) (alone p work n) true) false ≡ true → b ≡ true
+      go true i = refl
+      go false i = i
+
+  pub still-alone : (code : ℕ) → code ≡ 0 → stillKnown p work n known code .some ≡ true → alone p work n ≡ true
+  unfolding stillKnown
+  still-alone code z e = go (known .some) (sym (ap (λ (c : ℕ). cond (known .some) (cond (eqb c 0) (alone p work n) true) false) z) ∙ e)
+    where
+      go : (b : Bool) → cond b (alone p work n) false ≡ true → alone p work n ≡ true
+      go true i = i
+      go false i = absurd (true≢false (sym i))
+
 -- a process was looked at
 
 pub beyond-alone : (p work : List ℕ) (n : ℕ) → 8 ≤ n → false ≡ alone p work n

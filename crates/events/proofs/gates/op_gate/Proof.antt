@@ -1,5 +1,5 @@
 -- `op_gate` goes by the gate's number.
-use Rattle.events.specs.Told.{gateOp, left}
+use Rattle.events.specs.Told.{gateOp}
 use Rattle.ops.proofs.Returns.{took, passed-by}
 use mathlib.Core.Path.{refl}
 use borrow.Author.Tests.{le-leb, lt-leb}
