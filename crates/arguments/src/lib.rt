@@ -1,4 +1,5 @@
-// Question 4. On the way the jumps' targets are marked, for question 5.
+// Question 4: the first instruction at fault, by its op and its argument. On the way the jumps' targets are marked, for
+// question 5. Asked is that questions 1 and 2 are passed.
 ghost use mathlib.Core.Path.{_≡_};
 ghost use Prim.Native.Nat.{_≤_, _<_};
 ghost use lib.Dec.{T};
