@@ -5,14 +5,15 @@ ghost use lib.ListN.{length};
 ghost use Rattle.table.specs.Table.{methods};
 ghost use Rattle.ops.specs.Did.{did, stepOp};
 ghost use Rattle.parts.specs.Parts.{partOf, onPart};
+use names::ProcessNo;
 use ops::step::step;
 
 // One step of process n; `start` is where the table's instructions begin.
-pub fn step_process(p: &[u16], start: usize, work: &mut [u32], n: u8) -> u32
-    requires { ⌜ (start ≡ 2 + 20 * methods (now p)) × (8192 ≤ length (now work)) × (n < 8) ⌝ }
-    ensures { λ r. ⌜ did r (now (work .exit)) ≡ onPart (now (work .entry)) n (stepOp (now (p .entry)) (partOf (now (work .entry)) n)) ⌝ }
+pub fn step_process(p: &[u16], start: usize, work: &mut [u32], n: ProcessNo) -> u32
+    requires { ⌜ (start ≡ 2 + 20 * methods (now p)) × (8192 ≤ length (now work)) × (n .0 < 8) ⌝ }
+    ensures { λ r. ⌜ did r (now (work .exit)) ≡ onPart (now (work .entry)) (n .0) (stepOp (now (p .entry)) (partOf (now (work .entry)) (n .0))) ⌝ }
 {
-    let from = 512 + 512 * (n as usize);
+    let from = 512 + 512 * (n.0 as usize);
     let to = from + 512;
     step(p, start, &mut work[from..to])
 }

@@ -36,7 +36,7 @@ fn step_named(p: &[u16], start: usize, work: &mut [u32], n: u8, known: Known) ->
     if known.is_idle(n) {
         return 1;
     }
-    step_process(p, start, work, n)
+    step_process(p, start, work, ProcessNo(n as u16))
 }
 
 // The process that the byte names moves by itself.

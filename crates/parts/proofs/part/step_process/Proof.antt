@@ -5,6 +5,9 @@ use borrow.Author.Needs.{needs}
 use Rattle.parts.proofs.part.step_process.Statement.{statement}
 use Rattle.parts.proofs.part.step_process.Tie as tie
 
+cast-from : tie.Need-cast-from
+cast-from c = search needs
+
 mul-from : tie.Need-mul-from
 mul-from c = search needs
 
@@ -33,12 +36,15 @@ same-length : tie.Need-same-length
 same-length c = search needs
 
 returns : tie.Need-returns
-returns c = lifted (c .before .before .before .before .before .before .args .work .now) (c .before .before .before .before .before .before .args .n) (c .before .before .step .result) (c .before .before .step .last .1 .1 .0) (stepOp (c .before .before .before .before .before .before .args .p .now)) (c .before .before .step .ensures)
+returns c =
+    let args = c .before .before .before .before .before .before .before .args in
+    lifted (args .work .now) (args .n .0) (c .before .before .step .result) (c .before .before .step .last .1 .1 .0) (stepOp (args .p .now)) (c .before .before .step .ensures)
 
 pub step-process-spec : {M : Type 1} → statement M
 step-process-spec =
     tie.close
     (tie.spec
+    cast-from
     mul-from
     add-from
     add-to
