@@ -16,6 +16,7 @@ verdictOf (Outcome i) = refused 6 i
 verdictOf Schedule = refused 7 0
 verdictOf Work = refused 8 0
 
+-- What is left to ask after question 5, and after question 3. These two follow the code.
 unfoldable pub inputQuestions : List ℕ → List ℕ → ℕ → Verdict
 inputQuestions schedule outcomes work = andThen (question6 outcomes) (andThen (question7 schedule) (question8 work))
 

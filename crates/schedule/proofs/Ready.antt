@@ -1,5 +1,5 @@
 -- What stands before an entry of the run: trace and store hold the state's lines and configuration, and the run from
--- there is the rest of the whole run. What each entry does to it.
+-- there is the rest of the whole run. What an entry in general does to it; Taking.antt and Bursting.antt go by kinds of entries.
 use Prim.Native.Nat.{ℕ, suc, _+_, _*_, _≤_, _<_}
 use mathlib.Core.Path.{_≡_, refl, sym, _∙_, ap, subst}
 use mathlib.Core.Logic.{_≢_, _⊎_, inl, inr, ⊎-elim}

@@ -39,6 +39,13 @@ use Rattle.singles.specs.Came.{Came, came, movedTo, fullAt}
 use Rattle.singles.specs.Single.{inPart, concludedAt, countedWords, toldLine, noted, singleOp}
 use Rattle.singles.proofs.Here.{Here}
 
+-- counting a thing changes no process
+counted-process : (t : Thing) (c : Config) (n : ℕ) → processAt (counted t c) n ≡ processAt c n
+unfolding counted processAt
+counted-process (qubit q) c n = refl
+counted-process (channel q) c n = refl
+counted-process (end q d) c n = refl
+
 module _ {p outcomes : List ℕ} {s : State} {t0 : List ℕ} {room : ℕ} (here : Here p outcomes s t0 room) (rest : List ℕ) (k n : ℕ) where
   abbrev reached : Reached p outcomes s
   reached = here .reached
@@ -214,25 +221,31 @@ module _ {p outcomes : List ℕ} {s : State} {t0 : List ℕ} {room : ℕ} (here 
         w : List ℕ
         w = encode (setProcess config n (runs gs)) ++ rest
 
-    -- a thing (live .made)
+    -- a thing made: the line of its making, where counting it leaves these words
+    making-law : (code : ℕ) (t : Thing) (gs : List Frame) → actOf p outcomes s n ≡ makes t gs
+        → concludeOp p words code (config .qubits) (config .channels) outcomes (s .used) ≡ left (toldOf 0 (making t)) (processWords (runs gs))
+        → countedWords (encode (setProcess config n (runs gs)) ++ rest) (making t .kind) ≡ encode (counted t (setProcess config n (runs gs))) ++ rest
+        → singleOp p outcomes trace work room count n code ≡ tried (applied p outcomes k s n (makes t gs))
+    unfolding applied
+    making-law code t gs does conc words-counted =
+        single-law (live .made) code (toldOf 0 (making t)) (runs gs) (making t) (applied p outcomes k s n (makes t gs))
+        (ap (λ (w : List ℕ). concludeOp p w code (config .qubits) (config .channels) outcomes (s .used)) part-now ∙ conc)
+        (after-long (makes t gs) does n (runs gs)
+        (counted-process t (setProcess config n (runs gs)) n ∙ process-same config n (runs gs) (live .made)))
+        refl refl refl (omega arith) words-counted
+
     pub made-law : (code : ℕ) (t : Thing) (gs : List Frame) → actOf p outcomes s n ≡ makes t gs
         → concludeOp p words code (config .qubits) (config .channels) outcomes (s .used) ≡ left (toldOf 0 (making t)) (processWords (runs gs))
         → ((i : ℕ) (d : Bool) → t ≢ end i d)
         → singleOp p outcomes trace work room count n code ≡ tried (applied p outcomes k s n (makes t gs))
-    unfolding applied countedWords making counted setProcess processAt
+    unfolding countedWords making counted setProcess
     made-law code (qubit q) gs does conc never =
-        single-law (live .made) code (toldOf 0 (making (qubit q))) (runs gs) (making (qubit q)) (applied p outcomes k s n (makes (qubit q) gs))
-        (ap (λ (w : List ℕ). concludeOp p w code (config .qubits) (config .channels) outcomes (s .used)) part-now ∙ conc)
-        (after-long (makes (qubit q) gs) does n (runs gs) (process-same config n (runs gs) (live .made)))
-        refl refl refl (omega arith)
+        making-law code (qubit q) gs does conc
         (ap (set (encode (setProcess config n (runs gs)) ++ rest) 1)
         (ap (λ (i : ℕ). (i + 1) % 4294967296) (qubits-word (setProcess config n (runs gs)) rest) ∙ mod-eq-of-lt (omega (arith, sound .qubitCount)) ∙ omega arith)
         ∙ qubit-counted (setProcess config n (runs gs)) q rest)
     made-law code (channel q) gs does conc never =
-        single-law (live .made) code (toldOf 0 (making (channel q))) (runs gs) (making (channel q)) (applied p outcomes k s n (makes (channel q) gs))
-        (ap (λ (w : List ℕ). concludeOp p w code (config .qubits) (config .channels) outcomes (s .used)) part-now ∙ conc)
-        (after-long (makes (channel q) gs) does n (runs gs) (process-same config n (runs gs) (live .made)))
-        refl refl refl (omega arith)
+        making-law code (channel q) gs does conc
         (ap (set (encode (setProcess config n (runs gs)) ++ rest) 2)
         (ap (λ (i : ℕ). (i + 1) % 4294967296) (channels-word (setProcess config n (runs gs)) rest) ∙ mod-eq-of-lt (omega (arith, sound .channelCount)) ∙ omega arith)
         ∙ channel-counted (setProcess config n (runs gs)) q rest)
