@@ -98,7 +98,7 @@ module _ {p outcomes : List ℕ} {s : State} {t0 : List ℕ} {room : ℕ} (here 
 
   -- the meeting of sender a and receiver b
 
-  module _ {a b : ℕ} {f : Frame} {fs : List Frame} (giver : Running p c a f fs) {g : Frame} {gs : List Frame} (taker : Running p c b g gs) (two : a ≢ b)
+  module _ {a b : ℕ} {f : Frame} {fs : List Frame} (sender : Running p c a f fs) {g : Frame} {gs : List Frame} (receiver : Running p c b g gs) (two : a ≢ b)
       (i i′ : ℕ) (d d′ : Bool) (v : Value) (hs hs′ : List Frame)
       (sending : atFrame p outcomes s f fs ≡ offers (sends i d v hs)) (receiving : atFrame p outcomes s g gs ≡ offers (receives i′ d′ hs′)) where
     abbrev join : Meeting
@@ -108,14 +108,14 @@ module _ {p outcomes : List ℕ} {s : State} {t0 : List ℕ} {room : ℕ} (here 
     effect = meeting k s join
 
     made-end : (us : List Value) → f .pending ≡ v ∷ ref (end i d) ∷ us → i < c .channels
-    made-end us q = (subst (All (ValueSound c)) q (giver .busy .stack .sound .0 .pending)) .1 .0
+    made-end us q = (subst (All (ValueSound c)) q (sender .busy .stack .sound .0 .pending)) .1 .0
 
     value-fine : (us : List Value) → f .pending ≡ v ∷ ref (end i d) ∷ us → ValueSound c v
-    value-fine us q = (subst (All (ValueSound c)) q (giver .busy .stack .sound .0 .pending)) .0
+    value-fine us q = (subst (All (ValueSound c)) q (sender .busy .stack .sound .0 .pending)) .0
 
     act-a : actOf p outcomes s a ≡ offers (sends i d v hs)
     unfolding actOf byStatus atFrames
-    act-a = ap (λ (pr : Process). byStatus (pr .status) (atFrames p outcomes s (pr .frames))) (giver .stands) ∙ sending
+    act-a = ap (λ (pr : Process). byStatus (pr .status) (atFrames p outcomes s (pr .frames))) (sender .stands) ∙ sending
 
     sender-after : (us : List Value) → hs ≡ atPlace (suc (f .place)) (withPending us f) ∷ fs → All (FrameSound p c) (atPlace (suc (f .place)) (withPending us f) ∷ fs)
     sender-after us e =
@@ -136,11 +136,11 @@ module _ {p outcomes : List ℕ} {s : State} {t0 : List ℕ} {room : ℕ} (here 
       sent = setProcess c a (runs (framesWithout (thingsOf (v ∷ [])) hs))
 
       mb-sent : b < length (sent .processes)
-      mb-sent = subst (λ (x : ℕ). b < x) (sym (count-set c a (runs (framesWithout (thingsOf (v ∷ [])) hs)))) (taker .made)
+      mb-sent = subst (λ (x : ℕ). b < x) (sym (count-set c a (runs (framesWithout (thingsOf (v ∷ [])) hs)))) (receiver .made)
 
       at-sender : processAt (effect .config) a ≡ runs (framesWithout (thingsOf (v ∷ [])) hs)
       unfolding meeting
-      at-sender = process-other sent b a (runs (pushTop v hs′)) two ∙ process-same c a (runs (framesWithout (thingsOf (v ∷ [])) hs)) (giver .made)
+      at-sender = process-other sent b a (runs (pushTop v hs′)) two ∙ process-same c a (runs (framesWithout (thingsOf (v ∷ [])) hs)) (sender .made)
 
       at-receiver : processAt (effect .config) b ≡ runs (pushTop v hs′)
       unfolding meeting
@@ -149,9 +149,9 @@ module _ {p outcomes : List ℕ} {s : State} {t0 : List ℕ} {room : ℕ} (here 
       store-met : metWords store a b (valOf v) ≡ encode (effect .config) ++ rest
       unfolding meeting pushTop
       store-met =
-          let r = sends-from outcomes s (giver .busy) i d v hs sending in
-          let r′ = receives-from outcomes s (taker .busy) i′ d′ hs′ receiving in
-          met-store outcomes s (laid here rest k n) rest (fineConfig .qubitCount) giver taker two v (ref (end i d)) (ref (end i′ d′)) (r .0) (r′ .0) (r .1) (r′ .1)
+          let r = sends-from outcomes s (sender .busy) i d v hs sending in
+          let r′ = receives-from outcomes s (receiver .busy) i′ d′ hs′ receiving in
+          met-store outcomes s (laid here rest k n) rest (fineConfig .qubitCount) sender receiver two v (ref (end i d)) (ref (end i′ d′)) (r .0) (r′ .0) (r .1) (r′ .1)
           (sender-after (r .0) (r .3))
           (ap (λ (l : List Frame). length (processWords (runs (framesWithout (thingsOf (v ∷ [])) l)))) (sym (r .3)) ∙ after-long a (runs (framesWithout (thingsOf (v ∷ [])) hs)) at-sender)
           (ap (λ (l : List Frame). length (processWords (runs (pushTop v l)))) (sym (r′ .2)) ∙ after-long b (runs (pushTop v hs′)) at-receiver)
@@ -160,7 +160,7 @@ module _ {p outcomes : List ℕ} {s : State} {t0 : List ℕ} {room : ℕ} (here 
       lines-met : length (s .lines) + 2 ≤ room → metWritten lines (length (s .lines)) k a b (valOf (ref (end i d))) (valOf v) ≡ traceAfter (s .lines ++ effect .lines) t0
       unfolding metWritten meeting
       lines-met h =
-          let r = sends-from outcomes s (giver .busy) i d v hs sending in
+          let r = sends-from outcomes s (sender .busy) i d v hs sending in
           ap₂ (λ (w : List ℕ) (j : ℕ). withLine w j (valueLine k a b (valOf v)))
           (ap (withLine lines (length (s .lines))) (met-line a b i d (made-end (r .0) (r .1)))
           ∙ written.line-written (s .lines) t0 (lineOf k a (met b i d)) (omega (arith, here .holds, h)))

@@ -69,7 +69,7 @@ operand-at {f = f} {fs = fs} stack d laid rest n l e args j h enough =
 -- meetings
 
 module _ {p : List ℕ} (outcomes : List ℕ) (s : State) (laid : Laid (s .config)) (rest : List ℕ) (few : s .config .qubits ≤ 32) where
-  pub met-store : {n r : ℕ} {f : Frame} {fs : List Frame} (giver : Running p (s .config) n f fs) {g : Frame} {gs : List Frame} (taker : Running p (s .config) r g gs) → n ≢ r
+  pub met-store : {n r : ℕ} {f : Frame} {fs : List Frame} (sender : Running p (s .config) n f fs) {g : Frame} {gs : List Frame} (receiver : Running p (s .config) r g gs) → n ≢ r
       → (v x u : Value) (us ws : List Value) → f .pending ≡ v ∷ x ∷ us → g .pending ≡ u ∷ ws
       → (after : All (FrameSound p (s .config)) (atPlace (suc (f .place)) (withPending us f) ∷ fs))
       → length (processWords (runs (framesWithout (thingsOf (v ∷ [])) (atPlace (suc (f .place)) (withPending us f) ∷ fs)))) ≡ 512
@@ -78,20 +78,20 @@ module _ {p : List ℕ} (outcomes : List ℕ) (s : State) (laid : Laid (s .confi
       ≡ encode (setProcess (setProcess (s .config) n (runs (framesWithout (thingsOf (v ∷ [])) (atPlace (suc (f .place)) (withPending us f) ∷ fs)))) r
       (runs (atPlace (suc (g .place)) (withPending (v ∷ ws) g) ∷ gs))) ++ rest
   unfolding metWords
-  met-store {n} {r} {f} {fs} giver {g} {gs} taker ne v x u us ws q q′ after long long′ =
+  met-store {n} {r} {f} {fs} sender {g} {gs} receiver ne v x u us ws q q′ after long long′ =
       ap (λ (w : List ℕ). withPart w r (takenWords (partOf w r) (valOf v)))
-      (part-changed (s .config) laid rest n (λ w. sentWords w (valOf v)) (runs (f ∷ fs)) sender (giver .made) (giver .stands)
-      (value-sent outcomes s (giver .busy) few v x us q after) long)
-      ∙ part-changed (setProcess (s .config) n sender) (laid-set (s .config) n sender laid long) rest r (λ w. takenWords w (valOf v)) (runs (g ∷ gs)) receiver
-      (subst (λ (k : ℕ). r < k) (sym (count-same n sender)) (taker .made))
-      (process-other (s .config) n r sender (λ i. ne (sym i)) ∙ taker .stands)
-      (value-taken (taker .busy .stack) u v ws q′) long′
+      (part-changed (s .config) laid rest n (λ w. sentWords w (valOf v)) (runs (f ∷ fs)) sender-after (sender .made) (sender .stands)
+      (value-sent outcomes s (sender .busy) few v x us q after) long)
+      ∙ part-changed (setProcess (s .config) n sender-after) (laid-set (s .config) n sender-after laid long) rest r (λ w. takenWords w (valOf v)) (runs (g ∷ gs)) receiver-after
+      (subst (λ (k : ℕ). r < k) (sym (count-same n sender-after)) (receiver .made))
+      (process-other (s .config) n r sender-after (λ i. ne (sym i)) ∙ receiver .stands)
+      (value-taken (receiver .busy .stack) u v ws q′) long′
     where
-      sender : Process
-      sender = runs (framesWithout (thingsOf (v ∷ [])) (atPlace (suc (f .place)) (withPending us f) ∷ fs))
+      sender-after : Process
+      sender-after = runs (framesWithout (thingsOf (v ∷ [])) (atPlace (suc (f .place)) (withPending us f) ∷ fs))
 
-      receiver : Process
-      receiver = runs (atPlace (suc (g .place)) (withPending (v ∷ ws) g) ∷ gs)
+      receiver-after : Process
+      receiver-after = runs (atPlace (suc (g .place)) (withPending (v ∷ ws) g) ∷ gs)
 
       count-same : (n : ℕ) (pr : Process) → length (setProcess (s .config) n pr .processes) ≡ length (s .config .processes)
       count-same n pr = count-set (s .config) n pr
