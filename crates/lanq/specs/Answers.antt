@@ -4,9 +4,9 @@ use Rattle.machine.specs.Answer.{Answer, refusal, ran}
 use Rattle.lanq.specs.declared.LanqAnswer.{LanqAnswer}
 
 -- refused 0 where accepted, else the number with its place
-unfoldable pub answerOf : Verdict → LanqAnswer
-answerOf accepted = record { refused = 0; place = 0; end = 0; entries = 0; lines = 0; outcomes = 0 }
-answerOf (refused n i) = record { refused = n; place = i; end = 0; entries = 0; lines = 0; outcomes = 0 }
+unfoldable pub checkAnswer : Verdict → LanqAnswer
+checkAnswer accepted = record { refused = 0; place = 0; end = 0; entries = 0; lines = 0; outcomes = 0 }
+checkAnswer (refused n i) = record { refused = n; place = i; end = 0; entries = 0; lines = 0; outcomes = 0 }
 
 -- the run's: refused 0 where it was accepted, with end, entries used, lines written and outcomes used
 unfoldable pub runAnswer : Answer → LanqAnswer

@@ -7,9 +7,9 @@ ghost use lib.ListN.{length};
 ghost use Rattle.machine.specs.Answer.{linesIn};
 ghost use Rattle.machine.specs.Answer as machine;
 ghost use Rattle.run.specs.Answers.{traceLeft, storeLeft};
-ghost use Rattle.lanq.specs.Answers.{answerOf, runAnswer};
-use questions::Check;
-use questions::ask;
+ghost use Rattle.lanq.specs.Answers.{checkAnswer, runAnswer};
+use check_questions::Check;
+use check_questions::ask;
 use run::Answer;
 use run::run;
 use trace::lookup::qubit_holder;
@@ -47,7 +47,7 @@ pub extern "C" fn lanq_check(
     outcomes: &[u8],
     work: usize,
 ) -> LanqAnswer
-    ensures { λ r. ⌜ r ≡ answerOf (questions (now (program .entry)) (now (schedule .entry)) (now (outcomes .entry)) work) ⌝ }
+    ensures { λ r. ⌜ r ≡ checkAnswer (questions (now (program .entry)) (now (schedule .entry)) (now (outcomes .entry)) work) ⌝ }
 {
     let answer = ask(program, schedule, outcomes, work);
     match answer {

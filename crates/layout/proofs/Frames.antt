@@ -11,7 +11,7 @@ use Rattle.machine.specs.Value.{Value, empty}
 use Rattle.machine.specs.State.{Frame, withSlot, withPending, push}
 use Rattle.layout.specs.Layout.{padded, valueWords, frameValues}
 use Rattle.layout.proofs.Groups.{padded-length}
-use Rattle.layout.proofs.Padded.{set-behind, get-behind, padded-get, padded-set, padded-next, padded-last}
+use Rattle.layout.proofs.Padded.{set-after, get-after, padded-get, padded-set, padded-next, padded-last}
 use Rattle.layout.proofs.RoundTrip.{value-length, values-size}
 
 -- a value's two words
@@ -58,18 +58,18 @@ run-get (v ∷ vs) zero j h k =
     start = omega arith
 run-get (v ∷ vs) (suc s) j h k =
     ap (λ (i : ℕ). getD (valueWords v ++ run-of vs) i 0) further
-    ∙ get-behind (valueWords v) (run-of vs) 2 (2 * s + j) (value-length v)
+    ∙ get-after (valueWords v) (run-of vs) 2 (2 * s + j) (value-length v)
     ∙ run-get vs s j (le-of-suc-le-suc h) k
   where
     further : 2 * suc s + j ≡ 2 + (2 * s + j)
     further = omega arith
 
--- a write behind a prefix of n words
-write-behind : (xs ys : List ℕ) (n i : ℕ) (v : Value) → length xs ≡ n → write (xs ++ ys) (n + i) v ≡ xs ++ write ys i v
+-- a write after a prefix of n words
+write-after : (xs ys : List ℕ) (n i : ℕ) (v : Value) → length xs ≡ n → write (xs ++ ys) (n + i) v ≡ xs ++ write ys i v
 unfolding write
-write-behind xs ys n i v e =
-    ap₂ (λ (l : List ℕ) (k : ℕ). set l k (numberOf v)) (set-behind xs ys n i (tagOf v) e) (add-assoc n i 1)
-    ∙ set-behind xs (set ys i (tagOf v)) n (i + 1) (numberOf v) e
+write-after xs ys n i v e =
+    ap₂ (λ (l : List ℕ) (k : ℕ). set l k (numberOf v)) (set-after xs ys n i (tagOf v) e) (add-assoc n i 1)
+    ∙ set-after xs (set ys i (tagOf v)) n (i + 1) (numberOf v) e
 
 pub run-set : (vs : List Value) (s : ℕ) (v : Value) → s < length vs → write (run-of vs) (2 * s) v ≡ run-of (set vs s v)
 unfolding run-of flatten write
@@ -83,7 +83,7 @@ run-set (u ∷ vs) zero v h =
     first = refl
 run-set (u ∷ vs) (suc s) v h =
     ap (λ (i : ℕ). write (valueWords u ++ run-of vs) i v) further
-    ∙ write-behind (valueWords u) (run-of vs) 2 (2 * s) v (value-length u)
+    ∙ write-after (valueWords u) (run-of vs) 2 (2 * s) v (value-length u)
     ∙ ap (λ (ws : List ℕ). valueWords u ++ ws) (run-set vs s v (le-of-suc-le-suc h))
   where
     further : 2 * suc s ≡ 2 + 2 * s
@@ -263,7 +263,7 @@ module _ (f : Frame) (wide : length (f .slots) ≡ 16) where
       → getD (frameValues f) i 0 ≡ getD (valueWords (getD (f .pending) d empty)) j 0
   frame-pending-get d j i h k e =
       ap₂ (λ (l : List ℕ) (n : ℕ). getD l n 0) (frame-parts f) e
-      ∙ get-behind (padded 32 (run-of (f .slots))) (padded 16 (pending-run (f .pending))) 32 (2 * (length (f .pending) - suc d) + j) slots-padded
+      ∙ get-after (padded 32 (run-of (f .slots))) (padded 16 (pending-run (f .pending))) 32 (2 * (length (f .pending) - suc d) + j) slots-padded
       ∙ pending-get (f .pending) d j (2 * (length (f .pending) - suc d) + j) h k refl
 
   -- a write among the pending values, by what it makes of them
@@ -271,7 +271,7 @@ module _ (f : Frame) (wide : length (f .slots) ≡ 16) where
       → write (padded 16 (pending-run (f .pending))) j v ≡ padded 16 (pending-run vs) → write (frameValues f) i v ≡ frameValues (withPending vs f)
   frame-pending i j v vs e h =
       ap₂ (λ (l : List ℕ) (n : ℕ). write l n v) (frame-parts f) e
-      ∙ write-behind (padded 32 (run-of (f .slots))) (padded 16 (pending-run (f .pending))) 32 j v slots-padded
+      ∙ write-after (padded 32 (run-of (f .slots))) (padded 16 (pending-run (f .pending))) 32 j v slots-padded
       ∙ ap (λ (l : List ℕ). padded 32 (run-of (f .slots)) ++ l) h
       ∙ sym (frame-parts (withPending vs f))
 

@@ -8,18 +8,18 @@ use lib.ListN.{getD, set, length, replicate, length-append, length-set, List·ge
 use lib.Seq.{getD-append-add, set-append-left, set-append-seam}
 use Rattle.layout.specs.Layout.{padded}
 
--- behind a prefix
+-- after a prefix
 
 set-append-add : (xs ys : List ℕ) (i x : ℕ) → set (xs ++ ys) (length xs + i) x ≡ xs ++ set ys i x
 set-append-add [] ys i x = ap (λ (k : ℕ). set ys k x) (zero-add i)
 set-append-add (y ∷ xs) ys i x =
     ap (λ (k : ℕ). set (y ∷ (xs ++ ys)) k x) (suc-add (length xs) i) ∙ ap {B = List ℕ} (λ r. y ∷ r) (set-append-add xs ys i x)
 
-pub set-behind : (xs ys : List ℕ) (n i x : ℕ) → length xs ≡ n → set (xs ++ ys) (n + i) x ≡ xs ++ set ys i x
-set-behind xs ys n i x e = ap (λ (k : ℕ). set (xs ++ ys) (k + i) x) (sym e) ∙ set-append-add xs ys i x
+pub set-after : (xs ys : List ℕ) (n i x : ℕ) → length xs ≡ n → set (xs ++ ys) (n + i) x ≡ xs ++ set ys i x
+set-after xs ys n i x e = ap (λ (k : ℕ). set (xs ++ ys) (k + i) x) (sym e) ∙ set-append-add xs ys i x
 
-pub get-behind : (xs ys : List ℕ) (n i : ℕ) → length xs ≡ n → getD (xs ++ ys) (n + i) 0 ≡ getD ys i 0
-get-behind xs ys n i e = ap (λ (k : ℕ). getD (xs ++ ys) (k + i) 0) (sym e) ∙ getD-append-add xs ys i 0
+pub get-after : (xs ys : List ℕ) (n i : ℕ) → length xs ≡ n → getD (xs ++ ys) (n + i) 0 ≡ getD ys i 0
+get-after xs ys n i e = ap (λ (k : ℕ). getD (xs ++ ys) (k + i) 0) (sym e) ∙ getD-append-add xs ys i 0
 
 -- padded lists
 

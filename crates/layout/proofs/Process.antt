@@ -1,4 +1,4 @@
--- The words of a running process under reads and writes of its frame at work. That frame is the last of its groups, so
+-- The words of a running process under reads and writes of its top frame. That frame is the last of its groups, so
 -- a change of it changes one stretch of heads and one stretch of values, and nothing else.
 use Prim.Native.Nat.{ℕ, suc, _+_, _*_, _<_}
 use mathlib.Core.Path.{_≡_, refl, sym, _∙_, ap, ap₂}
@@ -13,10 +13,10 @@ use Rattle.machine.specs.Entry.{runs}
 use Rattle.machine.specs.Sound.{FrameSound}
 use Rattle.layout.specs.Layout.{padded, headWords, frameValues, statusWords, processWords}
 use Rattle.layout.proofs.Groups.{padded-length, flatten-length}
-use Rattle.layout.proofs.Padded.{set-behind, get-behind, padded-get, padded-set}
+use Rattle.layout.proofs.Padded.{set-after, get-after, padded-get, padded-set}
 use Rattle.layout.proofs.RoundTrip.{frame-length, head-lengths}
 
--- a part of the store: so many callers, their heads and values, and the head and the values of the frame at work
+-- a part of the store: so many callers, their heads and values, and the head and the values of the top frame
 unfoldable pub part : ℕ → List ℕ → List ℕ → List ℕ → List ℕ → List ℕ
 part k heads head values vs =
     padded 8 (1 ∷ 0 ∷ suc k ∷ []) ++ padded 56 (heads ++ head) ++ padded 448 (values ++ vs)
@@ -63,9 +63,9 @@ module _ (k : ℕ) (heads head values vs : List ℕ) (fit : Fitting k heads head
   part-head-get i j h e =
       List·getD-append (padded 8 (1 ∷ 0 ∷ suc k ∷ []) ++ padded 56 (heads ++ head)) (padded 448 (values ++ vs)) 0 i (omega (arith, front-length, fit .depth))
       ∙ ap (λ (n : ℕ). getD (padded 8 (1 ∷ 0 ∷ suc k ∷ []) ++ padded 56 (heads ++ head)) n 0) e
-      ∙ get-behind (padded 8 (1 ∷ 0 ∷ suc k ∷ [])) (padded 56 (heads ++ head)) 8 (4 * k + j) state-length
+      ∙ get-after (padded 8 (1 ∷ 0 ∷ suc k ∷ [])) (padded 56 (heads ++ head)) 8 (4 * k + j) state-length
       ∙ padded-get 56 (heads ++ head) (4 * k + j) (omega (arith, heads-length))
-      ∙ get-behind heads head (4 * k) j (fit .headsLong)
+      ∙ get-after heads head (4 * k) j (fit .headsLong)
 
   pub part-head-set : (i j x : ℕ) → j < 4 → i ≡ 8 + (4 * k + j) → set (part k heads head values vs) i x ≡ part k heads (set head j x) values vs
   unfolding part
@@ -73,27 +73,27 @@ module _ (k : ℕ) (heads head values vs : List ℕ) (fit : Fitting k heads head
       set-append-left (padded 8 (1 ∷ 0 ∷ suc k ∷ []) ++ padded 56 (heads ++ head)) (padded 448 (values ++ vs)) i x (omega (arith, front-length, fit .depth))
       ∙ ap (λ (l : List ℕ). l ++ padded 448 (values ++ vs))
       (ap (λ (n : ℕ). set (padded 8 (1 ∷ 0 ∷ suc k ∷ []) ++ padded 56 (heads ++ head)) n x) e
-      ∙ set-behind (padded 8 (1 ∷ 0 ∷ suc k ∷ [])) (padded 56 (heads ++ head)) 8 (4 * k + j) x state-length
+      ∙ set-after (padded 8 (1 ∷ 0 ∷ suc k ∷ [])) (padded 56 (heads ++ head)) 8 (4 * k + j) x state-length
       ∙ ap (λ (l : List ℕ). padded 8 (1 ∷ 0 ∷ suc k ∷ []) ++ l)
       (padded-set 56 (heads ++ head) (4 * k + j) x (omega (arith, heads-length))
-      ∙ ap (padded 56) (set-behind heads head (4 * k) j x (fit .headsLong))))
+      ∙ ap (padded 56) (set-after heads head (4 * k) j x (fit .headsLong))))
 
   pub part-value-get : (i j : ℕ) → j < 48 → i ≡ 64 + (48 * k + j) → getD (part k heads head values vs) i 0 ≡ getD vs j 0
   unfolding part
   part-value-get i j h e =
       ap (λ (n : ℕ). getD (padded 8 (1 ∷ 0 ∷ suc k ∷ []) ++ padded 56 (heads ++ head) ++ padded 448 (values ++ vs)) n 0) e
-      ∙ get-behind (padded 8 (1 ∷ 0 ∷ suc k ∷ []) ++ padded 56 (heads ++ head)) (padded 448 (values ++ vs)) 64 (48 * k + j) front-length
+      ∙ get-after (padded 8 (1 ∷ 0 ∷ suc k ∷ []) ++ padded 56 (heads ++ head)) (padded 448 (values ++ vs)) 64 (48 * k + j) front-length
       ∙ padded-get 448 (values ++ vs) (48 * k + j) (omega (arith, values-length))
-      ∙ get-behind values vs (48 * k) j (fit .valuesLong)
+      ∙ get-after values vs (48 * k) j (fit .valuesLong)
 
   pub part-value-set : (i j x : ℕ) → j < 48 → i ≡ 64 + (48 * k + j) → set (part k heads head values vs) i x ≡ part k heads head values (set vs j x)
   unfolding part
   part-value-set i j x h e =
       ap (λ (n : ℕ). set (padded 8 (1 ∷ 0 ∷ suc k ∷ []) ++ padded 56 (heads ++ head) ++ padded 448 (values ++ vs)) n x) e
-      ∙ set-behind (padded 8 (1 ∷ 0 ∷ suc k ∷ []) ++ padded 56 (heads ++ head)) (padded 448 (values ++ vs)) 64 (48 * k + j) x front-length
+      ∙ set-after (padded 8 (1 ∷ 0 ∷ suc k ∷ []) ++ padded 56 (heads ++ head)) (padded 448 (values ++ vs)) 64 (48 * k + j) x front-length
       ∙ ap (λ (l : List ℕ). padded 8 (1 ∷ 0 ∷ suc k ∷ []) ++ padded 56 (heads ++ head) ++ l)
       (padded-set 448 (values ++ vs) (48 * k + j) x (omega (arith, values-length))
-      ∙ ap (padded 448) (set-behind values vs (48 * k) j x (fit .valuesLong)))
+      ∙ ap (padded 448) (set-after values vs (48 * k) j x (fit .valuesLong)))
 
 -- processes
 

@@ -11,7 +11,7 @@ use Rattle.machine.specs.Entry.{runs}
 use Rattle.machine.specs.Value.{Value}
 use Rattle.layout.specs.Layout.{padded, headWords, frameValues, processWords}
 use Rattle.layout.proofs.Groups.{padded-length}
-use Rattle.layout.proofs.Padded.{set-behind, get-behind, padded-get, padded-set}
+use Rattle.layout.proofs.Padded.{set-after, get-after, padded-get, padded-set}
 use Rattle.layout.proofs.Frames.{tagOf, numberOf, write}
 use Rattle.layout.proofs.Process.{headsBelow, valuesBelow, process-part, part}
 
@@ -62,21 +62,21 @@ module _ (n : ℕ) (heads values : List ℕ) (hs : length heads ≤ 56) (vs : le
       set-append-left (padded 8 (1 ∷ 0 ∷ n ∷ []) ++ padded 56 heads) (padded 448 values) i x (omega (arith, front-long))
       ∙ ap (λ (l : List ℕ). l ++ padded 448 values)
       (ap (λ (k : ℕ). set (padded 8 (1 ∷ 0 ∷ n ∷ []) ++ padded 56 heads) k x) e
-      ∙ set-behind (padded 8 (1 ∷ 0 ∷ n ∷ [])) (padded 56 heads) 8 j x state-long
+      ∙ set-after (padded 8 (1 ∷ 0 ∷ n ∷ [])) (padded 56 heads) 8 j x state-long
       ∙ ap (λ (l : List ℕ). padded 8 (1 ∷ 0 ∷ n ∷ []) ++ l) (padded-set 56 heads j x h))
 
   pub whole-value : (i j x : ℕ) → j < length values → i ≡ 64 + j → set (whole n heads values) i x ≡ whole n heads (set values j x)
   unfolding whole
   whole-value i j x h e =
       ap (λ (k : ℕ). set (padded 8 (1 ∷ 0 ∷ n ∷ []) ++ padded 56 heads ++ padded 448 values) k x) e
-      ∙ set-behind (padded 8 (1 ∷ 0 ∷ n ∷ []) ++ padded 56 heads) (padded 448 values) 64 j x front-long
+      ∙ set-after (padded 8 (1 ∷ 0 ∷ n ∷ []) ++ padded 56 heads) (padded 448 values) 64 j x front-long
       ∙ ap (λ (l : List ℕ). padded 8 (1 ∷ 0 ∷ n ∷ []) ++ padded 56 heads ++ l) (padded-set 448 values j x h)
 
   pub whole-get : (i j : ℕ) → j < length values → i ≡ 64 + j → getD (whole n heads values) i 0 ≡ getD values j 0
   unfolding whole
   whole-get i j h e =
       ap (λ (k : ℕ). getD (padded 8 (1 ∷ 0 ∷ n ∷ []) ++ padded 56 heads ++ padded 448 values) k 0) e
-      ∙ get-behind (padded 8 (1 ∷ 0 ∷ n ∷ []) ++ padded 56 heads) (padded 448 values) 64 j front-long
+      ∙ get-after (padded 8 (1 ∷ 0 ∷ n ∷ []) ++ padded 56 heads) (padded 448 values) 64 j front-long
       ∙ padded-get 448 values j h
 
   pub whole-head-get : (i j : ℕ) → j < length heads → i ≡ 8 + j → getD (whole n heads values) i 0 ≡ getD heads j 0
@@ -84,7 +84,7 @@ module _ (n : ℕ) (heads values : List ℕ) (hs : length heads ≤ 56) (vs : le
   whole-head-get i j h e =
       List·getD-append (padded 8 (1 ∷ 0 ∷ n ∷ []) ++ padded 56 heads) (padded 448 values) 0 i (omega (arith, front-long))
       ∙ ap (λ (k : ℕ). getD (padded 8 (1 ∷ 0 ∷ n ∷ []) ++ padded 56 heads) k 0) e
-      ∙ get-behind (padded 8 (1 ∷ 0 ∷ n ∷ [])) (padded 56 heads) 8 j state-long
+      ∙ get-after (padded 8 (1 ∷ 0 ∷ n ∷ [])) (padded 56 heads) 8 j state-long
       ∙ padded-get 56 heads j h
 
 -- a value written among the values
@@ -106,21 +106,21 @@ pub last-head-set : (n : ℕ) (heads head values : List ℕ) (i j x : ℕ) → l
     → i ≡ 8 + (length heads + j) → set (whole n (heads ++ head) values) i x ≡ whole n (heads ++ set head j x) values
 last-head-set n heads head values i j x hs vs h e =
     whole-head n (heads ++ head) values hs vs i (length heads + j) x (omega (arith, length-append heads head)) e
-    ∙ ap (λ (l : List ℕ). whole n l values) (set-behind heads head (length heads) j x refl)
+    ∙ ap (λ (l : List ℕ). whole n l values) (set-after heads head (length heads) j x refl)
 
 pub last-value-set : (n : ℕ) (heads values vs : List ℕ) (i j x : ℕ) → length heads ≤ 56 → length (values ++ vs) ≤ 448 → j < length vs
     → i ≡ 64 + (length values + j) → set (whole n heads (values ++ vs)) i x ≡ whole n heads (values ++ set vs j x)
 last-value-set n heads values vs i j x hs vl h e =
     whole-value n heads (values ++ vs) hs vl i (length values + j) x (omega (arith, length-append values vs)) e
-    ∙ ap (whole n heads) (set-behind values vs (length values) j x refl)
+    ∙ ap (whole n heads) (set-after values vs (length values) j x refl)
 
 -- a write, and a read, in the middle of three stretches
 
 pub mid-set : (xs ys zs : List ℕ) (n j x : ℕ) → length xs ≡ n → j < length ys → set ((xs ++ ys) ++ zs) (n + j) x ≡ (xs ++ set ys j x) ++ zs
 mid-set xs ys zs n j x e h =
     set-append-left (xs ++ ys) zs (n + j) x (omega (arith, length-append xs ys, e))
-    ∙ ap (λ (l : List ℕ). l ++ zs) (set-behind xs ys n j x e)
+    ∙ ap (λ (l : List ℕ). l ++ zs) (set-after xs ys n j x e)
 
 pub mid-get : (xs ys zs : List ℕ) (n j : ℕ) → length xs ≡ n → j < length ys → getD ((xs ++ ys) ++ zs) (n + j) 0 ≡ getD ys j 0
 mid-get xs ys zs n j e h =
-    List·getD-append (xs ++ ys) zs 0 (n + j) (omega (arith, length-append xs ys, e)) ∙ get-behind xs ys n j e
+    List·getD-append (xs ++ ys) zs 0 (n + j) (omega (arith, length-append xs ys, e)) ∙ get-after xs ys n j e

@@ -61,7 +61,7 @@ module _ {A B : Type 0} {R : A → B → Type 0} where
   both-set zero d (cons q h) r = cons r h
   both-set (suc i) d (cons q h) r = cons q (both-set i d h r)
 
-  -- a value that R relates to everything, against a whole list, and behind what stands against a list's first part
+  -- a value that R relates to everything, against a whole list, and after what stands against a list's first part
   both-fill : (x : A) → ((y : B) → R x y) → (k : ℕ) (ys : List B) → length ys ≤ k
       → Both R (take (length ys) (replicate k x)) ys
   both-fill x f k [] h = nil

@@ -1,4 +1,4 @@
--- Elements put into a list, one list of them behind another.
+-- Elements put into a list, one list of them after another.
 use Prim.Native.Nat.{ℕ, suc, _+_, _≤_, _<_}
 use mathlib.Core.Path.{_≡_, refl, sym, _∙_, ap}
 use mathlib.Core.List.{List, [], _∷_, _++_, append-nil}
@@ -8,7 +8,7 @@ use lib.ListN.{length, take, getD, set, length-append, length-set}
 use lib.Seq.{take-suc, take-suc-set, length-take-le, append-snoc}
 use Rattle.lists.specs.Lists.{putFrom}
 
--- what a function here ensures: these are put, and the answer is the index behind them
+-- what a function here ensures: these are put, and the answer is the index after them
 abbrev pub Put : List ℕ → ℕ → List ℕ → List ℕ → ℕ → Type 0
 Put out at bs out' r = (out' ≡ putFrom out at bs) × (r ≡ at + length bs)
 
@@ -20,7 +20,7 @@ putFrom-append out at (x ∷ xs) ys =
     putFrom-append (set out at x) (suc at) xs ys
     ∙ ap (λ (i : ℕ). putFrom (putFrom (set out at x) (suc at) xs) i ys) (omega arith)
 
--- one list put, and then another behind it
+-- one list put, and then another after it
 pub put-then : (out : List ℕ) (at : ℕ) (xs ys : List ℕ) {mid end : List ℕ} {i j : ℕ}
     → Put out at xs mid i → Put mid i ys end j → Put out at (xs ++ ys) end j
 put-then out at xs ys {mid} {end} {i} {j} (p, q) (s, t) = (
@@ -33,7 +33,7 @@ put-then out at xs ys {mid} {end} {i} {j} (p, q) (s, t) = (
 pub put-same : (out : List ℕ) (at : ℕ) {xs ys : List ℕ} {end : List ℕ} {j : ℕ} → xs ≡ ys → Put out at xs end j → Put out at ys end j
 put-same out at e (p, q) = (p ∙ ap (putFrom out at) e, q ∙ ap (λ (l : List ℕ). at + length l) e)
 
--- where they fit, they stand behind what was there
+-- where they fit, they stand after what was there
 pub putFrom-take : (out : List ℕ) (at : ℕ) (bs : List ℕ) → at + length bs ≤ length out
     → take (at + length bs) (putFrom out at bs) ≡ take at out ++ bs
 unfolding putFrom

@@ -58,7 +58,7 @@ pub record Ready (op : Op) (ks : List ℕ) (a : At) : Type 0 where
   pub given : List ℕ
   pub rule : op .gives (a .program) (a .frame .method) (a .argument) taken ≡ some given
   pub operands : Both (Full ks (a .qubits)) (a .operands) taken
-  -- behind the instruction the frame is owed what the instruction gives, at a jump's target nothing
+  -- after the instruction the frame is owed what the instruction gives, at a jump's target nothing
   pub next : op .closes ≡ false → Frames (a .program) (Fits ks (a .qubits)) given (a .frame ∷ a .callers)
   pub target : T (op .jumps && op .bare) → a .argument < lengthOf (a .program) (a .frame .method)
       → Frames (a .program) (Fits ks (a .qubits)) []

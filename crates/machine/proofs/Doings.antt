@@ -102,9 +102,9 @@ newq-sound : DoingSound opNewQ doNewQ
 unfolding opNewQ doNewQ
 newq-sound ks a r =
     let (b, g) = wanted-all r [] (3 ∷ []) (r .rule) in
-    let behind = frames-implies (a .program) (fits-more-qubits ks (a .qubits)) (a .frame ∷ a .callers) (r .next refl) in
+    let frames = frames-implies (a .program) (fits-more-qubits ks (a .qubits)) (a .frame ∷ a .callers) (r .next refl) in
     cond-each (TypedAt ks a) (ltb (a .qubits) 32)
-    (λ e. (ltb-true (a .qubits) 32 e, pushes-typed g behind (refl, omega arith)))
+    (λ e. (ltb-true (a .qubits) 32 e, pushes-typed g frames (refl, omega arith)))
     (λ e. omega arith)
 
 new-channel-fits : (ks : List ℕ) (k q n : ℕ) → length ks ≡ n → k ≤ 3 → ThingFits (ks ++ (k ∷ [])) q (channel n) (16 + k)
@@ -114,10 +114,10 @@ newc-sound : DoingSound opNewC doNewC
 unfolding opNewC doNewC
 newc-sound ks a r =
     let k = a .argument in
-    let behind = frames-implies (a .program) (fits-more-channels ks k (a .qubits)) (a .frame ∷ a .callers) (r .next refl) in
+    let frames = frames-implies (a .program) (fits-more-channels ks k (a .qubits)) (a .frame ∷ a .callers) (r .next refl) in
     let fits = new-channel-fits ks k (a .qubits) (a .channels) (r .channels) (between 1 3 k (r .argument) .1) in
     cond-each (TypedAt ks a) (ltb (a .channels) 16)
-    (λ e. (omega (arith, ltb-true (a .channels) 16 e), (k, pushes-typed (r .rule) behind fits)))
+    (λ e. (omega (arith, ltb-true (a .channels) 16 e), (k, pushes-typed (r .rule) frames fits)))
     (λ e. omega arith)
 
 end-sound : DoingSound opEnd doEnd

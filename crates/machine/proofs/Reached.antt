@@ -29,7 +29,7 @@ pub record Stack (p : List ℕ) (c : Config) (f : Frame) (fs : List Frame) : Typ
 abbrev pub stacked : {p : List ℕ} {c : Config} {f : Frame} {fs : List Frame} → Kept p → All (FrameSound p c) (f ∷ fs) → length fs < 8 → Stack p c f fs
 stacked kept sound deep = record { kept = kept; sound = sound; deep = deep }
 
--- The same where f is the frame at work: it stands at an instruction whose argument is a 16-bit word.
+-- The same where f is the top frame: it stands at an instruction whose argument is a 16-bit word.
 pub record AtWork (p : List ℕ) (c : Config) (f : Frame) (fs : List Frame) : Type 0 where
   pub stack : Stack p c f fs
   pub small : argAt p (f .place) < 65536

@@ -75,7 +75,7 @@ module _ (p : List ℕ) (k : Kept p) (ks : List ℕ) (c : Config) (t : ConfigTyp
   pub frame-sound : (owed : List ℕ) (f : Frame) → FrameTyped p (Fits ks (c .qubits)) owed f → FrameSound p c f
   frame-sound owed f h = record {
     method = h .place .method;
-    behind = h .place .behind;
+    from-offset = h .place .from-offset;
     inside = h .place .ahead;
     width = both-length (h .slots) ∙ slotTypes-length p k (f .method) (h .place .method);
     height =

@@ -27,7 +27,7 @@ use Rattle.machine.proofs.Typing.{Fits, FrameTyped, Frames, StatusTyped
 use Rattle.machine.proofs.Acts.{ActTyped, Ready}
 use Rattle.machine.proofs.Doings.{doing-sound}
 
--- The frame at work, past its instruction
+-- The top frame, past its instruction
 
 module _ (p : List ℕ) (k : Kept p) {R : Value → ℕ → Type 0} (f : Frame) (h : FrameTyped p R [] f) where
   reading : ReadAt p (f .place)
@@ -43,7 +43,7 @@ module _ (p : List ℕ) (k : Kept p) {R : Value → ℕ → Type 0} (f : Frame) 
   left-fits : Both R (drop (takenAt p (f .place)) (f .pending)) (drop (takenAt p (f .place)) (before p (f .place)))
   left-fits = both-drop (takenAt p (f .place)) pending-fits
 
-  -- behind the instruction the frame is owed what the instruction gives
+  -- after the instruction the frame is owed what the instruction gives
   passed-typed : opThere p (f .place) .closes ≡ false → FrameTyped p R (reading .given) (passedBy (takenAt p (f .place)) f)
   unfolding passedBy
   passed-typed e =

@@ -1,5 +1,5 @@
 -- The operands of an instruction that stands ready: a value that is there is of the kind that its type says, and a rule
--- that is kept tells the operands' types.
+-- that is kept gives the operands' types.
 use Prim.Native.Nat.{ℕ, _≤_}
 use native.Mathlib.Omega.{arith}
 use mathlib.Core.Bool.{Bool, cond, _&&_}
@@ -65,7 +65,7 @@ module _ (ks : List ℕ) (q : ℕ) where
   end-of (ref (channel n)) t l h = absurd (omega arith)
   end-of (ref (end n s)) t l h = (n, s, refl, h .1)
 
--- What a rule tells
+-- What a rule says
 
 pub between : (l h t : ℕ) → T (leb l t && leb t h) → (l ≤ t) × (t ≤ h)
 between l h t b = let (low, high) = and-yes (leb l t) (leb t h) b in (leb-yes low, leb-yes high)

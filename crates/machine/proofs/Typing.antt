@@ -99,7 +99,7 @@ pub frames-pay : {p : List ℕ} {R : Value → ℕ → Type 0} {owed : List ℕ}
     → Frames p R owed (f ∷ fs) → Both R vs owed → Frames p R [] (withPending (vs ++ f .pending) f ∷ fs)
 frames-pay h b = record { stack = (frame-pay (h .stack .0) b, h .stack .1); depth = h .depth }
 
--- a slot of the frame at work gets a value that fits
+-- a slot of the top frame gets a value that fits
 pub frames-slot : {p : List ℕ} {R : Value → ℕ → Type 0} {owed : List ℕ} {f : Frame} {fs : List Frame} {v : Value} (s : ℕ)
     → Frames p R owed (f ∷ fs) → R v (getD (slotTypes p (f .method)) s 0) → Frames p R owed (withSlot s v f ∷ fs)
 frames-slot s h r =

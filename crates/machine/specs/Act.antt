@@ -43,7 +43,7 @@ pub data Act : Type 0 where
   offers : Offer → Act
 
 -- What an instruction works on: the table, the outcomes not yet used, the counts of things made; its argument; its
--- operands, from the top down, none of them empty; the frame with the operands off, standing behind the instruction;
+-- operands, from the top down, none of them empty; the frame with the operands off, standing after the instruction;
 -- the frames below.
 pub record At : Type 0 where
   pub program : List ℕ
@@ -257,7 +257,7 @@ doings =
 unfoldable pub doingOf : ℕ → At → Act
 doingOf n = getD doings n doNothing
 
--- the frame with n operands off, standing behind its instruction
+-- the frame with n operands off, standing after its instruction
 unfoldable pub passedBy : ℕ → Frame → Frame
 passedBy n f = atPlace (suc (f .place)) (withPending (drop n (f .pending)) f)
 

@@ -13,11 +13,11 @@ pub data Answer : Type 0 where
   ran : ℕ → ℕ → ℕ → ℕ → Answer
 
 -- the answer of a run's result
-unfoldable pub answered : Result → Answer
-answered r = ran (r .end) (r .entries) (length (r .state .lines)) (r .state .used)
+unfoldable pub resultAnswer : Result → Answer
+resultAnswer r = ran (r .end) (r .entries) (length (r .state .lines)) (r .state .used)
 
 unfoldable pub unlessRefused : Verdict → Result → Answer
-unlessRefused accepted r = answered r
+unlessRefused accepted r = resultAnswer r
 unlessRefused (refused n i) r = refusal n i
 
 -- the answer for a table, a schedule, an outcome list, a trace of so many lines and a work store of so many words

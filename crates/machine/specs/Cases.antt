@@ -144,7 +144,7 @@ lastLine p schedule outcomes lines = drop (6 * lines) (written p schedule outcom
 abbrev noFrame : Frame
 noFrame = record { method = 0; place = 0; slots = []; pending = [] }
 
--- the pending values of process 0's frame at work, after the run
+-- the pending values of process 0's top frame, after the run
 abbrev pub pendingOf : List ℕ → List ℕ → List ℕ → List Value
 pendingOf p schedule outcomes =
     getD (processAt (run p outcomes 4096 schedule .state .config) 0 .frames) 0 noFrame .pending

@@ -129,7 +129,7 @@ forking p k s n m args fs = record {
       ∷ map (gave (length (s .config .processes))) (thingsOf args));
 }
 
--- the value on top of the frame at work
+-- the value on top of the top frame
 unfoldable pub pushTop : Value → List Frame → List Frame
 pushTop v [] = []
 pushTop v (f ∷ fs) = push v f ∷ fs

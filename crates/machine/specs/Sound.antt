@@ -28,7 +28,7 @@ ValueSound c (ref t) = Made c t
 -- the frame stands at an instruction of its own method, and has 16 slots and at most 8 pending values
 pub record FrameSound (p : List ℕ) (c : Config) (f : Frame) : Type 0 where
   pub method : f .method < methods p
-  pub behind : offsetOf p (f .method) ≤ f .place
+  pub from-offset : offsetOf p (f .method) ≤ f .place
   pub inside : f .place < endOf p (f .method)
   pub width : length (f .slots) ≡ 16
   pub height : length (f .pending) ≤ 8

@@ -86,7 +86,7 @@ withSlot s v f = record { method = f .method; place = f .place; slots = set (f .
 abbrev pub push : Value → Frame → Frame
 push v f = withPending (v ∷ f .pending) f
 
--- "Trace lines": what a line says behind its entry and process, one definition for each kind.
+-- "Trace lines": what a line says after its entry and process, one definition for each kind.
 pub record Event : Type 0 where
   pub kind : ℕ
   pub a : ℕ

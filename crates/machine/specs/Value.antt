@@ -4,11 +4,10 @@
 -- Choices: the two ends of a channel are told apart by a boolean (side 1 is true), so that a channel has two ends by
 -- its type; an int is a signed integer, its range being the ops' concern; an emptied slot or pending value is a value
 -- of its own, because it keeps its place.
-use Prim.Native.Nat.{ℕ, _+_, _-_}
+use Prim.Native.Nat.{ℕ, suc, _+_, _-_}
 use mathlib.Core.Bool.{Bool, true, false, cond, _&&_, Bool·beq}
 use lib.IntN.{ℤ, pos, negsuc}
-use lib.Signed.{mag}
-use lib.Dec.{eqb, ltb}
+use lib.Dec.{eqb, leb, ltb}
 
 -- What is held, given and reached: a qubit, a channel, or one end of a channel.
 pub data Thing : Type 0 where
@@ -61,9 +60,10 @@ thingNo (qubit n) = n
 thingNo (channel n) = n
 thingNo (end n s) = n
 
--- "1 int (signed, 32 bits)"
+-- "1 int (signed, 32 bits)": from -2147483648 to 2147483647; `pos n` is n, and `negsuc n` is -(n + 1)
 unfoldable pub inRange : ℤ → Bool
-inRange z = ltb (mag z) 2147483648
+inRange (pos n) = ltb n 2147483648
+inRange (negsuc n) = leb (suc n) 2147483648
 
 -- two's complement: the 32-bit word of an int, and the int of a 16-bit word
 unfoldable pub word32 : ℤ → ℕ

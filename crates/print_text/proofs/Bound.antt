@@ -8,12 +8,12 @@ use Rattle.lists.proofs.Tests.{cond-both}
 use Rattle.machine.specs.State.{Line}
 use Rattle.machine.specs.Run.{run}
 use Rattle.machine.specs.Answer.{Answer, refusal, ran, answerOf}
-use Rattle.text.specs.Text.{refusedWord, endWord, wellBuilt, wordsOf, partOf, refusedText, answerText, runText, printed}
+use Rattle.print_format.specs.Format.{refusedWord, endWord, wellBuilt, wordsOf, partOf, refusedText, answerText, runText, printed}
 use Rattle.lists.proofs.Put.{putFrom-length}
-use Rattle.printing.proofs.Texts.{spaced-length}
-use Rattle.printing.proofs.TraceText.{linesText-length}
+use Rattle.print_lines.proofs.Texts.{spaced-length}
+use Rattle.print_lines.proofs.TraceText.{linesText-length}
 use Rattle.print_text.proofs.Fitting.{lines-fit}
-use Rattle.print_text.proofs.Telling.{Prints}
+use Rattle.print_text.proofs.Output.{Prints}
 
 refusedText-length : (n i : ℕ) → length (refusedText n i) ≤ 50
 unfolding refusedText refusedWord

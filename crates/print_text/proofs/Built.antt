@@ -7,10 +7,10 @@ use native.Mathlib.Omega.{arith}
 use borrow.Author.Tests.{eqb-true, leb-true}
 use lib.Dec.{eqb, leb}
 use lib.ListN.{take, drop, length}
-use Rattle.text.specs.Text.{offsetAt, lengthAt, wellBuilt, wordsOf, partOf, refusedText, runText, printed}
+use Rattle.print_format.specs.Format.{offsetAt, lengthAt, wellBuilt, wordsOf, partOf, refusedText, runText, printed}
 use Rattle.lists.specs.Lists.{putFrom}
 use Rattle.lists.proofs.Put.{putFrom-length, putFrom-take}
-use Rattle.input.proofs.FileLaws.{wordsOf-length, part-length}
+use Rattle.print_input.proofs.FileLaws.{wordsOf-length, part-length}
 
 -- "adjacent from byte 24 to the file's end"
 pub record Built (bytes : List ℕ) : Type 0 where
@@ -40,8 +40,8 @@ built bytes ok =
     let front = eqb o0 24 && eqb o1 (o0 + l0) in
     let back = eqb o2 (o1 + l1) && eqb n (o2 + l2) in
     let even = eqb (l0 % 2) 0 in
-    let behind = second size (front && (back && even)) ok in
-    let adjacent = first back even (second front (back && even) behind) in record {
+    let rest = second size (front && (back && even)) ok in
+    let adjacent = first back even (second front (back && even) rest) in record {
       short = leb-true n 65536 (second (leb 24 n) (leb n 65536) (first size (front && (back && even)) ok));
       outcomes = eqb-true o2 (o1 + l1) (first (eqb o2 (o1 + l1)) (eqb n (o2 + l2)) adjacent);
       end = eqb-true n (o2 + l2) (second (eqb o2 (o1 + l1)) (eqb n (o2 + l2)) adjacent);
@@ -75,7 +75,7 @@ module _ (bytes : List ℕ) (b : Built bytes) where
   unfolding partOf
   outcomes-read {a} p = ap₂ (λ (k i : ℕ). take k (drop i bytes)) {x = length bytes - a} {y = lengthAt bytes 2} (omega (arith, p, b .end)) p
 
-  -- the parts stand in the file one behind the other
+  -- the parts stand in the file one after the other
   pub in-order : {a e : ℕ} → a ≡ offsetAt bytes 1 → e ≡ offsetAt bytes 2 → (a ≤ e) × (e ≤ length bytes)
   in-order p q = (omega (arith, p, q, b .outcomes), omega (arith, q, b .end))
 

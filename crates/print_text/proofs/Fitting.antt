@@ -15,10 +15,10 @@ use Rattle.machine.specs.Run.{Result, allOver, noneAble, fits, afterEffect, run
 use Rattle.machine.specs.Answer.{traceWords, traceAfter}
 use Rattle.trace.specs.Trace.{linesOf}
 use Rattle.trace.proofs.LinesOf.{linesOf-length, linesOf-at}
-use Rattle.lines.proofs.LineWritten.{trace-length}
-use Rattle.holders.proofs.Holding.{trace-line}
+use Rattle.trace_lines.proofs.LineWritten.{trace-length}
+use Rattle.run_holders.proofs.Holding.{trace-line}
 
--- the lines behind an entry that fits
+-- the lines after an entry that fits
 taken : (p outcomes : List ℕ) (room : ℕ) (s : State) (k n : ℕ) → fits room s (effectOf p outcomes k s n) ≡ true
     → length (afterEffect s (effectOf p outcomes k s n) .lines) ≤ room
 unfolding fits afterEffect
@@ -48,7 +48,7 @@ pub lines-fit : (p outcomes : List ℕ) (room : ℕ) (schedule : List ℕ) → l
 unfolding run start
 lines-fit p outcomes room schedule = from-fits p outcomes room (start p) 0 schedule (omega arith)
 
--- the trace behind a run has room for its lines, and they are its first
+-- the trace after a run has room for its lines, and they are its first
 module _ (ls : List Line) (trace : List ℕ) where
   pub lines-held : length ls ≤ length (linesOf (traceAfter ls trace))
   unfolding traceAfter

@@ -1,4 +1,4 @@
 pub mod Fitting
-pub mod Telling
+pub mod Output
 pub mod Built
 pub mod Bound

@@ -4,13 +4,13 @@ ghost use Prim.Native.Nat.{_*_, _≤_, _<_};
 ghost use lib.ListN.{length, take};
 ghost use Rattle.machine.specs.Answer.{ran};
 ghost use Rattle.trace.specs.Trace.{linesOf};
-ghost use Rattle.text.specs.Text.{answerText};
+ghost use Rattle.print_format.specs.Format.{answerText};
 ghost use Rattle.lists.specs.Lists.{putFrom};
-ghost use Rattle.run.specs.Answers.{answered};
+ghost use Rattle.run.specs.Answers.{answerNumbers};
 ghost use Rattle.run.specs.Answers.{linesNo};
-use printing::traces::put_lines;
-use printing::writing::put_end;
-use printing::writing::put_refused;
+use print_lines::traces::put_lines;
+use print_lines::writing::put_end;
+use print_lines::writing::put_refused;
 use run::Answer;
 
 // The lines and the last line.
@@ -33,10 +33,10 @@ fn put_ended(
 
 // What is printed for an answer, its lines being the first of the trace.
 pub fn put_answer(out: &mut [u8], a: Answer, trace: &[u16]) -> usize
-    requires { ⌜ (linesNo (answered a) ≤ length (linesOf (now trace))) × (126 * linesNo (answered a) < 4294967296) ⌝ }
+    requires { ⌜ (linesNo (answerNumbers a) ≤ length (linesOf (now trace))) × (126 * linesNo (answerNumbers a) < 4294967296) ⌝ }
     ensures { λ r. ⌜
-        (now (out .exit) ≡ putFrom (now (out .entry)) 0 (answerText (take (linesNo (answered a)) (linesOf (now (trace .entry)))) (answered a)))
-        × (r ≡ length (answerText (take (linesNo (answered a)) (linesOf (now (trace .entry)))) (answered a))) ⌝ }
+        (now (out .exit) ≡ putFrom (now (out .entry)) 0 (answerText (take (linesNo (answerNumbers a)) (linesOf (now (trace .entry)))) (answerNumbers a)))
+        × (r ≡ length (answerText (take (linesNo (answerNumbers a)) (linesOf (now (trace .entry)))) (answerNumbers a))) ⌝ }
 {
     match a {
         Answer::Refused { number, place } => put_refused(out, 0, number as u64, place as u64),

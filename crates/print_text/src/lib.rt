@@ -6,13 +6,13 @@ mod answer;
 ghost use mathlib.Core.Path.{_≡_};
 ghost use mathlib.Core.Bool.{true};
 ghost use lib.ListN.{length};
-ghost use Rattle.text.specs.Text.{wellBuilt, wordsOf, partOf, runText, printed};
+ghost use Rattle.print_format.specs.Format.{wellBuilt, wordsOf, partOf, runText, printed};
 ghost use Rattle.lists.specs.Lists.{putFrom};
 use answer::put_answer;
-use input::number_at;
-use input::put_words;
-use input::well_built;
-use printing::writing::put_refused;
+use print_input::number_at;
+use print_input::put_words;
+use print_input::well_built;
+use print_lines::writing::put_refused;
 use run::run;
 
 // "Its trace holds 4,096 lines." The work store has the 8,192 words that a run asks for.

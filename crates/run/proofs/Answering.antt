@@ -6,16 +6,17 @@ use native.Mathlib.Omega.{arith}
 use lib.ListN.{length}
 use Rattle.table.specs.Questions.{Verdict, accepted, refused, questions}
 use Rattle.machine.specs.Run.{run}
-use Rattle.machine.specs.Answer.{refusal, ran, answered, answerOf, linesIn, traceAfter}
+use Rattle.machine.specs.Answer.{refusal, ran, resultAnswer, answerOf, linesIn, traceAfter}
 use Rattle.machine.specs.Answer as machine
 use Rattle.layout.specs.Layout.{storeAfter}
-use Rattle.questions.specs.declared.Check.{Check}
-use Rattle.questions.specs.declared.Check.the-variants.{Accepted, Sizes, Pairs, Rows, Instruction, Reading, Outcome, Schedule, Work}
-use Rattle.questions.specs.Check.{verdictOf}
+use Rattle.check_questions.specs.declared.Check.{Check}
+use Rattle.check_questions.specs.declared.Check.the-variants.{Accepted, Sizes, Pairs, Rows, Instruction, Reading, Outcome, Schedule, Work}
+use Rattle.check_questions.specs.Check.{verdictOf}
 use Rattle.run.specs.declared.Refusal.{Refusal}
-use Rattle.schedule.specs.declared.rounds.Over.{Over}
-use Rattle.schedule.specs.Left.{Left, leftAs, leaves}
-use Rattle.run.specs.Answers.{refusalOf, unlessRefused, traceLeft, storeLeft}
+use Rattle.run_schedule.specs.declared.entries.RunSummary.{RunSummary}
+use Rattle.run_schedule.specs.SummaryCode.{AfterRun, afterRun, runLeaves}
+use Rattle.run.specs.Answers.{keptIfRefused, traceLeft, storeLeft}
+use Rattle.run.specs.AnswersCode.{refusalOf}
 
 -- the number and place of a case of the check's
 pub refused-as : (a k : Check) {r : Refusal} → a ≡ k → r ≡ refusalOf (verdictOf k) → r ≡ refusalOf (verdictOf a)
@@ -44,26 +45,26 @@ module _ (p schedule outcomes trace work : List ℕ) where
   pub refuses : (c : Check) {v : Refusal} → verdictOf c ≡ verdict → v ≡ refusalOf (verdictOf c) → (v .number ≡ 0 → ⊥)
       → (refusal (v .number) (v .place) ≡ answerOf p schedule outcomes (linesIn (length trace)) (length work))
       × (trace ≡ traceLeft p schedule outcomes trace work) × (work ≡ storeLeft p schedule outcomes trace work)
-  unfolding refusalOf answerOf machine.unlessRefused traceLeft storeLeft unlessRefused
+  unfolding refusalOf answerOf machine.unlessRefused traceLeft storeLeft keptIfRefused
   refuses c {v} asked said ne = go verdict refl
     where
       go : (x : Verdict) → verdict ≡ x
           → (refusal (v .number) (v .place) ≡ machine.unlessRefused x (run p outcomes (linesIn (length trace)) schedule))
-          × (trace ≡ unlessRefused x trace (traceAfter (run p outcomes (linesIn (length trace)) schedule .state .lines) trace))
-          × (work ≡ unlessRefused x work (storeAfter (run p outcomes (linesIn (length trace)) schedule .state .config) work))
+          × (trace ≡ keptIfRefused x trace (traceAfter (run p outcomes (linesIn (length trace)) schedule .state .lines) trace))
+          × (work ≡ keptIfRefused x work (storeAfter (run p outcomes (linesIn (length trace)) schedule .state .config) work))
       go accepted e = absurd (ne (ap (λ (r : Refusal). r .number) (said ∙ ap refusalOf (asked ∙ e))))
       go (refused n i) e = (ap (λ (r : Refusal). refusal (r .number) (r .place)) (said ∙ ap refusalOf (asked ∙ e)), refl, refl)
 
-  pub ran-so : {o : Over} {trace′ work′ : List ℕ} → verdict ≡ accepted
-      → leftAs o trace′ work′ ≡ leaves (run p outcomes (linesIn (length trace)) schedule) trace work
+  pub ran-so : {o : RunSummary} {trace′ work′ : List ℕ} → verdict ≡ accepted
+      → afterRun o trace′ work′ ≡ runLeaves (run p outcomes (linesIn (length trace)) schedule) trace work
       → (ran (o .end) (o .entries) (o .lines) (o .used) ≡ answerOf p schedule outcomes (linesIn (length trace)) (length work))
       × (trace′ ≡ traceLeft p schedule outcomes trace work) × (work′ ≡ storeLeft p schedule outcomes trace work)
-  unfolding answerOf answered machine.unlessRefused traceLeft storeLeft unlessRefused leaves
+  unfolding answerOf resultAnswer machine.unlessRefused traceLeft storeLeft keptIfRefused runLeaves
   ran-so ok e = (
-    ap (λ (l : Left). ran (l .over .end) (l .over .entries) (l .over .lines) (l .over .used)) e
+    ap (λ (l : AfterRun). ran (l .summary .end) (l .summary .entries) (l .summary .lines) (l .summary .used)) e
         ∙ sym (ap (λ (x : Verdict). machine.unlessRefused x (run p outcomes (linesIn (length trace)) schedule)) ok),
-    ap (λ (l : Left). l .trace) e
-        ∙ sym (ap (λ (x : Verdict). unlessRefused x trace (traceAfter (run p outcomes (linesIn (length trace)) schedule .state .lines) trace)) ok),
-    ap (λ (l : Left). l .work) e
-        ∙ sym (ap (λ (x : Verdict). unlessRefused x work (storeAfter (run p outcomes (linesIn (length trace)) schedule .state .config) work)) ok),
+    ap (λ (l : AfterRun). l .trace) e
+        ∙ sym (ap (λ (x : Verdict). keptIfRefused x trace (traceAfter (run p outcomes (linesIn (length trace)) schedule .state .lines) trace)) ok),
+    ap (λ (l : AfterRun). l .work) e
+        ∙ sym (ap (λ (x : Verdict). keptIfRefused x work (storeAfter (run p outcomes (linesIn (length trace)) schedule .state .config) work)) ok),
   )

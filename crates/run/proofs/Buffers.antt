@@ -13,16 +13,16 @@ use Rattle.machine.specs.State.{Process, Line, State, processAt, stopped}
 use Rattle.machine.specs.Act.{Act, actOf, faults}
 use Rattle.machine.specs.Entry.{effectOf, applied}
 use Rattle.machine.specs.Run.{Result, allOver, noneAble, fits, afterEffect, runFrom, run}
-use Rattle.machine.specs.Answer.{Answer, refusal, ran, answered, answerOf, linesIn, lineWords, traceWords, traceAfter}
+use Rattle.machine.specs.Answer.{Answer, refusal, ran, resultAnswer, answerOf, linesIn, lineWords, traceWords, traceAfter}
 use Rattle.machine.specs.Answer as machine
 use Rattle.machine.proofs.Giving.{process-same, process-other}
 use Rattle.machine.proofs.Sound.{sound}
 use Rattle.layout.specs.Layout.{encode, storeAfter, decode}
 use Rattle.layout.proofs.RoundTrip.{encode-length, run-back}
 use Rattle.trace.specs.Trace.{linesOf}
-use Rattle.lines.proofs.LineWritten.{trace-length}
-use Rattle.schedule.proofs.Accepting.{table-kept, outcomes-small}
-use Rattle.run.specs.Answers.{unlessRefused, traceLeft, storeLeft, linesNo, configRead, linesRead}
+use Rattle.trace_lines.proofs.LineWritten.{trace-length}
+use Rattle.run_schedule.proofs.Accepting.{table-kept, outcomes-small}
+use Rattle.run.specs.Answers.{keptIfRefused, traceLeft, storeLeft, linesNo, configRead, linesRead}
 
 -- the words of lines are these lines
 lines-back : (ls : List Line) → linesOf (traceWords ls) ≡ ls
@@ -77,28 +77,28 @@ module _ (p schedule outcomes trace work : List ℕ) where
     answer-refused = ap (λ (v : Verdict). machine.unlessRefused v result) says
 
     pub trace-refused : traceLeft p schedule outcomes trace work ≡ trace
-    unfolding traceLeft unlessRefused
-    trace-refused = ap (λ (v : Verdict). unlessRefused v trace (traceAfter lines trace)) says
+    unfolding traceLeft keptIfRefused
+    trace-refused = ap (λ (v : Verdict). keptIfRefused v trace (traceAfter lines trace)) says
 
     pub store-refused : storeLeft p schedule outcomes trace work ≡ work
-    unfolding storeLeft unlessRefused
-    store-refused = ap (λ (v : Verdict). unlessRefused v work (storeAfter (result .state .config) work)) says
+    unfolding storeLeft keptIfRefused
+    store-refused = ap (λ (v : Verdict). keptIfRefused v work (storeAfter (result .state .config) work)) says
 
   -- where all are passed
 
   module _ (ok : verdict ≡ accepted) where
     pub answer-ran : answerOf p schedule outcomes (linesIn (length trace)) (length work)
         ≡ ran (result .end) (result .entries) (length lines) (result .state .used)
-    unfolding answerOf machine.unlessRefused answered
+    unfolding answerOf machine.unlessRefused resultAnswer
     answer-ran = ap (λ (v : Verdict). machine.unlessRefused v result) ok
 
     trace-is : traceLeft p schedule outcomes trace work ≡ traceAfter lines trace
-    unfolding traceLeft unlessRefused
-    trace-is = ap (λ (v : Verdict). unlessRefused v trace (traceAfter lines trace)) ok
+    unfolding traceLeft keptIfRefused
+    trace-is = ap (λ (v : Verdict). keptIfRefused v trace (traceAfter lines trace)) ok
 
     store-is : storeLeft p schedule outcomes trace work ≡ encode (result .state .config) ++ drop 8192 work
-    unfolding storeLeft unlessRefused storeAfter
-    store-is = ap (λ (v : Verdict). unlessRefused v work (storeAfter (result .state .config) work)) ok
+    unfolding storeLeft keptIfRefused storeAfter
+    store-is = ap (λ (v : Verdict). keptIfRefused v work (storeAfter (result .state .config) work)) ok
 
     words-whole : length (encode (result .state .config)) ≡ 8192
     words-whole =

@@ -17,7 +17,7 @@ use Rattle.machine.specs.Run.{Result, run}
 use Rattle.machine.specs.Owner.{Owned}
 use Rattle.machine.specs.Answer.{refusal, ran, answerOf, linesIn}
 use Rattle.machine.proofs.Ownership.{ownership}
-use Rattle.schedule.proofs.Accepting.{shorter-accepted}
+use Rattle.run_schedule.proofs.Accepting.{shorter-accepted}
 use Rattle.run.specs.Answers.{traceLeft, storeLeft, configRead, linesRead}
 use Rattle.run.proofs.Buffers as buffers
 
@@ -44,7 +44,7 @@ module _ (p schedule outcomes trace work : List ℕ) where
         × (defined .end ≤ 3)
     demand-1-ends = (buffers.answer-ran p schedule outcomes trace work ok, buffers.four-ends p schedule outcomes trace)
 
-    -- Demand 2: the lines, the words behind them, the final configuration and the words behind it are those of the defined
+    -- Demand 2: the lines, the words beyond them, the final configuration and the words beyond it are those of the defined
     -- run; that the answer's counts are stands above
     pub demand-2-lines : linesRead p schedule outcomes trace work ≡ defined .state .lines
     demand-2-lines = buffers.lines-read p schedule outcomes trace work ok

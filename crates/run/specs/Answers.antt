@@ -11,33 +11,27 @@ use Rattle.layout.specs.Layout.{storeAfter, decode}
 use Rattle.trace.specs.Trace.{linesOf}
 use Rattle.run.specs.declared.Answer.{Answer}
 use Rattle.run.specs.declared.Answer.the-variants.{Refused, Ran}
-use Rattle.run.specs.declared.Refusal.{Refusal}
 
 -- "A refusal gives number and place"; "A run answers end, entries used (idle ones too), lines written, outcomes used."
-unfoldable pub answered : Answer → machine.Answer
-answered (Refused n i) = refusal n i
-answered (Ran e k l u) = ran e k l u
-
--- a verdict's number, 0 where accepted, and its place; this definition follows the code
-unfoldable pub refusalOf : Verdict → Refusal
-refusalOf accepted = record { number = 0; place = 0 }
-refusalOf (refused n i) = record { number = n; place = i }
+unfoldable pub answerNumbers : Answer → machine.Answer
+answerNumbers (Refused n i) = refusal n i
+answerNumbers (Ran e k l u) = ran e k l u
 
 -- "trace and work store keep their bytes" where a question says no
-unfoldable pub unlessRefused : Verdict → List ℕ → List ℕ → List ℕ
-unlessRefused accepted before after = after
-unlessRefused (refused n i) before after = before
+unfoldable pub keptIfRefused : Verdict → List ℕ → List ℕ → List ℕ
+keptIfRefused accepted before after = after
+keptIfRefused (refused n i) before after = before
 
 -- "After a run, the trace's first lines are written and the rest kept"
 unfoldable pub traceLeft : List ℕ → List ℕ → List ℕ → List ℕ → List ℕ → List ℕ
 traceLeft p schedule outcomes trace work =
-    unlessRefused (questions p schedule outcomes (length work)) trace
+    keptIfRefused (questions p schedule outcomes (length work)) trace
     (traceAfter (run p outcomes (linesIn (length trace)) schedule .state .lines) trace)
 
 -- "the first 8,192 work words hold the final configuration .. words beyond kept"
 unfoldable pub storeLeft : List ℕ → List ℕ → List ℕ → List ℕ → List ℕ → List ℕ
 storeLeft p schedule outcomes trace work =
-    unlessRefused (questions p schedule outcomes (length work)) work
+    keptIfRefused (questions p schedule outcomes (length work)) work
     (storeAfter (run p outcomes (linesIn (length trace)) schedule .state .config) work)
 
 -- What stands in the buffers after a run, read back: the configuration that the first 8,192 words of the store give, and

@@ -6,11 +6,12 @@
 ghost use mathlib.Core.Path.{_≡_};
 ghost use lib.ListN.{length};
 ghost use Rattle.machine.specs.Answer.{answerOf, linesIn};
-ghost use Rattle.questions.specs.Check.{verdictOf};
-ghost use Rattle.run.specs.Answers.{answered, refusalOf, traceLeft, storeLeft};
-use questions::Check;
-use questions::ask;
-use schedule::accepted::accepted_run;
+ghost use Rattle.check_questions.specs.Check.{verdictOf};
+ghost use Rattle.run.specs.Answers.{answerNumbers, traceLeft, storeLeft};
+ghost use Rattle.run.specs.AnswersCode.{refusalOf};
+use check_questions::Check;
+use check_questions::ask;
+use run_schedule::accepted::accepted_run;
 
 // "A refusal gives number and place"; "A run answers end, entries used (idle ones too), lines written, outcomes used."
 pub enum Answer {
@@ -67,7 +68,7 @@ pub fn run(
     trace: &mut [u16],
     work: &mut [u32],
 ) -> Answer
-    ensures { λ r. ⌜ (answered r ≡ answerOf (now (program .entry)) (now (schedule .entry)) (now (outcomes .entry)) (linesIn (length (now (trace .entry)))) (length (now (work .entry))))
+    ensures { λ r. ⌜ (answerNumbers r ≡ answerOf (now (program .entry)) (now (schedule .entry)) (now (outcomes .entry)) (linesIn (length (now (trace .entry)))) (length (now (work .entry))))
         × (now (trace .exit) ≡ traceLeft (now (program .entry)) (now (schedule .entry)) (now (outcomes .entry)) (now (trace .entry)) (now (work .entry)))
         × (now (work .exit) ≡ storeLeft (now (program .entry)) (now (schedule .entry)) (now (outcomes .entry)) (now (trace .entry)) (now (work .entry))) ⌝ }
 {

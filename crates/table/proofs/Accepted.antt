@@ -82,7 +82,7 @@ pub record Sizes (p : List ℕ) : Type 0 where
   pub instructions-most : instructions p ≤ 4096
   pub words : length p ≡ 2 + 20 * methods p + 2 * instructions p
 
--- Methods lie one behind the other, from the first instruction to the last.
+-- Methods lie one after the other, from the first instruction to the last.
 pub record Pairs (p : List ℕ) : Type 0 where
   pub first : offsetOf p 0 ≡ 0
   pub next : (m : ℕ) → suc m < methods p → offsetOf p (suc m) ≡ endOf p m

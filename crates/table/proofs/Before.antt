@@ -72,7 +72,7 @@ module _ (p : List ℕ) (k : Kept p) where
   pub inside-next : {m i : ℕ} → Inside p m i → opThere p i .closes ≡ false → Inside p m (suc i)
   inside-next {m} {i} h e =
       let more : suc i ≢ endOf p m = λ q. clash e (last-closes h q) in
-      record { method = h .method; behind = omega arith; ahead = omega arith }
+      record { method = h .method; from-offset = omega arith; ahead = omega arith }
 
   pub before-next : {m i : ℕ} → Inside p m i → Inside p m (suc i) → before p (suc i) ≡ after p i (before p i)
   before-next = before-within p (k .sizes) (k .pairs)
@@ -81,7 +81,7 @@ module _ (p : List ℕ) (k : Kept p) where
 
   pub inside-target : {m i : ℕ} → Inside p m i → argAt p i < lengthOf p m → Inside p m (offsetOf p m + argAt p i)
   unfolding endOf
-  inside-target h l = record { method = h .method; behind = omega arith; ahead = omega arith }
+  inside-target h l = record { method = h .method; from-offset = omega arith; ahead = omega arith }
 
   pub target-found : {m i : ℕ} → Inside p m i → T (opThere p i .jumps) → T (isTarget p (offsetOf p m + argAt p i))
   unfolding isTarget jumpsTo

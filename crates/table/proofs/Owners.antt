@@ -1,4 +1,4 @@
--- Where the methods lie once questions 1 and 2 are passed: one behind the other, so that every instruction has one owner.
+-- Where the methods lie once questions 1 and 2 are passed: one after the other, so that every instruction has one owner.
 use Prim.Native.Nat.{ℕ, zero, suc, _-_, _≤_, _<_}
 use native.Mathlib.Omega.{arith}
 use native.Mathlib.Nat.{eq-or-lt-of-le, le-of-suc-le-suc}
@@ -14,7 +14,7 @@ use Rattle.table.proofs.Accepted.{Sizes, Pairs}
 -- Instruction i is one of method m's.
 pub record Inside (p : List ℕ) (m i : ℕ) : Type 0 where
   pub method : m < methods p
-  pub behind : offsetOf p m ≤ i
+  pub from-offset : offsetOf p m ≤ i
   pub ahead : i < endOf p m
 
 module _ (p : List ℕ) (s : Sizes p) (k : Pairs p) where
@@ -48,7 +48,7 @@ module _ (p : List ℕ) (s : Sizes p) (k : Pairs p) where
   -- the first instruction of a method
   pub inside-offset : (m : ℕ) → m < methods p → Inside p m (offsetOf p m)
   unfolding endOf
-  inside-offset m h = record { method = h; behind = omega arith; ahead = omega (arith, k .filled m h) }
+  inside-offset m h = record { method = h; from-offset = omega arith; ahead = omega (arith, k .filled m h) }
 
   -- owners
 
@@ -73,8 +73,8 @@ module _ (p : List ℕ) (s : Sizes p) (k : Pairs p) where
       let low : ¬ (n < ownerOf p i) = λ l. omega (arith, leb-true (endOf p n) i (owner-first i .passes n l), k .last n e) in
       omega arith
 
-  owner-behind : (i : ℕ) → ownerOf p i < methods p → offsetOf p (ownerOf p i) ≤ i
-  owner-behind i h = step (ownerOf p i) (owner-first i) h
+  owner-after : (i : ℕ) → ownerOf p i < methods p → offsetOf p (ownerOf p i) ≤ i
+  owner-after i h = step (ownerOf p i) (owner-first i) h
     where
       step : (m : ℕ) → IsFirst (λ m. leb (endOf p m) i) (methods p) m → m < methods p → offsetOf p m ≤ i
       step zero f l = omega (arith, k .first)
@@ -86,6 +86,6 @@ module _ (p : List ℕ) (s : Sizes p) (k : Pairs p) where
       let method = owner-method i h in
       record {
         method = method;
-        behind = owner-behind i method;
+        from-offset = owner-after i method;
         ahead = leb-false (endOf p (ownerOf p i)) i (owner-first i .fails method);
       }

@@ -1,6 +1,6 @@
 -- Document 01, "Program table": where each part of a table stands, and the codes of the types.
 -- A table is a list of 16-bit words. A word past its end reads as 0, so that every definition is total;
--- question 1 settles the length before anything else is asked.
+-- question 1 asks for the length before anything else is asked.
 use Prim.Native.Nat.{ℕ, _+_, _*_, _-_}
 use mathlib.Core.Bool.{Bool, _&&_, _||_}
 use mathlib.Core.List.{List}
@@ -26,7 +26,7 @@ offsetOf p m = word p (2 + 2 * m)
 unfoldable pub lengthOf : List ℕ → ℕ → ℕ
 lengthOf p m = word p (3 + 2 * m)
 
--- the first instruction behind method m
+-- the first instruction after method m
 unfoldable pub endOf : List ℕ → ℕ → ℕ
 endOf p m = offsetOf p m + lengthOf p m
 
@@ -57,7 +57,7 @@ opAt p i = word p (2 + 20 * methods p + 2 * i)
 unfoldable pub argAt : List ℕ → ℕ → ℕ
 argAt p i = word p (3 + 20 * methods p + 2 * i)
 
--- the method that instruction i belongs to: the first that ends behind it
+-- the method that instruction i belongs to: the first that ends after it
 unfoldable pub ownerOf : List ℕ → ℕ → ℕ
 ownerOf p i = firstFalse (λ m. leb (endOf p m) i) (methods p)
 

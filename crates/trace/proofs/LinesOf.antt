@@ -7,7 +7,7 @@ use native.Mathlib.Omega.{arith}
 use lib.ListN.{getD, length}
 use Rattle.machine.specs.Owner.{noLine}
 use Rattle.trace.specs.Trace.{linesOf}
-use Rattle.trace.specs.Read.{lineFrom}
+use Rattle.trace.specs.ReadCode.{lineFrom}
 
 -- there is a line for each six words
 pub linesOf-length : (ws : List ℕ) → length (linesOf ws) ≡ length ws / 6

@@ -39,7 +39,7 @@ module _ (ls ms : List Line) (i : ℕ) {l m : Line} (h : i < length ls) (k : i <
   pub sameAll-differ : sameLine l m ≡ false → sameAll (drop i ls) (drop i ms) ≡ false
   sameAll-differ e = sameAll-next ∙ ap (λ (b : Bool). b && sameAll (drop (i + 1) ls) (drop (i + 1) ms)) e
 
--- behind the last lines
+-- after the last lines
 pub sameAll-end : (ls ms : List Line) (i : ℕ) → length ls ≤ i → length ms ≤ i → sameAll (drop i ls) (drop i ms) ≡ true
 unfolding sameAll
 sameAll-end ls ms i h k = ap₂ sameAll (drop-of-length-le ls h) (drop-of-length-le ms k)

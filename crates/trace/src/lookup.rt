@@ -6,10 +6,10 @@ ghost use lib.ListN.{length};
 ghost use Rattle.machine.specs.Value.{qubit};
 ghost use Rattle.machine.specs.Owner.{holderAfter};
 ghost use Rattle.trace.specs.Trace.{linesOf, lookUp};
-ghost use Rattle.trace.specs.Read.{asLine};
+ghost use Rattle.trace.specs.ReadCode.{asLine};
 use super::read::line_at;
 use super::read::line_count;
-use lines::TraceLine;
+use trace_lines::TraceLine;
 
 // The holder of qubit q after a line, where h held it before. Kind 1 is the making of a qubit, kind 6 a giving, in
 // which thing 3 is a qubit.

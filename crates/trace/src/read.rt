@@ -4,8 +4,8 @@ ghost use Prim.Native.Nat.{_+_, _≤_, _<_};
 ghost use lib.ListN.{length, getD};
 ghost use Rattle.machine.specs.Owner.{noLine};
 ghost use Rattle.trace.specs.Trace.{linesOf};
-ghost use Rattle.trace.specs.Read.{asLine, lineFrom};
-use lines::TraceLine;
+ghost use Rattle.trace.specs.ReadCode.{asLine, lineFrom};
+use trace_lines::TraceLine;
 
 // How many whole lines there are.
 pub fn line_count(t: &[u16]) -> usize

@@ -1,10 +1,10 @@
 // Whether two traces have the same lines, column 0 left out.
 ghost use mathlib.Core.Path.{_≡_};
 ghost use Rattle.trace.specs.Trace.{sameLine, sameLines};
-ghost use Rattle.trace.specs.Read.{asLine};
+ghost use Rattle.trace.specs.ReadCode.{asLine};
 use super::read::line_at;
 use super::read::line_count;
-use lines::TraceLine;
+use trace_lines::TraceLine;
 
 // Columns 1 to 5 agree.
 fn same_line(l: TraceLine, m: TraceLine) -> bool

@@ -1,9 +1,9 @@
 -- `lanq_check` gives each case of the check its numbers.
-use Rattle.questions.specs.declared.Check.the-variants.{Accepted, Sizes, Pairs, Rows, Instruction, Reading, Outcome, Schedule, Work}
+use Rattle.check_questions.specs.declared.Check.the-variants.{Accepted, Sizes, Pairs, Rows, Instruction, Reading, Outcome, Schedule, Work}
 use Rattle.table.specs.Questions.{questions}
 use Rattle.lanq.proofs.Answered.{answered}
-use Rattle.questions.specs.Check.{verdictOf}
-use Rattle.lanq.specs.Answers.{answerOf}
+use Rattle.check_questions.specs.Check.{verdictOf}
+use Rattle.lanq.specs.Answers.{checkAnswer}
 use borrow.Author.Needs.{needs}
 use Rattle.lanq.proofs.lanq_check.Statement.{statement}
 use Rattle.lanq.proofs.lanq_check.Tie as tie
@@ -66,39 +66,39 @@ refusal-requires-9 : tie.Need-refusal-requires-9
 refusal-requires-9 c κs = search needs
 
 returns : tie.Need-returns
-unfolding answerOf verdictOf
+unfolding checkAnswer verdictOf
 returns c = answered (c .before .before .before .ask .result) Accepted (questions (c .before .before .before .before .before .before .before .args .program .now) (c .before .before .before .before .before .before .before .args .schedule .now) (c .before .before .before .before .before .before .before .args .outcomes .now) (c .before .before .before .before .before .before .before .args .work)) (c .before .enum-told .given .1) (c .before .before .before .ask .ensures) (c .refusal .ensures)
 
 returns-2 : tie.Need-returns-2
-unfolding answerOf verdictOf
+unfolding checkAnswer verdictOf
 returns-2 c = answered (c .before .before .before .ask .result) Sizes (questions (c .before .before .before .before .before .before .before .args .program .now) (c .before .before .before .before .before .before .before .args .schedule .now) (c .before .before .before .before .before .before .before .args .outcomes .now) (c .before .before .before .before .before .before .before .args .work)) (c .before .enum-told2 .given .1) (c .before .before .before .ask .ensures) (c .refusal2 .ensures)
 
 returns-3 : tie.Need-returns-3
-unfolding answerOf verdictOf
+unfolding checkAnswer verdictOf
 returns-3 c = answered (c .before .before .before .before .ask .result) (Pairs _) (questions (c .before .before .before .before .before .before .before .before .args .program .now) (c .before .before .before .before .before .before .before .before .args .schedule .now) (c .before .before .before .before .before .before .before .before .args .outcomes .now) (c .before .before .before .before .before .before .before .before .args .work)) (c .before .before .answer .given .1) (c .before .before .before .before .ask .ensures) (c .refusal3 .ensures)
 
 returns-4 : tie.Need-returns-4
-unfolding answerOf verdictOf
+unfolding checkAnswer verdictOf
 returns-4 c = answered (c .before .before .before .before .ask .result) (Rows _) (questions (c .before .before .before .before .before .before .before .before .args .program .now) (c .before .before .before .before .before .before .before .before .args .schedule .now) (c .before .before .before .before .before .before .before .before .args .outcomes .now) (c .before .before .before .before .before .before .before .before .args .work)) (c .before .before .answer2 .given .1) (c .before .before .before .before .ask .ensures) (c .refusal4 .ensures)
 
 returns-5 : tie.Need-returns-5
-unfolding answerOf verdictOf
+unfolding checkAnswer verdictOf
 returns-5 c = answered (c .before .before .before .before .ask .result) (Instruction _) (questions (c .before .before .before .before .before .before .before .before .args .program .now) (c .before .before .before .before .before .before .before .before .args .schedule .now) (c .before .before .before .before .before .before .before .before .args .outcomes .now) (c .before .before .before .before .before .before .before .before .args .work)) (c .before .before .answer3 .given .1) (c .before .before .before .before .ask .ensures) (c .refusal5 .ensures)
 
 returns-6 : tie.Need-returns-6
-unfolding answerOf verdictOf
+unfolding checkAnswer verdictOf
 returns-6 c = answered (c .before .before .before .before .ask .result) (Reading _) (questions (c .before .before .before .before .before .before .before .before .args .program .now) (c .before .before .before .before .before .before .before .before .args .schedule .now) (c .before .before .before .before .before .before .before .before .args .outcomes .now) (c .before .before .before .before .before .before .before .before .args .work)) (c .before .before .answer4 .given .1) (c .before .before .before .before .ask .ensures) (c .refusal6 .ensures)
 
 returns-7 : tie.Need-returns-7
-unfolding answerOf verdictOf
+unfolding checkAnswer verdictOf
 returns-7 c = answered (c .before .before .before .before .ask .result) (Outcome _) (questions (c .before .before .before .before .before .before .before .before .args .program .now) (c .before .before .before .before .before .before .before .before .args .schedule .now) (c .before .before .before .before .before .before .before .before .args .outcomes .now) (c .before .before .before .before .before .before .before .before .args .work)) (c .before .before .answer5 .given .1) (c .before .before .before .before .ask .ensures) (c .refusal7 .ensures)
 
 returns-8 : tie.Need-returns-8
-unfolding answerOf verdictOf
+unfolding checkAnswer verdictOf
 returns-8 c = answered (c .before .before .before .ask .result) Schedule (questions (c .before .before .before .before .before .before .before .args .program .now) (c .before .before .before .before .before .before .before .args .schedule .now) (c .before .before .before .before .before .before .before .args .outcomes .now) (c .before .before .before .before .before .before .before .args .work)) (c .before .enum-told3 .given .1) (c .before .before .before .ask .ensures) (c .refusal8 .ensures)
 
 returns-9 : tie.Need-returns-9
-unfolding answerOf verdictOf
+unfolding checkAnswer verdictOf
 returns-9 c = answered (c .before .before .before .ask .result) Work (questions (c .before .before .before .before .before .before .before .args .program .now) (c .before .before .before .before .before .before .before .args .schedule .now) (c .before .before .before .before .before .before .before .args .outcomes .now) (c .before .before .before .before .before .before .before .args .work)) (c .before .enum-told4 .given .1) (c .before .before .before .ask .ensures) (c .refusal9 .ensures)
 
 pub lanq-check-spec : {M : Type 1} → statement M

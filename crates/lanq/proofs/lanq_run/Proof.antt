@@ -2,7 +2,7 @@
 use Rattle.lanq.proofs.Answered.{ran}
 use Rattle.lanq.specs.Answers.{runAnswer}
 use Rattle.run.specs.declared.Answer.the-variants.{Refused, Ran}
-use Rattle.run.specs.Answers.{answered}
+use Rattle.run.specs.Answers.{answerNumbers}
 use Rattle.machine.specs.Answer.{answerOf, linesIn}
 use lib.ListN.{length}
 use borrow.Author.Needs.{needs}
@@ -43,7 +43,7 @@ same-length-2 : tie.Need-same-length-2
 same-length-2 c = search needs
 
 returns : tie.Need-returns
-unfolding runAnswer answered
+unfolding runAnswer answerNumbers
 returns c = (ran (c .before .before .before .before .before .before .before .before .run .result) (Refused _ _) (answerOf (c .before .before .before .before .before .before .before .before .before .before .before .before .before .before .before .before .args .program .now) (c .before .before .before .before .before .before .before .before .before .before .before .before .before .before .before .before .args .schedule .now) (c .before .before .before .before .before .before .before .before .before .before .before .before .before .before .before .before .args .outcomes .now) (linesIn (length (c .before .before .before .before .before .before .before .before .before .before .before .before .before .before .before .before .args .trace .now))) (length (c .before .before .before .before .before .before .before .before .before .before .before .before .before .before .before .before .args .work .now))) (c .before .before .answer .given .1) (c .before .before .before .before .before .before .before .before .run .ensures .0) (c .refusal .ensures), c .before .before .before .before .before .before .before .before .run .ensures .1, c .before .before .before .before .before .before .before .before .run .ensures .2)
 
 same-length-3 : tie.Need-same-length-3
@@ -53,7 +53,7 @@ same-length-4 : tie.Need-same-length-4
 same-length-4 c = search needs
 
 returns-2 : tie.Need-returns-2
-unfolding runAnswer answered
+unfolding runAnswer answerNumbers
 returns-2 c = (ran (c .before .before .before .before .before .before .before .before .run .result) (Ran _ _ _ _) (answerOf (c .before .before .before .before .before .before .before .before .before .before .before .before .before .before .before .before .args .program .now) (c .before .before .before .before .before .before .before .before .before .before .before .before .before .before .before .before .args .schedule .now) (c .before .before .before .before .before .before .before .before .before .before .before .before .before .before .before .before .args .outcomes .now) (linesIn (length (c .before .before .before .before .before .before .before .before .before .before .before .before .before .before .before .before .args .trace .now))) (length (c .before .before .before .before .before .before .before .before .before .before .before .before .before .before .before .before .args .work .now))) (c .before .before .answer2 .given .1) (c .before .before .before .before .before .before .before .before .run .ensures .0) (c .ended .ensures), c .before .before .before .before .before .before .before .before .run .ensures .1, c .before .before .before .before .before .before .before .before .run .ensures .2)
 
 pub lanq-run-spec : {M : Type 1} → statement M

@@ -1,6 +1,6 @@
 -- `print_text` puts the refusal 9 or the text of the run.
 use mathlib.Core.Path.{sym, _∙_}
-use Rattle.print_text.proofs.Telling.{from-start, prints-same}
+use Rattle.print_text.proofs.Output.{from-start, prints-same}
 use Rattle.print_text.proofs.Built.{printed-run, printed-refusal}
 use borrow.Author.Needs.{needs}
 use borrow.Author.Tests.{not-true, not-false}

@@ -3,7 +3,7 @@ use Prim.Native.Nat.{ℕ}
 use mathlib.Core.Path.{sym}
 use lib.ListN.{replicate, length-replicate}
 use lib.Seq.{length-take-le}
-use Rattle.print_text.proofs.Telling.{prints-same}
+use Rattle.print_text.proofs.Output.{prints-same}
 use Rattle.print_text.proofs.Built.{built, words-fit, words-read, schedule-read, outcomes-read, in-order, parts-text}
 use borrow.Author.Needs.{needs}
 use Rattle.print_text.proofs.put_parts.Statement.{statement}

@@ -2,7 +2,7 @@
 use Prim.Native.Nat.{ℕ}
 use native.Mathlib.Omega.{arith}
 use lib.ListN.{replicate, length-replicate}
-use Rattle.print_text.proofs.Telling.{told, prints-same}
+use Rattle.print_text.proofs.Output.{printable, prints-same}
 use borrow.Author.Needs.{needs}
 use Rattle.print_text.proofs.put_run.Statement.{statement}
 use Rattle.print_text.proofs.put_run.Tie as tie
@@ -22,7 +22,7 @@ slice-aggregate-put-answer c = search needs
 put-answer-requires : tie.Need-put-answer-requires
 put-answer-requires c κs =
     let args = c .before .before .before .before .before .before .before .before .before .before .before .args in
-    let t = told (args .program .now) (args .schedule .now) (args .outcomes .now) (replicate 24576 0) (replicate 8192 0)
+    let t = printable (args .program .now) (args .schedule .now) (args .outcomes .now) (replicate 24576 0) (replicate 8192 0)
     (length-replicate {A = ℕ} 24576 0) (length-replicate {A = ℕ} 8192 0) (c .before .before .before .before .run .ensures .0) (c .before .before .before .before .run .ensures .1) in
     (t .held, omega (arith, t .few))
 
@@ -32,7 +32,7 @@ same-length c = search needs
 returns : tie.Need-returns
 returns c =
     let args = c .before .before .before .before .before .before .before .before .before .before .before .before .before .before .args in
-    let t = told (args .program .now) (args .schedule .now) (args .outcomes .now) (replicate 24576 0) (replicate 8192 0)
+    let t = printable (args .program .now) (args .schedule .now) (args .outcomes .now) (replicate 24576 0) (replicate 8192 0)
     (length-replicate {A = ℕ} 24576 0) (length-replicate {A = ℕ} 8192 0) (c .before .before .before .before .before .before .before .run .ensures .0) (c .before .before .before .before .before .before .before .run .ensures .1) in
     prints-same (args .out .now) (t .text) (c .before .before .put-answer .ensures)
 

@@ -1,7 +1,7 @@
 -- `verdict` says the number and place of each case.
-use Rattle.questions.specs.declared.Check.the-variants.{Accepted, Sizes, Pairs, Rows, Instruction, Reading, Outcome, Schedule, Work}
-use Rattle.questions.specs.Check.{verdictOf}
-use Rattle.run.specs.Answers.{refusalOf}
+use Rattle.check_questions.specs.declared.Check.the-variants.{Accepted, Sizes, Pairs, Rows, Instruction, Reading, Outcome, Schedule, Work}
+use Rattle.check_questions.specs.Check.{verdictOf}
+use Rattle.run.specs.AnswersCode.{refusalOf}
 use Rattle.run.proofs.Answering.{refused-as}
 use borrow.Author.Needs.{needs}
 use Rattle.run.proofs.verdict.Statement.{statement}

@@ -3,11 +3,11 @@ use mathlib.Core.Path.{sym, ap}
 use native.Mathlib.Omega.{arith}
 use lib.ListN.{take}
 use Rattle.trace.specs.Trace.{linesOf}
-use Rattle.text.specs.Text.{answerText}
+use Rattle.print_format.specs.Format.{answerText}
 use Rattle.run.specs.declared.Answer.{Answer}
-use Rattle.run.specs.Answers.{answered}
+use Rattle.run.specs.Answers.{answerNumbers}
 use Rattle.run.specs.Answers.{linesNo}
-use Rattle.print_text.proofs.Telling.{from-start, prints-same}
+use Rattle.print_text.proofs.Output.{from-start, prints-same}
 use borrow.Author.Needs.{needs}
 use Rattle.print_text.proofs.answer.put_answer.Statement.{statement}
 use Rattle.print_text.proofs.answer.put_answer.Tie as tie
@@ -31,34 +31,34 @@ cast-put-ended-2 : tie.Need-cast-put-ended-2
 cast-put-ended-2 c = search needs
 
 put-ended-requires : tie.Need-put-ended-requires
-unfolding linesNo answered
+unfolding linesNo answerNumbers
 put-ended-requires c κs =
-    let told = ap (λ (a : Answer). linesNo (answered a)) (c .before .before .a2 .given .1) in
+    let same = ap (λ (a : Answer). linesNo (answerNumbers a)) (c .before .before .a2 .given .1) in
     let pre = c .before .before .before .before .before .before .pre in
-    (omega (arith, told, pre .0), omega (arith, told, pre .1))
+    (omega (arith, same, pre .0), omega (arith, same, pre .1))
 
 same-length : tie.Need-same-length
 same-length c = search needs
 
 returns : tie.Need-returns
-unfolding linesNo answered answerText
+unfolding linesNo answerNumbers answerText
 returns c =
     let args = c .before .before .before .before .before .before .before .before .before .args in
     let ls = linesOf (args .trace .now) in
     prints-same (args .out .now)
-    (ap (λ (a : Answer). answerText (take (linesNo (answered a)) ls) (answered a)) (sym (c .before .before .before .before .before .a .given .1)))
+    (ap (λ (a : Answer). answerText (take (linesNo (answerNumbers a)) ls) (answerNumbers a)) (sym (c .before .before .before .before .before .a .given .1)))
     (from-start (args .out .now) _ (c .before .before .put-refused .ensures))
 
 same-length-2 : tie.Need-same-length-2
 same-length-2 c = search needs
 
 returns-2 : tie.Need-returns-2
-unfolding linesNo answered
+unfolding linesNo answerNumbers
 returns-2 c =
     let args = c .before .before .before .before .before .before .before .before .before .args in
     let ls = linesOf (args .trace .now) in
     prints-same (args .out .now)
-    (ap (λ (a : Answer). answerText (take (linesNo (answered a)) ls) (answered a)) (sym (c .before .before .before .before .before .a2 .given .1)))
+    (ap (λ (a : Answer). answerText (take (linesNo (answerNumbers a)) ls) (answerNumbers a)) (sym (c .before .before .before .before .before .a2 .given .1)))
     (c .before .before .put-ended .ensures)
 
 pub put-answer-spec : {M : Type 1} → statement M

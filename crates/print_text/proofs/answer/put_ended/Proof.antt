@@ -2,11 +2,11 @@
 use native.Mathlib.Omega.{arith}
 use lib.ListN.{take}
 use Rattle.trace.specs.Trace.{linesOf}
-use Rattle.text.specs.Text.{linesText}
-use Rattle.printing.specs.Texts.{endText}
+use Rattle.print_format.specs.Format.{linesText}
+use Rattle.print_lines.specs.TextsCode.{endText}
 use Rattle.lists.proofs.Put.{put-then, put-same}
-use Rattle.printing.proofs.TraceText.{first-length}
-use Rattle.print_text.proofs.Telling.{from-start, ran-text}
+use Rattle.print_lines.proofs.TraceText.{first-length}
+use Rattle.print_text.proofs.Output.{from-start, ran-text}
 use borrow.Author.Needs.{needs}
 use Rattle.print_text.proofs.answer.put_ended.Statement.{statement}
 use Rattle.print_text.proofs.answer.put_ended.Tie as tie

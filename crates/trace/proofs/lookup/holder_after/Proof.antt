@@ -1,6 +1,6 @@
 -- `holder_after` answers by the line if it makes or gives the qubit, and h otherwise.
 use mathlib.Core.Option.{some}
-use Rattle.trace.specs.Read.{asLine}
+use Rattle.trace.specs.ReadCode.{asLine}
 use Rattle.trace.proofs.Held.{holderAfter-qubit}
 use Rattle.trace.proofs.lookup.holder_after.Statement.{statement}
 use Rattle.trace.proofs.lookup.holder_after.Tie as tie

@@ -1,4 +1,0 @@
-pub mod Reads
-pub mod Partner
-pub mod Pairings
-pub mod Ending

@@ -1,0 +1,57 @@
+// Question 4: the first instruction at fault, by its op and its argument. On the way the jumps' targets are marked, for
+// question 5. Asked is that questions 1 and 2 are passed.
+ghost use mathlib.Core.Path.{_≡_};
+ghost use Prim.Native.Nat.{_≤_, _<_};
+ghost use lib.Dec.{T};
+ghost use lib.ListN.{length};
+ghost use Rattle.lists.specs.Lists.{firstFalse};
+ghost use Rattle.table.specs.Table.{methods, instructions};
+ghost use Rattle.table.specs.Ops.{opOf};
+ghost use Rattle.table.specs.Questions.{instructionKept};
+ghost use Rattle.table.proofs.Accepted.{Sizes, Pairs};
+ghost use Rattle.check_arguments.specs.MarksCode.{marks, marked};
+
+mod ranges;
+
+use check_instructions::owner::Owner;
+use check_instructions::words::arg_at;
+use check_instructions::words::op_at;
+use ranges::argument_kept;
+
+// A mark at the target of a jump; ops 17 and 18 jump.
+fn mark(targets: &mut [u8], op: usize, at: usize)
+    requires { ⌜ (T (opOf op .jumps) → at < length (now targets)) ⌝ }
+    ensures { λ r. ⌜ now (targets .exit) ≡ marks op at (now (targets .entry)) ⌝ }
+{
+    if op == 17 {
+        targets[at] = 1;
+        return;
+    }
+    if op == 18 {
+        targets[at] = 1;
+        return;
+    }
+}
+
+// The first of n instructions at fault, or n. Those before it have their targets marked.
+pub fn first_instruction(p: &[u16], count: usize, n: usize, targets: &mut [u8]) -> usize
+    requires { ⌜ Sizes (now p) × Pairs (now p) × (count ≡ methods (now p)) × (n ≡ instructions (now p))
+        × (4096 ≤ length (now targets)) ⌝ }
+    ensures { λ r. ⌜ (r ≡ firstFalse (instructionKept (now (p .entry))) n)
+        × (now (targets .exit) ≡ marked (now (p .entry)) r (now (targets .entry))) ⌝ }
+{
+    let mut o = Owner::of(p, 0);
+    let mut i = 0;
+    while i < n {
+        let here = o.at(p, i);
+        o = here;
+        let op = op_at(p, count, i);
+        let a = arg_at(p, count, i);
+        if !argument_kept(p, count, here, op, a) {
+            return i;
+        }
+        mark(targets, op, here.start + a);
+        i += 1;
+    }
+    i
+}

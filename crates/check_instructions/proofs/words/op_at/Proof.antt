@@ -1,0 +1,35 @@
+-- `op_at` reads the first word of an instruction.
+use Rattle.table.specs.Table.{opAt}
+use borrow.Author.Needs.{needs}
+use Rattle.check_instructions.proofs.words.op_at.Statement.{statement}
+use Rattle.check_instructions.proofs.words.op_at.Tie as tie
+
+mul-word-within : tie.Need-mul-word-within
+mul-word-within c = search needs
+
+add-word-within : tie.Need-add-word-within
+add-word-within c = search needs
+
+mul-word-within-2 : tie.Need-mul-word-within-2
+mul-word-within-2 c = search needs
+
+add-word-within-2 : tie.Need-add-word-within-2
+add-word-within-2 c = search needs
+
+word-within-requires : tie.Need-word-within-requires
+word-within-requires c κs = search needs
+
+returns : tie.Need-returns
+unfolding opAt
+returns c = (cc, search needs)
+
+pub op-at-spec : {M : Type 1} → statement M
+op-at-spec =
+    tie.close
+    (tie.spec
+    mul-word-within
+    add-word-within
+    mul-word-within-2
+    add-word-within-2
+    word-within-requires
+    returns)

@@ -1,0 +1,2 @@
+pub mod AskCode
+pub mod Check

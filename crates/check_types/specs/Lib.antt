@@ -1,0 +1,3 @@
+pub mod PendingCode
+pub mod RulesCode
+pub mod ReadOnCode

@@ -1,3 +1,0 @@
-pub mod Forking
-pub mod Meetings
-pub mod Entries

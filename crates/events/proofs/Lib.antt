@@ -1,5 +1,0 @@
-pub mod Answers
-pub mod Ended
-pub mod Telling
-pub mod Concluding
-pub mod Dropped

@@ -1,3 +1,0 @@
-pub mod Returns
-pub mod Alone
-pub mod Standing

@@ -1,3 +1,0 @@
-pub mod Lifted
-pub mod Encoded
-pub mod Apart

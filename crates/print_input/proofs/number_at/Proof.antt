@@ -1,0 +1,45 @@
+-- `number_at` puts two 16-bit numbers together.
+use native.Mathlib.Omega.{arith}
+use Rattle.print_input.proofs.FileLaws.{numberAt-halves}
+use borrow.Author.Needs.{needs}
+use Rattle.print_input.proofs.number_at.Statement.{statement}
+use Rattle.print_input.proofs.number_at.Tie as tie
+
+two-at-requires : tie.Need-two-at-requires
+two-at-requires c κs = search needs
+
+cast-result : tie.Need-cast-result
+cast-result c = search needs
+
+add-two-at : tie.Need-add-two-at
+add-two-at c = search needs
+
+two-at-requires-2 : tie.Need-two-at-requires-2
+two-at-requires-2 c κs = search needs
+
+cast-result-2 : tie.Need-cast-result-2
+cast-result-2 c = search needs
+
+mul-result : tie.Need-mul-result
+mul-result c = search needs
+
+add-result : tie.Need-add-result
+add-result c = search needs
+
+returns : tie.Need-returns
+returns c =
+    let args = c .before .before .before .args in
+    (omega (arith, numberAt-halves (args .bytes .now) (args .i)), omega arith)
+
+pub number-at-spec : {M : Type 1} → statement M
+number-at-spec =
+    tie.close
+    (tie.spec
+    two-at-requires
+    cast-result
+    add-two-at
+    two-at-requires-2
+    cast-result-2
+    mul-result
+    add-result
+    returns)

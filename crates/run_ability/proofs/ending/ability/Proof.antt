@@ -1,0 +1,30 @@
+-- `ability` goes by the readiness, and by whether an offer has a partner.
+use Rattle.run_ability.proofs.Returns.{no-offer, unmet, met}
+use borrow.Author.Needs.{needs}
+use Rattle.run_ability.proofs.ending.ability.Statement.{statement}
+use Rattle.run_ability.proofs.ending.ability.Tie as tie
+
+readiness-of-requires : tie.Need-readiness-of-requires
+readiness-of-requires c κs = search needs
+
+returns : tie.Need-returns
+returns c =
+    let args = c .before .before .before .before .before .args in
+    no-offer (args .p .now) (args .work .now) (args .t .now) (args .n .0) (c .before .before .readiness-of .ensures) (c .if1 .taken)
+
+has-partner-requires : tie.Need-has-partner-requires
+has-partner-requires c κs = search needs
+
+returns-2 : tie.Need-returns-2
+returns-2 c =
+    let args = c .before .before .before .before .before .before .before .args in
+    met (args .p .now) (args .work .now) (args .t .now) (args .n .0) (c .before .before .before .before .readiness-of .ensures) (c .before .before .if1 .left) (c .before .has-partner .ensures) (c .if2 .taken)
+
+returns-3 : tie.Need-returns-3
+returns-3 c =
+    let args = c .before .before .before .before .before .before .before .args in
+    unmet (args .p .now) (args .work .now) (args .t .now) (args .n .0) (c .before .before .before .before .readiness-of .ensures) (c .before .before .if1 .left) (c .before .has-partner .ensures) (c .if2 .left)
+
+pub ability-spec : {M : Type 1} → statement M
+ability-spec =
+    tie.close (tie.spec readiness-of-requires returns has-partner-requires returns-2 returns-3)

@@ -1,0 +1,4 @@
+pub mod ReadsCode
+pub mod PartnerCode
+pub mod PairingCode
+pub mod EndingCode

@@ -1,0 +1,45 @@
+// Whether the run can go on: "every process made has finished or stopped, end 1; none able to move (to step, meet or
+// fault), end 2".
+ghost use mathlib.Core.Path.{_≡_};
+ghost use Prim.Native.Nat.{_+_, _*_, _<_, _≤_};
+ghost use lib.ListN.{length};
+ghost use Rattle.table.specs.Table.{methods};
+ghost use Rattle.run_ability.specs.EndingCode.{abilityOp, endingOp};
+use super::partner::has_partner;
+use super::reads::readiness_of;
+use run_store::references::ProcessNo;
+
+// 0 over, 1 able to move, 2 waiting.
+pub fn ability(p: &[u16], start: usize, work: &[u32], t: &[[u16; 2]; 16], n: ProcessNo) -> u32
+    requires { ⌜ (start ≡ 2 + 20 * methods (now p)) × (8192 ≤ length (now work)) × (n .0 < 8) ⌝ }
+    ensures { λ r. ⌜ r ≡ abilityOp (now (p .entry)) (now (work .entry)) (now (t .entry)) (n .0) ⌝ }
+{
+    let a = readiness_of(p, start, work, n);
+    if a.kind < 2 {
+        return a.kind;
+    }
+    if has_partner(p, start, work, t, n, a) {
+        return 1;
+    }
+    2
+}
+
+// 0 where some process is able to move.
+pub fn ending(p: &[u16], start: usize, work: &[u32], t: &[[u16; 2]; 16]) -> u32
+    requires { ⌜ (start ≡ 2 + 20 * methods (now p)) × (8192 ≤ length (now work)) ⌝ }
+    ensures { λ r. ⌜ r ≡ endingOp (now (p .entry)) (now (work .entry)) (now (t .entry)) 8 ⌝ }
+{
+    let mut end: u32 = 1;
+    let mut j: u16 = 0;
+    while j < 8 {
+        let a = ability(p, start, work, t, ProcessNo(j));
+        if a == 1 {
+            return 0;
+        }
+        if a == 2 {
+            end = 2;
+        }
+        j += 1;
+    }
+    end
+}

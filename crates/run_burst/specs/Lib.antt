@@ -1,0 +1,3 @@
+pub mod KnowledgeCode
+pub mod BurstCode
+pub mod TurnCode

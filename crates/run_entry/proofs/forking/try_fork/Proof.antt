@@ -1,0 +1,78 @@
+-- `try_fork` faults where an argument is emptied or the child would be the ninth process.
+use Rattle.run_entry.proofs.Returns.{fork-lacks, fork-beyond, fork-tried}
+use borrow.Author.Needs.{needs}
+use Rattle.run_entry.proofs.forking.try_fork.Statement.{statement}
+use Rattle.run_entry.proofs.forking.try_fork.Tie as tie
+
+lacks-of-requires : tie.Need-lacks-of-requires
+lacks-of-requires c κs = search needs
+
+single-requires : tie.Need-single-requires
+single-requires c κs = search needs
+
+same-length : tie.Need-same-length
+same-length c = search needs
+
+same-length-2 : tie.Need-same-length-2
+same-length-2 c = search needs
+
+returns : tie.Need-returns
+returns c =
+    let args = c .before .before .before .before .before .before .before .before .before .before .before .before .before .before .args in
+    fork-lacks (args .p .now) (args .outcomes .now) (args .trace .now) (args .work .now) (args .room) (args .g) (args .n .0) (args .m) (args .args) (c .before .before .before .before .before .before .before .before .lacks-of .ensures) (c .before .before .before .before .before .before .before .if1 .taken) (c .before .before .before .before .single .ensures)
+
+get-requires : tie.Need-get-requires
+get-requires c κs = search needs
+
+single-requires-2 : tie.Need-single-requires-2
+single-requires-2 c κs = search needs
+
+same-length-3 : tie.Need-same-length-3
+same-length-3 c = search needs
+
+same-length-4 : tie.Need-same-length-4
+same-length-4 c = search needs
+
+returns-2 : tie.Need-returns-2
+returns-2 c =
+    let args = c .before .before .before .before .before .before .before .before .before .before .before .before .before .before .before .before .before .args in
+    fork-beyond (args .p .now) (args .outcomes .now) (args .trace .now) (args .work .now) (args .room) (args .g) (args .n .0) (args .m) (args .args)
+    (c .before .before .before .before .before .before .before .before .before .before .before .lacks-of .ensures) (c .before .before .before .before .before .before .before .before .before .before .if1 .left) (c .before .before .before .before .before .before .before .before .get .ensures) (c .before .before .before .before .before .before .before .if2 .taken) (c .before .before .before .before .single2 .ensures)
+
+cast-t30 : tie.Need-cast-t30
+cast-t30 c = search needs
+
+start-child-requires : tie.Need-start-child-requires
+start-child-requires c κs = search needs
+
+same-length-5 : tie.Need-same-length-5
+same-length-5 c = search needs
+
+same-length-6 : tie.Need-same-length-6
+same-length-6 c = search needs
+
+returns-3 : tie.Need-returns-3
+returns-3 c =
+    let args = c .before .before .before .before .before .before .before .before .before .before .before .before .before .before .before .before .before .args in
+    fork-tried (args .p .now) (args .outcomes .now) (args .trace .now) (args .work .now) (args .room) (args .g) (args .n .0) (args .m) (args .args)
+    (c .before .before .before .before .before .before .before .before .before .before .before .lacks-of .ensures) (c .before .before .before .before .before .before .before .before .before .before .if1 .left) (c .before .before .before .before .before .before .before .before .get .ensures) (c .before .before .before .before .before .before .before .if2 .left) (c .before .before .before .before .start-child .ensures)
+
+pub try-fork-spec : {M : Type 1} → statement M
+try-fork-spec =
+    tie.close
+    (tie.spec
+    lacks-of-requires
+    single-requires
+    same-length
+    same-length-2
+    returns
+    get-requires
+    single-requires-2
+    same-length-3
+    same-length-4
+    returns-2
+    cast-t30
+    start-child-requires
+    same-length-5
+    same-length-6
+    returns-3)

@@ -1,0 +1,3 @@
+pub mod ForkCode
+pub mod MeetingCode
+pub mod EntryCode

@@ -1,0 +1,68 @@
+-- What an entry's functions have done at their returns, from what their callees did and how their tests came out.
+use Prim.Native.Nat.{ℕ, _+_, _*_}
+use mathlib.Core.Path.{_≡_, sym, _∙_, ap}
+use mathlib.Core.List.{List}
+use native.Mathlib.Omega.{arith}
+use borrow.Author.Tests.{eq-eqb, ne-eqb}
+use Rattle.table.specs.Table.{word, methods, argAt}
+use Rattle.run_store.specs.declared.head.Head.{Head}
+use Rattle.run_store.specs.StoreCode.{headOf}
+use Rattle.run_events.specs.declared.event.EventResult.{EventResult}
+use Rattle.run_events.specs.EventsCode.{AfterEvent, afterEvent, faultEvent, lineEvent, newqOp, newcOp, gateOp, measOp}
+use Rattle.run_events.specs.EndsCode.{stoppedWords, finishedWords}
+use Rattle.run_events.specs.ConcludeCode.{performOp, statusWords}
+
+module _ (p w : List ℕ) (code qubits channels : ℕ) (outcomes : List ℕ) (used : ℕ) {d : AfterEvent} where
+  -- the answer at this code
+  at-code : (k : ℕ) → code ≡ k → d ≡ performOp p w k qubits channels outcomes used → d ≡ performOp p w code qubits channels outcomes used
+  at-code k e q = q ∙ ap (λ (n : ℕ). performOp p w n qubits channels outcomes used) (sym e)
+
+  module _ {h : Head} (e : h ≡ headOf w) where
+    pub event-newq : code ≡ 107 → d ≡ newqOp w h qubits → d ≡ performOp p w code qubits channels outcomes used
+    unfolding performOp
+    event-newq k q = at-code 107 k (q ∙ ap (λ (g : Head). newqOp w g qubits) e)
+
+    pub event-newc : code ≡ 108 → d ≡ newcOp w h channels → d ≡ performOp p w code qubits channels outcomes used
+    unfolding performOp
+    event-newc k q = at-code 108 k (q ∙ ap (λ (g : Head). newcOp w g channels) e)
+
+    pub event-gate : (start a : ℕ) → start ≡ 2 + 20 * methods p → a ≡ word p (start + 2 * h .place + 1) → code ≡ 110 → d ≡ gateOp w h a
+        → d ≡ performOp p w code qubits channels outcomes used
+    unfolding performOp argAt
+    event-gate start a s i k q =
+        at-code 110 k
+        (q
+        ∙ ap (gateOp w h) (i ∙ ap (word p) next)
+        ∙ ap (λ (g : Head). gateOp w g (word p (3 + 20 * methods p + 2 * g .place))) e)
+      where
+        next : start + 2 * h .place + 1 ≡ 3 + 20 * methods p + 2 * h .place
+        next = omega (arith, s)
+
+    pub event-meas : code ≡ 111 → d ≡ measOp w h outcomes used → d ≡ performOp p w code qubits channels outcomes used
+    unfolding performOp
+    event-meas k q = at-code 111 k (q ∙ ap (λ (g : Head). measOp w g outcomes used) e)
+
+  pub event-end : code ≡ 113 → d ≡ afterEvent (lineEvent 9 65535 65535 65535) w → d ≡ performOp p w code qubits channels outcomes used
+  unfolding performOp
+  event-end k q = at-code 113 k q
+
+  -- any other code is a fault's
+  pub event-fault : (code ≡ 107 → ⊥) → (code ≡ 108 → ⊥) → (code ≡ 110 → ⊥) → (code ≡ 111 → ⊥) → (code ≡ 113 → ⊥)
+      → d ≡ afterEvent (faultEvent code) w → d ≡ performOp p w code qubits channels outcomes used
+  unfolding performOp
+  event-fault a b x y z q = rw (ne-eqb code 107 a, ne-eqb code 108 b, ne-eqb code 110 x, ne-eqb code 111 y, ne-eqb code 113 z) q
+
+-- the process as the line leaves it
+
+module _ (w : List ℕ) (t : EventResult) where
+  pub status-stopped : (t .code ≡ 0 → ⊥) → statusWords w t ≡ stoppedWords w (t .code)
+  unfolding statusWords
+  status-stopped n = rw (ne-eqb (t .code) 0 n)
+
+  pub status-finished : t .code ≡ 0 → t .kind ≡ 9 → statusWords w t ≡ finishedWords w
+  unfolding statusWords
+  status-finished c k = rw (eq-eqb (t .code) 0 c, eq-eqb (t .kind) 9 k)
+
+  pub status-as-left : t .code ≡ 0 → (t .kind ≡ 9 → ⊥) → statusWords w t ≡ w
+  unfolding statusWords
+  status-as-left c k = rw (eq-eqb (t .code) 0 c, ne-eqb (t .kind) 9 k)

@@ -1,0 +1,69 @@
+-- `gate_two` goes by whether a qubit is emptied, and whether the two are one.
+use Rattle.run_events.specs.EventsCode.{gateTwo, afterEvent, lineEvent}
+use Rattle.run_ops.proofs.Returns.{took, passed-by}
+use mathlib.Core.Path.{refl, _∙_, ap₂}
+use lib.Dec.{eqb}
+use borrow.Author.Tests.{eq-eqb, ne-eqb}
+use borrow.Author.Needs.{needs}
+use Rattle.run_events.proofs.gates.gate_two.Statement.{statement}
+use Rattle.run_events.proofs.gates.gate_two.Tie as tie
+
+two-empty-requires : tie.Need-two-empty-requires
+two-empty-requires c κs = search needs
+
+fault-requires : tie.Need-fault-requires
+fault-requires c κs = search needs
+
+same-length : tie.Need-same-length
+same-length c = search needs
+
+returns : tie.Need-returns
+unfolding gateTwo
+returns c = took _ _ _ (c .before .before .two-empty .ensures) (c .before .if1 .taken) (ap₂ afterEvent (c .fault .ensures) refl)
+
+qubit-no-requires : tie.Need-qubit-no-requires
+qubit-no-requires c κs = search needs
+
+qubit-no-requires-2 : tie.Need-qubit-no-requires-2
+qubit-no-requires-2 c κs = search needs
+
+fault-requires-2 : tie.Need-fault-requires-2
+fault-requires-2 c κs = search needs
+
+same-length-2 : tie.Need-same-length-2
+same-length-2 c = search needs
+
+returns-2 : tie.Need-returns-2
+unfolding gateTwo
+returns-2 c = passed-by _ _ _ (c .before .before .before .before .before .before .before .before .before .two-empty .ensures) (c .before .before .before .before .before .before .before .before .if1 .left) (took _ _ _ (ap₂ eqb (c .before .before .before .before .before .before .qubit-no .ensures) (c .before .before .before .before .qubit-no2 .ensures)) (eq-eqb _ _ (c .before .if2 .taken)) (ap₂ afterEvent (c .fault2 .ensures) refl))
+
+discard-two-requires : tie.Need-discard-two-requires
+discard-two-requires c κs = search needs
+
+line-requires : tie.Need-line-requires
+line-requires c κs = search needs
+
+same-length-3 : tie.Need-same-length-3
+same-length-3 c = search needs
+
+returns-3 : tie.Need-returns-3
+unfolding gateTwo
+returns-3 c = passed-by _ _ _ (c .before .before .before .before .before .before .before .before .before .before .before .before .before .two-empty .ensures) (c .before .before .before .before .before .before .before .before .before .before .before .before .if1 .left) (passed-by _ _ _ (ap₂ eqb (c .before .before .before .before .before .before .before .before .before .before .qubit-no .ensures) (c .before .before .before .before .before .before .before .before .qubit-no2 .ensures)) (ne-eqb _ _ (c .before .before .before .before .before .if2 .left)) (ap₂ afterEvent (c .line .ensures ∙ ap₂ (λ x y. lineEvent 3 (c .before .before .before .before .before .before .before .before .before .before .before .before .before .before .before .before .args .a) x y) (c .before .before .before .before .before .before .before .before .before .before .qubit-no .ensures) (c .before .before .before .before .before .before .before .before .qubit-no2 .ensures)) (c .before .before .before .discard-two .ensures)))
+
+pub gate-two-spec : {M : Type 1} → statement M
+gate-two-spec =
+    tie.close
+    (tie.spec
+    two-empty-requires
+    fault-requires
+    same-length
+    returns
+    qubit-no-requires
+    qubit-no-requires-2
+    fault-requires-2
+    same-length-2
+    returns-2
+    discard-two-requires
+    line-requires
+    same-length-3
+    returns-3)

@@ -1,0 +1,33 @@
+-- `op_gate` goes by the gate's number.
+use Rattle.run_events.specs.EventsCode.{gateOp}
+use Rattle.run_ops.proofs.Returns.{took, passed-by}
+use mathlib.Core.Path.{refl}
+use borrow.Author.Tests.{le-leb, lt-leb}
+use borrow.Author.Needs.{needs}
+use Rattle.run_events.proofs.gates.op_gate.Statement.{statement}
+use Rattle.run_events.proofs.gates.op_gate.Tie as tie
+
+gate-one-requires : tie.Need-gate-one-requires
+gate-one-requires c κs = search needs
+
+same-length : tie.Need-same-length
+same-length c = search needs
+
+returns : tie.Need-returns
+unfolding gateOp
+returns c = took _ _ _ refl (le-leb (c .before .before .before .before .before .before .args .a) 5 (c .before .before .before .before .if1 .taken)) (c .before .before .gate-one .ensures)
+
+gate-two-requires : tie.Need-gate-two-requires
+gate-two-requires c κs = search needs
+
+same-length-2 : tie.Need-same-length-2
+same-length-2 c = search needs
+
+returns-2 : tie.Need-returns-2
+unfolding gateOp
+returns-2 c = passed-by _ _ _ refl (lt-leb (c .before .before .before .before .before .before .args .a) 5 (c .before .before .before .before .if1 .left)) (c .before .before .gate-two .ensures)
+
+pub op-gate-spec : {M : Type 1} → statement M
+op-gate-spec =
+    tie.close
+    (tie.spec gate-one-requires same-length returns gate-two-requires same-length-2 returns-2)

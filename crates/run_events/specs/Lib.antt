@@ -1,0 +1,3 @@
+pub mod EventsCode
+pub mod EndsCode
+pub mod ConcludeCode

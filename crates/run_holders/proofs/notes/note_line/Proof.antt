@@ -1,0 +1,25 @@
+-- `note_line` goes by the kind.
+use mathlib.Core.Path.{refl}
+use Rattle.trace.specs.ReadCode.{asLine}
+use Rattle.run_holders.proofs.Noting.{line-none, line-changes, nothing-changed}
+use borrow.Author.Needs.{needs}
+use Rattle.run_holders.proofs.notes.note_line.Statement.{statement}
+use Rattle.run_holders.proofs.notes.note_line.Tie as tie
+
+note-gift-requires : tie.Need-note-gift-requires
+note-gift-requires c κs = search needs
+
+returns : tie.Need-returns
+returns c = c .note-gift .ensures
+
+returns-2 : tie.Need-returns-2
+returns-2 c = let none = line-none (asLine (c .before .before .before .before .args .l)) (c .before .before .if1 .left) (c .if2 .taken) in (nothing-changed (asLine (c .before .before .before .before .args .l)) none refl, none)
+
+note-requires : tie.Need-note-requires
+note-requires c κs = search needs
+
+returns-3 : tie.Need-returns-3
+returns-3 c = (c .note .ensures, line-changes (asLine (c .before .before .before .before .before .before .args .l)) (c .before .before .before .before .if1 .left) (c .before .before .if2 .left))
+
+pub note-line-spec : {M : Type 1} → statement M
+note-line-spec = tie.close (tie.spec note-gift-requires returns returns-2 note-requires returns-3)

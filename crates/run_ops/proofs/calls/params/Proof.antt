@@ -1,0 +1,49 @@
+-- `params` reads the second word of the method's row.
+use Rattle.table.specs.Table.{paramsOf, row, methods, word}
+use mathlib.Core.Path.{_∙_, ap}
+use Prim.Native.Nat.{ℕ, _+_, _*_}
+use borrow.Author.Needs.{needs}
+use Rattle.run_ops.proofs.calls.params.Statement.{statement}
+use Rattle.run_ops.proofs.calls.params.Tie as tie
+
+word-at-requires : tie.Need-word-at-requires
+word-at-requires c κs = search needs
+
+mul-word-at : tie.Need-mul-word-at
+mul-word-at c = search needs
+
+add-word-at : tie.Need-add-word-at
+add-word-at c = search needs
+
+mul-word-at-2 : tie.Need-mul-word-at-2
+mul-word-at-2 c = search needs
+
+add-word-at-2 : tie.Need-add-word-at-2
+add-word-at-2 c = search needs
+
+add-word-at-3 : tie.Need-add-word-at-3
+add-word-at-3 c = search needs
+
+word-at-requires-2 : tie.Need-word-at-requires-2
+word-at-requires-2 c κs = search needs
+
+cast-result : tie.Need-cast-result
+cast-result c = search needs
+
+returns : tie.Need-returns
+unfolding paramsOf row methods
+returns c = c .word-at2 .ensures .0 ∙ ap (λ (m : ℕ). word (c .before .before .before .args .p .now) (2 + 2 * m + 18 * c .before .before .before .args .m + 1)) (c .before .word-at .ensures .0)
+
+pub params-spec : {M : Type 1} → statement M
+params-spec =
+    tie.close
+    (tie.spec
+    word-at-requires
+    mul-word-at
+    add-word-at
+    mul-word-at-2
+    add-word-at-2
+    add-word-at-3
+    word-at-requires-2
+    cast-result
+    returns)

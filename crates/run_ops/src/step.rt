@@ -1,0 +1,92 @@
+// One step of a process, as far as it stays within the process and writes no line.
+ghost use mathlib.Core.Path.{_≡_};
+ghost use Prim.Native.Nat.{_+_, _*_, _<_};
+ghost use Rattle.table.specs.Table.{word, methods};
+ghost use Rattle.run_ops.specs.OpsCode.{afterStep, actOp, stepOp};
+use super::calls::op_call;
+use super::calls::op_ret;
+use super::jumps::op_jfalse;
+use super::jumps::op_jump;
+use super::moves::op_bool;
+use super::moves::op_clear;
+use super::moves::op_drop;
+use super::moves::op_end;
+use super::moves::op_get;
+use super::moves::op_int;
+use super::moves::op_put;
+use super::numbers::op_add;
+use super::numbers::op_eq;
+use super::numbers::op_less;
+use super::numbers::op_not;
+use super::numbers::op_sub;
+use run_store::head::Head;
+use run_store::head::read_head;
+use table::words::word_at;
+
+// The op's function. An op that does more, or writes a line, is left to the caller: 100 and its number.
+pub fn act(p: &[u16], w: &mut [u32], h: Head, op: usize, a: u16) -> u32
+    ensures { λ r. ⌜ afterStep r (now (w .exit)) ≡ actOp (now (p .entry)) (now (w .entry)) h op a ⌝ }
+{
+    match op {
+        1 => op_int(p, w, h, a),
+        2 => op_bool(p, w, h, a),
+        3 => op_get(w, h, a),
+        4 => op_put(w, h, a),
+        5 => op_drop(w, h),
+        6 => op_clear(p, w, h, a),
+        7 => 107,
+        8 => 108,
+        9 => op_end(w, h, a),
+        10 => 110,
+        11 => 111,
+        12 => op_call(p, w, h, a),
+        13 => op_ret(p, w, h),
+        14 => 114,
+        15 => 115,
+        16 => 116,
+        17 => op_jump(p, w, h, a),
+        18 => op_jfalse(p, w, h, a),
+        19 => op_add(w, h),
+        20 => op_sub(w, h),
+        21 => op_eq(w, h),
+        22 => op_less(w, h),
+        23 => op_not(w, h),
+        _ => 1,
+    }
+}
+
+// The op and the argument of an instruction.
+struct Instruction {
+    op: usize,
+    argument: usize,
+}
+
+// The two words at `at`, with one test where both are within the table.
+fn read_instruction(p: &[u16], at: usize) -> Instruction
+    requires { ⌜ at < 1099511627776 ⌝ }
+    ensures { λ r. ⌜ (r .op ≡ word (now (p .entry)) at) × (r .argument ≡ word (now (p .entry)) (at + 1)) × (r .argument < 65536) ⌝ }
+{
+    if at + 1 < p.len() {
+        return Instruction {
+            op: p[at] as usize,
+            argument: p[at + 1] as usize,
+        };
+    }
+    Instruction {
+        op: word_at(p, at),
+        argument: word_at(p, at + 1),
+    }
+}
+
+// One step of the process whose part is w; `start` is where the table's instructions begin. 1 where it does not run.
+pub fn step(p: &[u16], start: usize, w: &mut [u32]) -> u32
+    requires { ⌜ start ≡ 2 + 20 * methods (now p) ⌝ }
+    ensures { λ r. ⌜ afterStep r (now (w .exit)) ≡ stepOp (now (p .entry)) (now (w .entry)) ⌝ }
+{
+    let h = read_head(w);
+    if h.status != 1 {
+        return 1;
+    }
+    let i = read_instruction(p, start + 2 * (h.place as usize));
+    act(p, w, h, i.op, i.argument as u16)
+}

@@ -1,0 +1,145 @@
+-- What a process stands at, from its head and the op at its place.
+use Prim.Native.Nat.{ℕ, _+_, _*_}
+use mathlib.Core.Path.{_≡_, refl, sym, _∙_, ap, ap₂}
+use mathlib.Core.Bool.{Bool, true, false, cond, not, _&&_, _||_, true≢false}
+use mathlib.Core.List.{List}
+use native.Mathlib.Omega.{arith}
+use lib.ListN.{getD}
+use lib.Dec.{eqb}
+use borrow.Author.Tests.{eqb-true, eq-eqb, ne-eqb}
+use Rattle.table.specs.Table.{word, methods, opAt}
+use Rattle.run_store.specs.declared.head.Head.{Head}
+use Rattle.run_store.specs.StoreCode.{headAt, headOf, topAt}
+use Rattle.run_ops.proofs.Returns.{took, passed-by}
+use Rattle.run_ops.specs.OpsCode.{emptyTwo}
+use Rattle.run_parts.specs.declared.readiness.Readiness.{Readiness}
+use Rattle.run_parts.specs.ReadinessCode.{noOffer, sendOf, receiveOf, readinessOp, offerOf, offersNothing, eitherWay, meetsOp}
+
+pub stands-at : (p w : List ℕ) (start : ℕ) {h : Head} {op : ℕ} {r : Readiness} → h ≡ headOf w → h .status ≡ 1 → start ≡ 2 + 20 * methods p
+    → op ≡ word p (start + 2 * h .place)
+    → r ≡ cond (eqb op 15) (sendOf w h) (cond (eqb op 16) (receiveOf w h) (noOffer 1))
+    → r ≡ readinessOp p w
+unfolding readinessOp opAt
+stands-at p w start {h} {op} {r} e t s o q =
+    took _ _ _ refl (eq-eqb (headOf w .status) 1 (ap (λ (g : Head). g .status) (sym e) ∙ t))
+    (q
+    ∙ ap (λ (n : ℕ). cond (eqb n 15) (sendOf w h) (cond (eqb n 16) (receiveOf w h) (noOffer 1)))
+    (o ∙ ap (λ (n : ℕ). word p (n + 2 * h .place)) s)
+    ∙ ap (λ (g : Head). cond (eqb (word p (2 + 20 * methods p + 2 * g .place)) 15) (sendOf w g)
+    (cond (eqb (word p (2 + 20 * methods p + 2 * g .place)) 16) (receiveOf w g) (noOffer 1))) e)
+
+-- the frame's place, by words
+pub place-read : (w : List ℕ) {frames place : ℕ} → frames ≡ getD w 2 0 → place ≡ getD w (5 + 4 * frames) 0 → place ≡ headOf w .place
+unfolding headOf headAt
+place-read w {frames} e q = q ∙ ap (λ (i : ℕ). getD w i 0) next ∙ ap (λ (i : ℕ). getD w (4 + 4 * i + 1) 0) e
+  where
+    next : 5 + 4 * frames ≡ 4 + 4 * frames + 1
+    next = omega arith
+
+-- a process that runs, by its op
+
+module _ (p w : List ℕ) (runs : headOf w .status ≡ 1) where
+  at-op : (op : ℕ) → opAt p (headOf w .place) ≡ op
+      → readinessOp p w ≡ cond (eqb op 15) (sendOf w (headOf w)) (cond (eqb op 16) (receiveOf w (headOf w)) (noOffer 1))
+  unfolding readinessOp
+  at-op op e =
+      ap (λ (b : Bool). cond b (cond (eqb (opAt p (headOf w .place)) 15) (sendOf w (headOf w)) (cond (eqb (opAt p (headOf w .place)) 16) (receiveOf w (headOf w)) (noOffer 1))) (noOffer 0))
+      (eq-eqb (headOf w .status) 1 runs)
+      ∙ ap (λ (n : ℕ). cond (eqb n 15) (sendOf w (headOf w)) (cond (eqb n 16) (receiveOf w (headOf w)) (noOffer 1))) e
+
+  pub offers-send : opAt p (headOf w .place) ≡ 15 → offerOf w 115 ≡ readinessOp p w
+  unfolding offerOf
+  offers-send e = sym (at-op 15 e)
+
+  pub offers-receive : opAt p (headOf w .place) ≡ 16 → offerOf w 116 ≡ readinessOp p w
+  unfolding offerOf
+  offers-receive e = sym (at-op 16 e)
+
+-- a process that stands at no offer moves by itself
+pub nothing-alone : (p w : List ℕ) → offersNothing p w ≡ true → readinessOp p w .kind ≡ 1
+unfolding offersNothing readinessOp
+nothing-alone p w h = go (eqb (headOf w .status) 1) (eqb (opAt p (headOf w .place)) 15) (eqb (opAt p (headOf w .place)) 16) h
+  where
+    go : (a b c : Bool) → cond a (not b && not c) false ≡ true
+        → cond a (cond b (sendOf w (headOf w)) (cond c (receiveOf w (headOf w)) (noOffer 1))) (noOffer 0) .kind ≡ 1
+    go true true c e = absurd (true≢false (sym e))
+    go true false true e = absurd (true≢false (sym e))
+    go true false false e = refl
+    go false b c e = absurd (true≢false (sym e))
+
+module _ (p w : List ℕ) (start : ℕ) {s : ℕ} (status : s ≡ getD w 0 0) where
+  pub nothing-over : (s ≡ 1 → ⊥) → false ≡ offersNothing p w
+  unfolding offersNothing headOf
+  nothing-over n = passed-by _ _ false refl (ne-eqb (headOf w .status) 1 (λ i. n (status ∙ i))) refl
+
+  pub nothing-at : s ≡ 1 → start ≡ 2 + 20 * methods p → {place op : ℕ} → place ≡ headOf w .place → op ≡ word p (start + 2 * place)
+      → (not (eqb op 15) && not (eqb op 16)) ≡ offersNothing p w
+  unfolding offersNothing headOf opAt
+  nothing-at r b e o =
+      took _ _ false refl (eq-eqb (headOf w .status) 1 (sym status ∙ r))
+      (ap (λ (n : ℕ). not (eqb n 15) && not (eqb n 16)) (o ∙ ap₂ (λ (i k : ℕ). word p (i + 2 * k)) b e))
+
+-- two numbers, by how the first test came out
+
+or-false : (x : Bool) → x ≡ (x || false)
+or-false true = refl
+or-false false = refl
+
+or-same : (x : Bool) → x ≡ (x || x)
+or-same true = refl
+or-same false = refl
+
+pub way-first : (a b x y : ℕ) → a ≡ x → eqb b y ≡ eitherWay a b x y
+unfolding eitherWay
+way-first a b x y h =
+    go (eqb x y) refl
+    ∙ sym (ap₂ (λ (u v : Bool). u && eqb b y || v && eqb b x) (eq-eqb a x h) (ap (λ (i : ℕ). eqb i y) h))
+  where
+    go : (z : Bool) → eqb x y ≡ z → eqb b y ≡ (eqb b y || z && eqb b x)
+    go true i = or-same (eqb b y) ∙ ap (λ (j : ℕ). eqb b y || eqb b j) (sym (eqb-true x y i))
+    go false i = or-false (eqb b y)
+
+pub way-second : (a b x y : ℕ) → (a ≡ x → ⊥) → (eqb a y && eqb b x) ≡ eitherWay a b x y
+unfolding eitherWay
+way-second a b x y h = sym (ap (λ (u : Bool). u && eqb b y || eqb a y && eqb b x) (ne-eqb a x h))
+
+-- two readinesses, by how their kinds and numbers came out
+
+module _ (a b : Readiness) where
+  and-false : (x : Bool) → (x && false) ≡ false
+  and-false true = refl
+  and-false false = refl
+
+  and-true : (x : Bool) → (x && true) ≡ x
+  and-true true = refl
+  and-true false = refl
+
+  abbrev sides : Bool
+  sides = eitherWay (a .end .tag) (b .end .tag) 5 6
+
+  abbrev numbers : Bool
+  numbers = eqb (a .end .number) (b .end .number)
+
+  module _ {kinds : Bool} (e : kinds ≡ eitherWay (a .kind) (b .kind) 2 3) where
+    pub meets-kinds : not kinds ≡ true → false ≡ meetsOp a b
+    unfolding meetsOp
+    meets-kinds h = ap (λ (k : Bool). (k && sides) && numbers) (sym (off kinds h) ∙ e)
+      where
+        off : (k : Bool) → not k ≡ true → k ≡ false
+        off true i = sym i
+        off false i = refl
+
+    module _ (h : not kinds ≡ false) where
+      on : (k : Bool) → not k ≡ false → k ≡ true
+      on true i = refl
+      on false i = sym i
+
+      both : meetsOp a b ≡ (sides && numbers)
+      unfolding meetsOp
+      both = ap (λ (k : Bool). (k && sides) && numbers) (sym e ∙ on kinds h)
+
+      pub meets-apart : (a .end .number ≡ b .end .number → ⊥) → false ≡ meetsOp a b
+      meets-apart n = sym (both ∙ ap (λ (x : Bool). sides && x) (ne-eqb (a .end .number) (b .end .number) n) ∙ and-false sides)
+
+      pub meets-sides : a .end .number ≡ b .end .number → {s : Bool} → s ≡ sides → s ≡ meetsOp a b
+      meets-sides n q = q ∙ sym (both ∙ ap (λ (x : Bool). sides && x) (eq-eqb (a .end .number) (b .end .number) n) ∙ and-true sides)

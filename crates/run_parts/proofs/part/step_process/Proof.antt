@@ -1,0 +1,57 @@
+-- `step_process` lends the process's part on.
+use Rattle.run_parts.proofs.Lifted.{lifted}
+use Rattle.run_ops.specs.OpsCode.{stepOp}
+use borrow.Author.Needs.{needs}
+use Rattle.run_parts.proofs.part.step_process.Statement.{statement}
+use Rattle.run_parts.proofs.part.step_process.Tie as tie
+
+cast-from : tie.Need-cast-from
+cast-from c = search needs
+
+mul-from : tie.Need-mul-from
+mul-from c = search needs
+
+add-from : tie.Need-add-from
+add-from c = search needs
+
+add-to : tie.Need-add-to
+add-to c = search needs
+
+mul-step : tie.Need-mul-step
+mul-step c = search needs
+
+sub-step : tie.Need-sub-step
+sub-step c = search needs
+
+part-step-start : tie.Need-part-step-start
+part-step-start c = search needs
+
+part-step-end : tie.Need-part-step-end
+part-step-end c = search needs
+
+step-requires : tie.Need-step-requires
+step-requires c κs = search needs
+
+same-length : tie.Need-same-length
+same-length c = search needs
+
+returns : tie.Need-returns
+returns c =
+    let args = c .before .before .before .before .before .before .before .args in
+    lifted (args .work .now) (args .n .0) (c .before .before .step .result) (c .before .before .step .last .1 .1 .0) (stepOp (args .p .now)) (c .before .before .step .ensures)
+
+pub step-process-spec : {M : Type 1} → statement M
+step-process-spec =
+    tie.close
+    (tie.spec
+    cast-from
+    mul-from
+    add-from
+    add-to
+    mul-step
+    sub-step
+    part-step-start
+    part-step-end
+    step-requires
+    same-length
+    returns)

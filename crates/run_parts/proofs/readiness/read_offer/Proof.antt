@@ -1,0 +1,29 @@
+-- `read_offer` goes by the code.
+use mathlib.Core.Path.{refl, _∙_, ap}
+use borrow.Author.Tests.{eq-eqb, ne-eqb}
+use Rattle.run_ops.proofs.Returns.{took, passed-by}
+use Rattle.run_parts.specs.ReadinessCode.{sendOf, receiveOf, offerOf}
+use borrow.Author.Needs.{needs}
+use Rattle.run_parts.proofs.readiness.read_offer.Statement.{statement}
+use Rattle.run_parts.proofs.readiness.read_offer.Tie as tie
+
+read-head-requires : tie.Need-read-head-requires
+read-head-requires c κs = search needs
+
+sending-requires : tie.Need-sending-requires
+sending-requires c κs = search needs
+
+returns : tie.Need-returns
+unfolding offerOf
+returns c = took _ _ _ refl (eq-eqb (c .before .before .before .before .args .code) 115 (c .before .if1 .taken)) (c .sending .ensures ∙ ap (sendOf (c .before .before .before .before .args .w .now)) (c .before .before .read-head .ensures))
+
+receiving-requires : tie.Need-receiving-requires
+receiving-requires c κs = search needs
+
+returns-2 : tie.Need-returns-2
+unfolding offerOf
+returns-2 c = passed-by _ _ _ refl (ne-eqb (c .before .before .before .before .args .code) 115 (c .before .if1 .left)) (c .receiving .ensures ∙ ap (receiveOf (c .before .before .before .before .args .w .now)) (c .before .before .read-head .ensures))
+
+pub read-offer-spec : {M : Type 1} → statement M
+read-offer-spec =
+    tie.close (tie.spec read-head-requires sending-requires returns receiving-requires returns-2)

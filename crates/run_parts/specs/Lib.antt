@@ -1,0 +1,2 @@
+pub mod PartsCode
+pub mod ReadinessCode

@@ -1,0 +1,134 @@
+// A process's stand, read from its part of the work store; nothing is changed.
+ghost use mathlib.Core.Path.{_≡_};
+ghost use Prim.Native.Nat.{_+_, _*_};
+ghost use Rattle.table.specs.Table.{methods};
+ghost use Rattle.run_store.specs.StoreCode.{headOf};
+ghost use Rattle.run_parts.specs.ReadinessCode.{noOffer, sendOf, receiveOf, readinessOp, offerOf, offersNothing, eitherWay, meetsOp};
+use run_ops::numbers::two_empty;
+use run_store::head::Head;
+use run_store::head::read_head;
+use run_store::values::Val;
+use run_store::values::empty;
+use run_store::values::get;
+use run_store::values::value;
+use table::words::word_at;
+
+// Kind 0 is over or not made, 1 moves by itself, by a step or a fault, 2 offers to send, 3 to receive. An offer has
+// its end, and to send also its value.
+pub struct Readiness {
+    pub kind: u32,
+    pub end: Val,
+    pub value: Val,
+}
+
+fn bare(kind: u32) -> Readiness
+    ensures { λ r. ⌜ r ≡ noOffer kind ⌝ }
+{
+    Readiness {
+        kind: kind,
+        end: empty(),
+        value: empty(),
+    }
+}
+
+// "off: end, then value above it"; an emptied operand is fault 20, "before waiting".
+fn sending(w: &[u32], h: Head) -> Readiness
+    ensures { λ r. ⌜ r ≡ sendOf (now (w .entry)) h ⌝ }
+{
+    if two_empty(w, h) {
+        return bare(1);
+    }
+    Readiness {
+        kind: 2,
+        end: value(w, h.top(2)),
+        value: value(w, h.top(1)),
+    }
+}
+
+fn receiving(w: &[u32], h: Head) -> Readiness
+    ensures { λ r. ⌜ r ≡ receiveOf (now (w .entry)) h ⌝ }
+{
+    let e = value(w, h.top(1));
+    if e.tag == 0 {
+        return bare(1);
+    }
+    Readiness {
+        kind: 3,
+        end: e,
+        value: empty(),
+    }
+}
+
+// The readiness of the process whose part is w; an offer waits for its partner; `start` is where the table's instructions begin.
+pub fn read_readiness(p: &[u16], start: usize, w: &[u32]) -> Readiness
+    requires { ⌜ start ≡ 2 + 20 * methods (now p) ⌝ }
+    ensures { λ r. ⌜ r ≡ readinessOp (now (p .entry)) (now (w .entry)) ⌝ }
+{
+    let h = read_head(w);
+    if h.status != 1 {
+        return bare(0);
+    }
+    let op = word_at(p, start + 2 * (h.place as usize));
+    if op == 15 {
+        return sending(w, h.wait());
+    }
+    if op == 16 {
+        return receiving(w, h.wait());
+    }
+    bare(1)
+}
+
+// The offer of the process whose part is w, where its step answered 115, at SEND, or 116, at RECV.
+pub fn read_offer(w: &[u32], code: u32) -> Readiness
+    ensures { λ r. ⌜ r ≡ offerOf (now (w .entry)) code ⌝ }
+{
+    let h = read_head(w);
+    if code == 115 {
+        return sending(w, h);
+    }
+    receiving(w, h)
+}
+
+// The instruction that the top frame stands at.
+fn place_of(w: &[u32]) -> u32
+    ensures { λ r. ⌜ r ≡ headOf (now (w .entry)) .place ⌝ }
+{
+    let frames = get(w, 2);
+    get(w, 5 + 4 * (frames as usize))
+}
+
+// The process whose part is w runs and stands at neither SEND nor RECV, so that it moves by itself.
+pub fn offers_nothing(p: &[u16], start: usize, w: &[u32]) -> bool
+    requires { ⌜ start ≡ 2 + 20 * methods (now p) ⌝ }
+    ensures { λ r. ⌜ r ≡ offersNothing (now (p .entry)) (now (w .entry)) ⌝ }
+{
+    if get(w, 0) != 1 {
+        return false;
+    }
+    let place = place_of(w);
+    let op = word_at(p, start + 2 * (place as usize));
+    (op != 15) & (op != 16)
+}
+
+// One is x and the other y.
+fn either_way(a: u32, b: u32, x: u32, y: u32) -> bool
+    ensures { λ r. ⌜ r ≡ eitherWay a b x y ⌝ }
+{
+    if a == x {
+        return b == y;
+    }
+    (a == y) & (b == x)
+}
+
+// One offers to send and the other to receive, on the two ends of one channel (tags 5 and 6).
+pub fn meets(a: Readiness, b: Readiness) -> bool
+    ensures { λ r. ⌜ r ≡ meetsOp a b ⌝ }
+{
+    if !either_way(a.kind, b.kind, 2, 3) {
+        return false;
+    }
+    if a.end.number != b.end.number {
+        return false;
+    }
+    either_way(a.end.tag, b.end.tag, 5, 6)
+}

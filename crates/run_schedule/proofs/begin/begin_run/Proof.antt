@@ -1,0 +1,33 @@
+-- `begin_run` clears, counts one process and begins it.
+use Prim.Native.Nat.{ℕ}
+use mathlib.Core.Path.{_∙_, ap}
+use mathlib.Core.List.{List}
+use lib.ListN.{set}
+use Rattle.run_transfer.specs.TransferCode.{beganAt}
+use Rattle.run_schedule.specs.BeginCode.{startStore}
+use borrow.Author.Needs.{needs}
+use Rattle.run_schedule.proofs.begin.begin_run.Statement.{statement}
+use Rattle.run_schedule.proofs.begin.begin_run.Tie as tie
+
+clear-requires : tie.Need-clear-requires
+clear-requires c κs = search needs
+
+put-requires : tie.Need-put-requires
+put-requires c κs = search needs
+
+begin-at-requires : tie.Need-begin-at-requires
+begin-at-requires c κs = search needs
+
+same-length : tie.Need-same-length
+same-length c = search needs
+
+returns : tie.Need-returns
+unfolding startStore beganAt
+returns c =
+    c .before .before .begin-at .ensures
+    ∙ ap (λ (l : List ℕ). beganAt (c .before .before .before .before .before .before .before .before .before .before .before .before .before .before .args .p .now) l 0 0)
+    (c .before .before .before .before .before .before .put .ensures ∙ ap (λ (l : List ℕ). set l 0 1) (c .before .before .before .before .before .before .before .before .before .before .clear .ensures))
+
+pub begin-run-spec : {M : Type 1} → statement M
+begin-run-spec =
+    tie.close (tie.spec clear-requires put-requires begin-at-requires same-length returns)

@@ -1,0 +1,2 @@
+pub mod BeginCode
+pub mod SummaryCode

@@ -1,0 +1,88 @@
+// The entries of the schedule, one after the other.
+ghost use mathlib.Core.Path.{_≡_};
+ghost use Prim.Native.Nat.{_+_, _*_, _/_, _<_, _≤_};
+ghost use mathlib.Core.List.{_++_};
+ghost use lib.ListN.{length, drop};
+ghost use Rattle.table.specs.Table.{methods};
+ghost use Rattle.table.proofs.Accepted.{Kept};
+ghost use Rattle.machine.specs.State.{startConfig};
+ghost use Rattle.machine.specs.Run.{run};
+ghost use Rattle.layout.specs.Layout.{encode};
+ghost use Rattle.run_schedule.specs.SummaryCode.{afterRun, runLeaves};
+use run_ability::ending::ending;
+use run_burst::burst::silent_entries;
+use run_burst::knowledge::nothing_known;
+use run_burst::turn::turn_at;
+use run_holders::ends::no_holders;
+use run_holders::notes::note_lines;
+
+// The end, the entries used, the lines written and the outcomes used.
+pub struct RunSummary {
+    pub end: u32,
+    pub entries: usize,
+    pub lines: u32,
+    pub used: u32,
+}
+
+// From the start of a run to its end: a burst of entries that write no line, then the entry at which it stops, again and
+// again. `room` is how many lines the trace holds.
+pub fn run_entries(
+    p: &[u16],
+    start: usize,
+    schedule: &[u8],
+    outcomes: &[u8],
+    trace: &mut [u16],
+    work: &mut [u32],
+    room: usize,
+) -> RunSummary
+    requires { ⌜ (start ≡ 2 + 20 * methods (now p)) × (8192 ≤ length (now work)) × (length (now schedule) ≤ 65535) × (room ≡ length (now trace) / 6)
+        × Kept (now p) × (now work ≡ encode (startConfig (now p)) ++ drop 8192 (now work)) ⌝ }
+    ensures { λ r. ⌜ afterRun r (now (trace .exit)) (now (work .exit)) ≡ runLeaves (run (now (p .entry)) (now (outcomes .entry)) room (now (schedule .entry))) (now (trace .entry)) (now (work .entry)) ⌝ }
+{
+    let mut t = no_holders();
+    let mut lines: u32 = 0;
+    let mut used: u32 = 0;
+    let mut b = silent_entries(p, start, work, &t, schedule, 0, nothing_known());
+    while b.at < schedule.len() {
+        let r = turn_at(
+            p,
+            start,
+            schedule,
+            outcomes,
+            trace,
+            work,
+            room,
+            &t,
+            lines,
+            used,
+            b,
+        );
+        if r.end != 0 {
+            return RunSummary {
+                end: r.end,
+                entries: b.at,
+                lines: r.lines,
+                used: r.used,
+            };
+        }
+        let changed = note_lines(&mut t, trace, lines, r.lines);
+        lines = r.lines;
+        used = r.used;
+        let known = r.known;
+        b = silent_entries(
+            p,
+            start,
+            work,
+            &t,
+            schedule,
+            b.at + 1,
+            known.unless(changed),
+        );
+    }
+    RunSummary {
+        end: ending(p, start, work, &t),
+        entries: b.at,
+        lines: lines,
+        used: used,
+    }
+}

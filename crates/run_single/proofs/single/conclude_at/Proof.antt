@@ -1,0 +1,75 @@
+-- `conclude_at` carries the entry out in the part that it lends.
+use Prim.Native.Nat.{ℕ}
+use mathlib.Core.Path.{_∙_, ap₂}
+use mathlib.Core.List.{List}
+use Rattle.run_parts.specs.PartsCode.{partOf}
+use Rattle.run_events.specs.ConcludeCode.{concludeOp}
+use Rattle.run_single.specs.SingleCode.{inPart, concludedAt}
+use Rattle.run_single.proofs.Returns.{lifted-left}
+use borrow.Author.Needs.{needs}
+use Rattle.run_single.proofs.single.conclude_at.Statement.{statement}
+use Rattle.run_single.proofs.single.conclude_at.Tie as tie
+
+get-requires : tie.Need-get-requires
+get-requires c κs = search needs
+
+get-requires-2 : tie.Need-get-requires-2
+get-requires-2 c κs = search needs
+
+cast-from : tie.Need-cast-from
+cast-from c = search needs
+
+mul-from : tie.Need-mul-from
+mul-from c = search needs
+
+add-from : tie.Need-add-from
+add-from c = search needs
+
+add-to : tie.Need-add-to
+add-to c = search needs
+
+mul-conclude : tie.Need-mul-conclude
+mul-conclude c = search needs
+
+sub-conclude : tie.Need-sub-conclude
+sub-conclude c = search needs
+
+part-conclude-start : tie.Need-part-conclude-start
+part-conclude-start c = search needs
+
+part-conclude-end : tie.Need-part-conclude-end
+part-conclude-end c = search needs
+
+conclude-requires : tie.Need-conclude-requires
+conclude-requires c κs = search needs
+
+same-length : tie.Need-same-length
+same-length c = search needs
+
+returns : tie.Need-returns
+unfolding concludedAt
+returns c =
+    let args = c .before .before .before .before .before .before .before .before .before .before .before .before .args in
+    lifted-left (args .work .now) (args .n .0) (c .before .before .conclude .last .1 .1 .0)
+    (λ (l : List ℕ). concludeOp (args .p .now) l (args .code) (c .before .before .before .before .before .before .before .get .result) (c .before .before .before .before .before .get2 .result) (args .outcomes .now) (args .used))
+    (c .before .before .conclude .ensures)
+    ∙ ap₂ (λ (q c : ℕ). inPart (args .work .now) (args .n .0) (concludeOp (args .p .now) (partOf (args .work .now) (args .n .0)) (args .code) q c (args .outcomes .now) (args .used)))
+    (c .before .before .before .before .before .before .before .get .ensures) (c .before .before .before .before .before .get2 .ensures)
+
+pub conclude-at-spec : {M : Type 1} → statement M
+conclude-at-spec =
+    tie.close
+    (tie.spec
+    get-requires
+    get-requires-2
+    cast-from
+    mul-from
+    add-from
+    add-to
+    mul-conclude
+    sub-conclude
+    part-conclude-start
+    part-conclude-end
+    conclude-requires
+    same-length
+    returns)

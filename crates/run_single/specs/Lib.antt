@@ -1,0 +1,2 @@
+pub mod ResultCode
+pub mod SingleCode

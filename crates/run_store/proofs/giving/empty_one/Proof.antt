@@ -1,0 +1,42 @@
+-- `empty_one` goes by whether the value is lost.
+use Rattle.run_store.proofs.Laws.{one-emptied, one-kept}
+use borrow.Author.Needs.{needs}
+use Rattle.run_store.proofs.giving.empty_one.Statement.{statement}
+use Rattle.run_store.proofs.giving.empty_one.Tie as tie
+
+value-requires : tie.Need-value-requires
+value-requires c κs = search needs
+
+is-lost-requires : tie.Need-is-lost-requires
+is-lost-requires c κs = search needs
+
+empty-requires : tie.Need-empty-requires
+empty-requires c κs = search needs
+
+put-value-requires : tie.Need-put-value-requires
+put-value-requires c κs = search needs
+
+same-length : tie.Need-same-length
+same-length c = search needs
+
+returns : tie.Need-returns
+returns c = one-emptied (c .before .before .before .before .before .before .before .before .before .before .args .w .now) (c .before .before .before .before .before .before .before .before .before .before .args .t) (c .before .before .before .before .before .before .before .before .before .before .args .i) (c .before .before .before .before .before .before .before .value .ensures) (c .before .before .before .before .before .before .is-lost .ensures) (c .before .before .before .before .before .if1 .taken) (c .before .before .before .empty .ensures) (c .before .before .put-value .ensures)
+
+same-length-2 : tie.Need-same-length-2
+same-length-2 c = search needs
+
+returns-2 : tie.Need-returns-2
+returns-2 c = one-kept (c .before .before .before .before .before .args .w .now) (c .before .before .before .before .before .args .t) (c .before .before .before .before .before .args .i) (c .before .before .value .ensures) (c .before .is-lost .ensures) (c .if1 .left)
+
+pub empty-one-spec : {M : Type 1} → statement M
+empty-one-spec =
+    tie.close
+    (tie.spec
+    value-requires
+    is-lost-requires
+    empty-requires
+    put-value-requires
+    same-length
+    returns
+    same-length-2
+    returns-2)

@@ -1,0 +1,59 @@
+-- `begin_at` lends the child's part on.
+use Rattle.run_giving.specs.GivingCode.{beganWords}
+use Rattle.run_parts.proofs.Lifted.{lifted-words}
+use mathlib.Core.List.{List}
+use Prim.Native.Nat.{ℕ}
+use borrow.Author.Needs.{needs}
+use Rattle.run_transfer.proofs.forks.begin_at.Statement.{statement}
+use Rattle.run_transfer.proofs.forks.begin_at.Tie as tie
+
+cast-from : tie.Need-cast-from
+cast-from c = search needs
+
+mul-from : tie.Need-mul-from
+mul-from c = search needs
+
+add-from : tie.Need-add-from
+add-from c = search needs
+
+add-to : tie.Need-add-to
+add-to c = search needs
+
+mul-begin : tie.Need-mul-begin
+mul-begin c = search needs
+
+sub-begin : tie.Need-sub-begin
+sub-begin c = search needs
+
+part-begin-start : tie.Need-part-begin-start
+part-begin-start c = search needs
+
+part-begin-end : tie.Need-part-begin-end
+part-begin-end c = search needs
+
+begin-requires : tie.Need-begin-requires
+begin-requires c κs = search needs
+
+same-length : tie.Need-same-length
+same-length c = search needs
+
+returns : tie.Need-returns
+returns c =
+    let args = c .before .before .before .before .before .before .before .args in
+    lifted-words (args .work .now) (args .child .0) (c .before .before .begin .last .1 .0) (λ (l : List ℕ). beganWords (args .p .now) l (args .m)) (c .before .before .begin .ensures)
+
+pub begin-at-spec : {M : Type 1} → statement M
+begin-at-spec =
+    tie.close
+    (tie.spec
+    cast-from
+    mul-from
+    add-from
+    add-to
+    mul-begin
+    sub-begin
+    part-begin-start
+    part-begin-end
+    begin-requires
+    same-length
+    returns)

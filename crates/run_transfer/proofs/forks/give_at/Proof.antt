@@ -1,0 +1,59 @@
+-- `give_at` lends the giver's part on.
+use Rattle.run_giving.specs.GivingCode.{givenWords}
+use Rattle.run_parts.proofs.Lifted.{lifted-words}
+use mathlib.Core.List.{List}
+use Prim.Native.Nat.{ℕ}
+use borrow.Author.Needs.{needs}
+use Rattle.run_transfer.proofs.forks.give_at.Statement.{statement}
+use Rattle.run_transfer.proofs.forks.give_at.Tie as tie
+
+cast-from : tie.Need-cast-from
+cast-from c = search needs
+
+mul-from : tie.Need-mul-from
+mul-from c = search needs
+
+add-from : tie.Need-add-from
+add-from c = search needs
+
+add-to : tie.Need-add-to
+add-to c = search needs
+
+mul-give : tie.Need-mul-give
+mul-give c = search needs
+
+sub-give : tie.Need-sub-give
+sub-give c = search needs
+
+part-give-start : tie.Need-part-give-start
+part-give-start c = search needs
+
+part-give-end : tie.Need-part-give-end
+part-give-end c = search needs
+
+give-requires : tie.Need-give-requires
+give-requires c κs = search needs
+
+same-length : tie.Need-same-length
+same-length c = search needs
+
+returns : tie.Need-returns
+returns c =
+    let args = c .before .before .before .before .before .before .args in
+    lifted-words (args .work .now) (args .n .0) (c .before .before .give .last .0) (λ (l : List ℕ). givenWords l (args .v)) (c .before .before .give .ensures)
+
+pub give-at-spec : {M : Type 1} → statement M
+give-at-spec =
+    tie.close
+    (tie.spec
+    cast-from
+    mul-from
+    add-from
+    add-to
+    mul-give
+    sub-give
+    part-give-start
+    part-give-end
+    give-requires
+    same-length
+    returns)

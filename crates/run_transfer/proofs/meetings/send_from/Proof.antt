@@ -1,0 +1,59 @@
+-- `send_from` lends the sender's part on.
+use Rattle.run_giving.specs.GivingCode.{sentWords}
+use Rattle.run_parts.proofs.Lifted.{lifted-words}
+use mathlib.Core.List.{List}
+use Prim.Native.Nat.{ℕ}
+use borrow.Author.Needs.{needs}
+use Rattle.run_transfer.proofs.meetings.send_from.Statement.{statement}
+use Rattle.run_transfer.proofs.meetings.send_from.Tie as tie
+
+cast-from : tie.Need-cast-from
+cast-from c = search needs
+
+mul-from : tie.Need-mul-from
+mul-from c = search needs
+
+add-from : tie.Need-add-from
+add-from c = search needs
+
+add-to : tie.Need-add-to
+add-to c = search needs
+
+mul-send : tie.Need-mul-send
+mul-send c = search needs
+
+sub-send : tie.Need-sub-send
+sub-send c = search needs
+
+part-send-start : tie.Need-part-send-start
+part-send-start c = search needs
+
+part-send-end : tie.Need-part-send-end
+part-send-end c = search needs
+
+send-requires : tie.Need-send-requires
+send-requires c κs = search needs
+
+same-length : tie.Need-same-length
+same-length c = search needs
+
+returns : tie.Need-returns
+returns c =
+    let args = c .before .before .before .before .before .before .args in
+    lifted-words (args .work .now) (args .n .0) (c .before .before .send .last .0) (λ (l : List ℕ). sentWords l (args .v)) (c .before .before .send .ensures)
+
+pub send-from-spec : {M : Type 1} → statement M
+send-from-spec =
+    tie.close
+    (tie.spec
+    cast-from
+    mul-from
+    add-from
+    add-to
+    mul-send
+    sub-send
+    part-send-start
+    part-send-end
+    send-requires
+    same-length
+    returns)

@@ -1,0 +1,3 @@
+pub mod TransferCode
+pub mod ForkLinesCode
+pub mod MeetingLinesCode

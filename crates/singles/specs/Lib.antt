@@ -1,2 +1,0 @@
-pub mod Came
-pub mod Single

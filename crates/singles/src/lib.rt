@@ -1,4 +1,0 @@
-// An entry with one line, over the lent trace and work store: a gate, a measurement, a thing made, a fault, the end of a
-// process. `came` has what any entry comes to.
-pub mod came;
-pub mod single;

@@ -1,3 +1,0 @@
-pub mod Knowing
-pub mod Bursts
-pub mod Turned
