@@ -3,6 +3,8 @@
 use std::hint::black_box;
 use std::time::Instant;
 
+use data::WORK_WORDS;
+
 /// A program table to check, of this many instructions.
 pub struct Check {
     pub name: &'static str,
@@ -40,10 +42,7 @@ pub fn all() -> Vec<Check> {
         program: table(methods, length),
         instructions: methods as usize * length as usize,
     };
-    vec![
-        named("check-one-method", 1, 4096),
-        named("check-32-methods", 32, 128),
-    ]
+    vec![named("check-one-method", 1, 4096), named("check-32-methods", 32, 128)]
 }
 
 impl Check {
@@ -58,11 +57,11 @@ impl Check {
 
     /// The same by the library.
     pub fn by_library(&self, calls: usize) -> f64 {
-        self.timed(calls, |program| lanq::check(program, &[], &[], 8192).is_ok())
+        self.timed(calls, |program| lanq::check_in(program, &[], &[], WORK_WORDS).is_ok())
     }
 
     /// The same by the model.
     pub fn by_model(&self, calls: usize) -> f64 {
-        self.timed(calls, |program| model::check(program, &[], &[], 8192).is_ok())
+        self.timed(calls, |program| model::check(program, &[], &[], WORK_WORDS).is_ok())
     }
 }

@@ -1,14 +1,9 @@
 //! The programs of the run workloads. None of them ends by itself.
 
-use model::assemble::{op::*, Source};
+use data::program::{op::*, Method};
 
-fn method(parameters: &[u16], locals: &[u16], code: Vec<(u16, u16)>) -> Source {
-    Source {
-        return_type: 0,
-        parameters: parameters.len() as u16,
-        slots: [parameters, locals].concat(),
-        code,
-    }
+fn method(parameters: &[u16], locals: &[u16], code: Vec<(u16, u16)>) -> Method {
+    Method { return_type: 0, parameters: parameters.len() as u16, slots: [parameters, locals].concat(), code }
 }
 
 /// Ints through slot 0 and back to the start: twelve instructions.
@@ -30,19 +25,19 @@ fn sums(start: u16) -> Vec<(u16, u16)> {
 }
 
 /// One process that computes.
-pub fn arithmetic() -> Vec<Source> {
+pub fn arithmetic() -> Vec<Method> {
     vec![method(&[], &[1], sums(0))]
 }
 
 /// Eight processes that compute.
-pub fn eight() -> Vec<Source> {
+pub fn eight() -> Vec<Method> {
     let mut main = vec![(FORK, 1); 7];
     main.extend(sums(7));
     vec![method(&[], &[1], main), method(&[], &[1], sums(0))]
 }
 
 /// Two processes that hand an int to and fro over one channel.
-pub fn ping_pong() -> Vec<Source> {
+pub fn ping_pong() -> Vec<Method> {
     let main = vec![
         (NEWC, 1),
         (PUT, 0),
@@ -60,21 +55,12 @@ pub fn ping_pong() -> Vec<Source> {
         (DROP, 0),
         (JUMP, 8),
     ];
-    let child = vec![
-        (GET, 0),
-        (RECV, 0),
-        (PUT, 1),
-        (DROP, 0),
-        (GET, 0),
-        (GET, 1),
-        (SEND, 0),
-        (JUMP, 0),
-    ];
+    let child = vec![(GET, 0), (RECV, 0), (PUT, 1), (DROP, 0), (GET, 0), (GET, 1), (SEND, 0), (JUMP, 0)];
     vec![method(&[], &[17, 33], main), method(&[33], &[1], child)]
 }
 
 /// Two processes that hand a qubit to and fro over one channel.
-pub fn hand_over() -> Vec<Source> {
+pub fn hand_over() -> Vec<Method> {
     let main = vec![
         (NEWQ, 0),
         (PUT, 2),
@@ -96,21 +82,12 @@ pub fn hand_over() -> Vec<Source> {
         (DROP, 0),
         (JUMP, 11),
     ];
-    let child = vec![
-        (GET, 0),
-        (RECV, 0),
-        (PUT, 1),
-        (DROP, 0),
-        (GET, 0),
-        (GET, 1),
-        (SEND, 0),
-        (JUMP, 0),
-    ];
+    let child = vec![(GET, 0), (RECV, 0), (PUT, 1), (DROP, 0), (GET, 0), (GET, 1), (SEND, 0), (JUMP, 0)];
     vec![method(&[], &[19, 35, 3], main), method(&[35], &[3], child)]
 }
 
 /// A qubit handed around four processes, a gate at each.
-pub fn relay() -> Vec<Source> {
+pub fn relay() -> Vec<Method> {
     // Slot 0 a channel, slots 1 to 8 the ends of four, slot 9 the qubit.
     let mut main = vec![(NEWQ, 0), (PUT, 9), (DROP, 0)];
     for k in 0..4 {
@@ -123,16 +100,7 @@ pub fn relay() -> Vec<Source> {
     let start = main.len() as u16;
     main.extend([(GET, 9), (GATE, 1), (GET, 1), (GET, 9), (SEND, 0)]);
     main.extend([(GET, 8), (RECV, 0), (PUT, 9), (DROP, 0), (JUMP, start)]);
-    let stage = vec![
-        (GET, 0),
-        (RECV, 0),
-        (PUT, 2),
-        (GATE, 4),
-        (GET, 1),
-        (GET, 2),
-        (SEND, 0),
-        (JUMP, 0),
-    ];
+    let stage = vec![(GET, 0), (RECV, 0), (PUT, 2), (GATE, 4), (GET, 1), (GET, 2), (SEND, 0), (JUMP, 0)];
     let mut slots = vec![19];
     slots.extend([35; 8]);
     slots.push(3);
@@ -140,7 +108,7 @@ pub fn relay() -> Vec<Source> {
 }
 
 /// f(n) is 0 for n below 1, else n + f(n - 1): main and seven more frames.
-pub fn calls() -> Vec<Source> {
+pub fn calls() -> Vec<Method> {
     let main = vec![(INT, 6), (CALL, 1), (DROP, 0), (JUMP, 0)];
     let code = vec![
         (GET, 0),
@@ -163,7 +131,7 @@ pub fn calls() -> Vec<Source> {
 }
 
 /// Main computes while seven others wait for ever.
-pub fn waiting() -> Vec<Source> {
+pub fn waiting() -> Vec<Method> {
     let mut main = [(NEWC, 1), (END, 1), (FORK, 1)].repeat(7);
     main.extend(sums(21));
     let child = vec![(GET, 0), (RECV, 0), (DROP, 0), (RET, 0)];
@@ -171,7 +139,7 @@ pub fn waiting() -> Vec<Source> {
 }
 
 /// Gates on one and two qubits, and measurements.
-pub fn quantum() -> Vec<Source> {
+pub fn quantum() -> Vec<Method> {
     let main = vec![
         (NEWQ, 0),
         (PUT, 0),

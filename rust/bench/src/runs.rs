@@ -3,8 +3,8 @@
 use std::hint::black_box;
 use std::time::Instant;
 
-use lanq::{Answer, End};
-use model::assemble::{table, Source};
+use data::program::{table, Method};
+use lanq::{Answer, End, Refusal};
 use model::machine::{Did, Machine};
 
 use crate::programs;
@@ -21,7 +21,7 @@ pub struct Run {
 }
 
 /// The schedule is `first`, then `turn` again and again.
-fn turns(name: &'static str, methods: Vec<Source>, first: &[u8], turn: &[u8]) -> Run {
+fn turns(name: &'static str, methods: Vec<Method>, first: &[u8], turn: &[u8]) -> Run {
     let schedule = first.iter().chain(turn.iter().cycle()).copied();
     Run {
         name,
@@ -32,7 +32,7 @@ fn turns(name: &'static str, methods: Vec<Source>, first: &[u8], turn: &[u8]) ->
 }
 
 /// The schedule names `processes` numbers in turn.
-fn named(name: &'static str, methods: Vec<Source>, processes: u8) -> Run {
+fn named(name: &'static str, methods: Vec<Method>, processes: u8) -> Run {
     turns(name, methods, &[], &(0..processes).collect::<Vec<u8>>())
 }
 
@@ -77,10 +77,7 @@ pub struct Lent {
 
 impl Lent {
     pub fn new() -> Lent {
-        Lent {
-            trace: vec![0; TRACE],
-            work: vec![0; lanq::WORK_WORDS],
-        }
+        Lent { trace: vec![0; TRACE], work: vec![0; lanq::WORK_WORDS] }
     }
 }
 
@@ -91,15 +88,15 @@ impl Run {
     }
 
     /// Runs the schedule's first entries with the library.
-    pub fn once(&self, entries: usize, lent: &mut Lent) -> Answer {
+    pub fn once(&self, entries: usize, lent: &mut Lent) -> Result<Answer, Refusal> {
         let schedule = black_box(&self.schedule[..entries]);
-        lanq::run(&self.program, schedule, &self.outcomes, &mut lent.trace, &mut lent.work)
+        lanq::run_in(&self.program, schedule, &self.outcomes, &mut lent.trace, &mut lent.work)
     }
 
     /// Nanoseconds per entry, the best of so many runs.
     pub fn by_library(&self, runs: usize, lent: &mut Lent) -> f64 {
         best(runs, || match self.once(ENTRIES, lent) {
-            Answer::Ran { end: End::ScheduleUsed, entries, .. } => entries,
+            Ok(Answer { end: End::ScheduleUsed, entries, .. }) => entries,
             other => panic!("{}: {other:?}", self.name),
         })
     }

@@ -1,5 +1,6 @@
 //! The inputs of the run's comparison, each named by a number.
 
+use data::WORK_WORDS;
 use generate::{case, Case, Random};
 
 /// A generated case, as it is or bent.
@@ -18,10 +19,8 @@ pub fn input(number: u64) -> Case {
 /// The case with the shortest start of its schedule on which it still differs;
 /// the whole case where no start does.
 pub fn shortest(case: &Case, differs: impl Fn(&Case) -> bool) -> Case {
-    let mut starts = (0..=case.schedule.len()).map(|length| Case {
-        schedule: case.schedule[..length].to_vec(),
-        ..case.clone()
-    });
+    let mut starts =
+        (0..=case.schedule.len()).map(|length| Case { schedule: case.schedule[..length].to_vec(), ..case.clone() });
     starts.find(differs).unwrap_or_else(|| case.clone())
 }
 
@@ -32,7 +31,7 @@ fn other_schedule(case: &mut Case, random: &mut Random) {
     let length = random.below(300);
     case.schedule = (0..length).map(|_| random.below(processes) as u8).collect();
     case.trace_len = random.below(200);
-    case.work_len = random.pick(&[8_191, 8_192, 8_193, 8_192 + 160, 9_000]);
+    case.work_len = WORK_WORDS - 1 + random.pick(&[0, 1, 2, 161, 809]);
 }
 
 /// One word of the table changed, at a place and to a value of no special

@@ -1,9 +1,8 @@
 //! What a run leaves: its answer and every word of the lent buffers, and of
 //! the words around them, which no run may touch.
 
+use data::{Answer, Configuration, Refusal, Run, WORK_WORDS};
 use generate::{Case, Random};
-use model::machine::Run;
-use model::Refusal;
 
 use crate::layout;
 
@@ -45,57 +44,34 @@ fn inner<T>(words: &mut [T]) -> &mut [T] {
     &mut words[AROUND..end]
 }
 
-/// The numbers that a run answers.
-#[derive(Clone, Copy, Debug, PartialEq, Eq)]
-pub enum Answer {
-    Refused { number: u64, place: u64 },
-    Ran { end: u64, entries: usize, lines: usize, outcomes: usize },
-}
-
 /// What a run leaves.
 #[derive(Clone, Debug, PartialEq, Eq)]
 pub struct Left {
-    pub answer: Answer,
+    pub answer: Result<Answer, Refusal>,
     pub buffers: Buffers,
     /// The configuration read back from the work store, after a run.
-    pub configuration: Option<lanq::Configuration>,
+    pub configuration: Option<Configuration>,
 }
 
 /// Runs the case with the library.
 pub fn by_library(case: &Case, mut buffers: Buffers) -> Left {
     let (trace, work) = buffers.lent();
-    let answer = lanq::run(&case.program, &case.schedule, &case.outcomes, trace, work);
-    let (answer, configuration) = match answer {
-        lanq::Answer::Refused { number, place } => (Answer::Refused { number, place }, None),
-        lanq::Answer::Ran { end, entries, lines, outcomes } => {
-            let end = end.number();
-            (Answer::Ran { end, entries, lines, outcomes }, lanq::decode(work))
-        }
-    };
+    let answer = lanq::run_in(&case.program, &case.schedule, &case.outcomes, trace, work);
+    let configuration = answer.ok().and_then(|_| lanq::decode(work));
     Left { answer, buffers, configuration }
 }
 
-/// What the model's run or refusal of the case leaves in these buffers.
-pub fn by_model(case: &Case, ran: &Result<Run, Refusal>, mut buffers: Buffers) -> Left {
+/// What the model's run or refusal leaves in these buffers.
+pub fn by_model(ran: &Result<Run, Refusal>, mut buffers: Buffers) -> Left {
     let run = match ran {
         Ok(run) => run,
-        Err(Refusal { number, place }) => {
-            let answer = Answer::Refused { number: *number, place: *place };
-            return Left { answer, buffers, configuration: None };
-        }
+        Err(refusal) => return Left { answer: Err(*refusal), buffers, configuration: None },
     };
     let lines = run.trace_words();
     let (trace, work) = buffers.lent();
     trace[..lines.len()].copy_from_slice(&lines);
-    work[..layout::WORDS].copy_from_slice(&layout::words(&case.program, &run.config));
-    let answer = Answer::Ran {
-        end: u64::from(run.end.number()),
-        entries: run.entries,
-        lines: run.lines.len(),
-        outcomes: run.outcomes_used,
-    };
-    let configuration = Some(layout::shown(&case.program, &run.config));
-    Left { answer, buffers, configuration }
+    work[..WORK_WORDS].copy_from_slice(&layout::words(&run.configuration));
+    Left { answer: Ok(run.answer()), buffers, configuration: Some(run.configuration.clone()) }
 }
 
 /// The first thing in which the two differ.

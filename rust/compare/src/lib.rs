@@ -6,15 +6,12 @@ pub mod inputs;
 pub mod layout;
 pub mod left;
 
+use data::Refusal;
 use generate::Case;
 
-/// What both say to the questions about a case: number and place, or nothing
-/// where it is accepted.
-pub fn verdicts(case: &Case) -> (Option<(u64, u64)>, Option<(u64, u64)>) {
-    let library = lanq::check(&case.program, &case.schedule, &case.outcomes, case.work_len);
+/// What both say to the questions about a case.
+pub fn verdicts(case: &Case) -> (Result<(), Refusal>, Result<(), Refusal>) {
+    let library = lanq::check_in(&case.program, &case.schedule, &case.outcomes, case.work_len);
     let model = model::check(&case.program, &case.schedule, &case.outcomes, case.work_len);
-    (
-        library.err().map(|r| (r.number, r.place)),
-        model.err().map(|r| (r.number, r.place)),
-    )
+    (library, model.map(|_| ()))
 }

@@ -8,13 +8,13 @@ use generate::{case, Random};
 
 /// How often each refusal number was met, 0 for acceptance.
 #[derive(Default)]
-struct Met(BTreeMap<u64, u64>);
+struct Met(BTreeMap<u16, u64>);
 
 impl Met {
     fn compare(&mut self, seed: u64, case: &generate::Case) {
         let (library, model) = verdicts(case);
         assert_eq!(library, model, "seed {seed}");
-        *self.0.entry(library.map_or(0, |r| r.0)).or_default() += 1;
+        *self.0.entry(library.map_or_else(|refusal| refusal.number(), |()| 0)).or_default() += 1;
     }
 
     fn all_numbers(&self) {

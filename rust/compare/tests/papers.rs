@@ -1,14 +1,14 @@
 //! The library's run beside what document 01 and docs/LAYOUT.md say word by
 //! word: no model stands between.
 
-use lanq::{decode, run, Answer, End};
-use model::assemble::{op::*, table, Source};
+use data::program::{op::*, table, Method};
+use lanq::{decode, run_in, Answer, End, Question, Refusal, WORK_WORDS};
 
 /// The number in an unused column.
 const U: u16 = 65_535;
 
-fn method(return_type: u16, parameters: &[u16], locals: &[u16], code: &[(u16, u16)]) -> Source {
-    Source {
+fn method(return_type: u16, parameters: &[u16], locals: &[u16], code: &[(u16, u16)]) -> Method {
+    Method {
         return_type,
         parameters: parameters.len() as u16,
         slots: [parameters, locals].concat(),
@@ -29,18 +29,18 @@ fn given_whole() -> Vec<u16> {
 
 const SCHEDULE: [u8; 18] = [0, 0, 0, 0, 0, 0, 0, 0, 0, 0, 0, 1, 0, 0, 0, 1, 1, 0];
 
-/// End, entries, lines and outcomes of a run, with its lines and its store.
-fn ran(program: &[u16], schedule: &[u8]) -> ((u64, usize, usize, usize), Vec<[u16; 6]>, Vec<u32>) {
+/// End, entries, lines and outcomes.
+type Counts = (u16, usize, usize, usize);
+
+/// The counts of a run, with its lines and its store.
+fn ran(program: &[u16], schedule: &[u8]) -> (Counts, Vec<[u16; 6]>, Vec<u32>) {
     let mut trace = vec![7; 6 * 100];
-    let mut work = vec![7; 8192];
-    match run(program, schedule, &[], &mut trace, &mut work) {
-        Answer::Ran { end, entries, lines, outcomes } => {
-            let written = trace.chunks_exact(6).take(lines);
-            let written = written.map(|six| six.try_into().expect("six words")).collect();
-            ((end.number(), entries, lines, outcomes), written, work)
-        }
-        refused => panic!("{refused:?}"),
-    }
+    let mut work = vec![7; WORK_WORDS];
+    let answer = run_in(program, schedule, &[], &mut trace, &mut work).expect("it runs");
+    let Answer { end, entries, lines, outcomes } = answer;
+    let written = trace.chunks_exact(6).take(lines);
+    let written = written.map(|six| six.try_into().expect("six words")).collect();
+    ((end.number(), entries, lines, outcomes), written, work)
 }
 
 /// The words that are not 0, with their places.
@@ -60,9 +60,9 @@ fn p1_empty_schedule() {
 fn p2_no_trace_lines() {
     for words in 0..6 {
         let mut trace = vec![9; words];
-        let mut work = vec![9; 8192];
-        let answer = run(&given_whole(), &[0], &[], &mut trace, &mut work);
-        assert_eq!(answer, Answer::Ran { end: End::TraceFull, entries: 0, lines: 0, outcomes: 0 });
+        let mut work = vec![9; WORK_WORDS];
+        let answer = run_in(&given_whole(), &[0], &[], &mut trace, &mut work);
+        assert_eq!(answer, Ok(Answer { end: End::TraceFull, entries: 0, lines: 0, outcomes: 0 }));
         assert_eq!(trace, vec![9; words]);
         assert_eq!(not_0(&work), [(0, 1), (512, 1), (514, 1)]);
     }
@@ -93,17 +93,17 @@ fn p3_the_run_given_whole() {
 fn p4_p12_refusals_keep_every_word() {
     let whole = given_whole();
     let short = &whole[..whole.len() - 1];
-    let refused = |program: &[u16], outcomes: &[u8], number, place| {
+    let refused = |program: &[u16], outcomes: &[u8], question, place| {
         let mut trace = [9; 60];
-        let mut work = vec![9; 8192];
-        let answer = run(program, &SCHEDULE, outcomes, &mut trace, &mut work);
-        assert_eq!(answer, Answer::Refused { number, place });
+        let mut work = vec![9; WORK_WORDS];
+        let answer = run_in(program, &SCHEDULE, outcomes, &mut trace, &mut work);
+        assert_eq!(answer, Err(Refusal::new(question, place)));
         assert_eq!(trace, [9; 60]);
-        assert_eq!(work, vec![9; 8192]);
+        assert_eq!(work, vec![9; WORK_WORDS]);
     };
-    refused(short, &[], 1, 0);
-    refused(&whole, &[0, 1, 2, 3], 6, 2);
-    refused(&[], &[], 1, 0);
+    refused(short, &[], Question::Sizes, 0);
+    refused(&whole, &[0, 1, 2, 3], Question::Outcomes, 2);
+    refused(&[], &[], Question::Sizes, 0);
 }
 
 #[test]
@@ -150,11 +150,8 @@ fn p9_cx_on_one_qubit() {
 fn p10_a_value_already_evaluated() {
     let main = [(NEWQ, 0), (PUT, 0), (DROP, 0), (GET, 0), (GET, 0), (CALL, 1), (GATE, 6), (RET, 0)];
     let forks = [(GET, 0), (FORK, 2), (NEWQ, 0), (RET, 0)];
-    let program = table(&[
-        method(0, &[], &[3], &main),
-        method(3, &[3], &[], &forks),
-        method(0, &[3], &[], &[(RET, 0)]),
-    ]);
+    let program =
+        table(&[method(0, &[], &[3], &main), method(3, &[3], &[], &forks), method(0, &[3], &[], &[(RET, 0)])]);
     let (answer, lines, work) = ran(&program, &[0; 11]);
     assert_eq!(answer, (0, 11, 5, 0));
     assert_eq!(lines[4], [10, 0, 10, 20, U, U]);
@@ -188,13 +185,13 @@ fn every_entry_of_the_longest_schedule() {
     let code = [(NEWQ, 0), (PUT, 0), (DROP, 0), (CLEAR, 1), (GET, 0), (GATE, 1), (JUMP, 3)];
     let program = table(&[method(0, &[], &[3, 1], &code)]);
     let mut trace = vec![0; 6 * 20_000];
-    let mut work = vec![0; 8192];
-    let answer = run(&program, &[0; 65_535], &[], &mut trace, &mut work);
+    let mut work = vec![0; WORK_WORDS];
+    let answer = run_in(&program, &[0; 65_535], &[], &mut trace, &mut work);
     // A gate in entries 5, 9, 13 and so on, after the qubit's line.
     let lines = 1 + (65_534 - 5) / 4 + 1;
-    assert_eq!(answer, Answer::Ran { end: End::ScheduleUsed, entries: 65_535, lines, outcomes: 0 });
+    assert_eq!(answer, Ok(Answer { end: End::ScheduleUsed, entries: 65_535, lines, outcomes: 0 }));
     assert_eq!(trace[6 * (lines - 1)..6 * lines], [65_533, 0, 3, 1, 0, U]);
     assert_eq!(trace[6 * lines], 0);
-    let answer = run(&program, &[0; 65_536], &[], &mut trace, &mut work);
-    assert_eq!(answer, Answer::Refused { number: 7, place: 0 });
+    let answer = run_in(&program, &[0; 65_536], &[], &mut trace, &mut work);
+    assert_eq!(answer, Err(Refusal::new(Question::Schedule, 0)));
 }

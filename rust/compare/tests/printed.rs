@@ -6,7 +6,6 @@ use std::path::PathBuf;
 use std::process::{Command, Stdio};
 
 use generate::{case, file};
-use model::assemble;
 
 /// Where `rt` puts the program.
 fn program() -> PathBuf {
@@ -51,17 +50,17 @@ fn prints_what_the_model_prints() {
     for seed in 0..600 {
         compare(&file(seed));
         let case = case(seed);
-        compare(&assemble::file(&case.program, &case.schedule, &case.outcomes));
+        compare(&data::file::file(&case.program, &case.schedule, &case.outcomes));
     }
     // The longest file there may be, and one byte more.
-    let longest = assemble::file(&case(0).program, &[], &[]).len();
-    compare(&assemble::file(&case(0).program, &vec![0; 65_536 - longest], &[]));
-    compare(&assemble::file(&case(0).program, &vec![0; 65_537 - longest], &[]));
+    let longest = data::file::file(&case(0).program, &[], &[]).len();
+    compare(&data::file::file(&case(0).program, &vec![0; 65_536 - longest], &[]));
+    compare(&data::file::file(&case(0).program, &vec![0; 65_537 - longest], &[]));
     // 7 and 8 cannot show here: a file is too short for 7, and the program has its own store.
     for number in [0, 1, 2, 3, 4, 5, 6, 9] {
         assert!(refusals[number] > 0, "no file was refused by {number}");
     }
-    for kind in 1..=10 {
-        assert!(kinds[kind] > 0, "no file printed a line of kind {kind}");
+    for (kind, count) in kinds.iter().enumerate().skip(1) {
+        assert!(*count > 0, "no file printed a line of kind {kind}");
     }
 }

@@ -10,27 +10,28 @@ use std::collections::BTreeMap;
 use std::ops::Range;
 
 use compare::inputs::{input, shortest};
-use compare::left::{by_library, by_model, difference, Answer, Buffers};
+use compare::left::{by_library, by_model, difference, Buffers};
+use data::{Answer, Refusal, WORK_WORDS};
 use generate::{observe, Case, Coverage, Mark, Random};
 
 /// What the inputs have brought about.
 #[derive(Default)]
 struct Met {
     coverage: Coverage,
-    /// Accepted and refused, by how the store's length stands to 8,192.
+    /// Accepted and refused, by how the store's length stands to what is asked.
     lengths: BTreeMap<(bool, std::cmp::Ordering), u64>,
     entries: usize,
     lines: usize,
 }
 
 /// Runs an input on both sides: what the library answers, and a difference.
-fn both(number: u64, case: &Case, coverage: &mut Coverage) -> (Answer, Option<String>) {
+fn both(number: u64, case: &Case, coverage: &mut Coverage) -> (Result<Answer, Refusal>, Option<String>) {
     let buffers = Buffers::dirty(case, &mut Random::new(number));
     let before = case.clone();
     let library = by_library(case, buffers.clone());
     assert_eq!(*case, before, "input {number} was written");
     let ran = observe(case, coverage).unwrap_or_else(|why| panic!("input {number}: {why}"));
-    let difference = difference(&library, &by_model(case, &ran, buffers));
+    let difference = difference(&library, &by_model(&ran, buffers));
     (library.answer, difference)
 }
 
@@ -40,13 +41,12 @@ fn compare(number: u64, case: &Case, met: &mut Met) {
         let differs = |case: &Case| both(number, case, &mut Coverage::new()).1.is_some();
         panic!("input {number}: {difference}\n{:?}", shortest(case, differs));
     }
-    if let Answer::Ran { entries, lines, .. } = answer {
-        met.entries += entries;
-        met.lines += lines;
+    if let Ok(answer) = answer {
+        met.entries += answer.entries;
+        met.lines += answer.lines;
     }
-    let accepted = matches!(answer, Answer::Ran { .. });
-    let length = case.work_len.cmp(&8_192);
-    *met.lengths.entry((accepted, length)).or_default() += 1;
+    let length = case.work_len.cmp(&WORK_WORDS);
+    *met.lengths.entry((answer.is_ok(), length)).or_default() += 1;
 }
 
 /// What must have been met: everything that generated cases can bring about,

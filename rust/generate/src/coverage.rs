@@ -2,13 +2,12 @@
 
 use std::collections::BTreeMap;
 
-use model::check::{check, read_table, Refusal};
-use model::line::Line;
-use model::machine::{Did, End, Machine, Run};
+use data::{End, Line, Process, Refusal, Run, Type, Value};
+use model::check::{check, read_table};
+use model::machine::{Did, Machine};
 use model::owner::ownership_since;
-use model::state::{Process, Value};
 use model::step::{MOST_CHANNELS, MOST_FRAMES, MOST_PROCESSES, MOST_QUBITS};
-use model::table::{Op, Type};
+use model::table::Op;
 use model::typing::{first_fault, Why, MOST_PENDING};
 
 use crate::mark::{all_marks, Mark};
@@ -47,11 +46,11 @@ impl Coverage {
 
     /// Marks of a refusal.
     fn refused(&mut self, case: &Case, refusal: Refusal) {
-        self.add(Mark::Refusal(refusal.number));
+        self.add(Mark::Refusal(refusal.number()));
         if refusal.place > 0 {
-            self.add(Mark::RefusalFurtherOn(refusal.number));
+            self.add(Mark::RefusalFurtherOn(refusal.number()));
         }
-        if refusal.number == 5 {
+        if refusal.number() == 5 {
             if let Some((why, op)) = question_5(&case.program) {
                 self.add(Mark::Question5(why));
                 if why == Why::PendingAfter {
@@ -188,11 +187,7 @@ impl Coverage {
                 (true, old.pending.iter().zip(&new.pending).any(gone)),
             ] {
                 if any {
-                    self.add(Mark::Emptied {
-                        pending,
-                        deeper,
-                        by_fork,
-                    });
+                    self.add(Mark::Emptied { pending, deeper, by_fork });
                 }
             }
         }
@@ -207,10 +202,7 @@ impl Coverage {
             (config.qubits == MOST_QUBITS, Mark::AllQubits),
             (config.channels == MOST_CHANNELS, Mark::AllChannels),
             (deepest.max() == Some(MOST_FRAMES), Mark::AllFrames),
-            (
-                frames().any(|frame| frame.pending.len() == MOST_PENDING),
-                Mark::AllPending,
-            ),
+            (frames().any(|frame| frame.pending.len() == MOST_PENDING), Mark::AllPending),
         ];
         for (reached, mark) in limits {
             if reached {
@@ -238,9 +230,7 @@ fn question_5(words: &[u16]) -> Option<(Why, Op)> {
 /// The operands of a process at SEND or RECV, its end first.
 fn meeting_operands(machine: &Machine, process: &Process) -> Option<(Op, Vec<Value>)> {
     let frame = process.top()?;
-    let op = *machine.program.methods[frame.method]
-        .code
-        .get(frame.place)?;
+    let op = machine.program.op(frame.method, frame.place);
     let count = match op {
         Op::Send => 2,
         Op::Receive => 1,
@@ -319,8 +309,8 @@ fn same_run(machine: &Machine, end: End, run: &Run) -> Result<(), String> {
     let same = run.end == end
         && run.entries == machine.entries
         && run.lines == machine.lines
-        && run.outcomes_used == machine.outcomes_used
-        && run.config == machine.config;
+        && run.outcomes == machine.outcomes_used
+        && run.configuration == machine.config;
     match same {
         true => Ok(()),
         false => Err("the stepped and the whole run differ".to_string()),

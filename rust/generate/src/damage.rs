@@ -1,6 +1,6 @@
 //! Damaged inputs: each of the eight questions gets its no, at many places.
 
-use model::assemble::{op::*, table, Source};
+use data::program::{op::*, table, Method};
 use model::table::{instruction_place, pair_place, row_place, Words};
 
 use crate::mistype::mistype;
@@ -10,7 +10,7 @@ use crate::Case;
 
 /// Damages the case of these methods; at times twice, so that the order of
 /// the questions matters.
-pub fn damage(case: &mut Case, mut methods: Vec<Source>, random: &mut Random) {
+pub fn damage(case: &mut Case, mut methods: Vec<Method>, random: &mut Random) {
     let times = random.pick(&[1, 1, 1, 2]);
     let weights = [3, 3, 4, 5, 12, 2, 1, 2];
     let mut numbers: Vec<usize> = (0..times).map(|_| random.weighted(&weights) + 1).collect();
@@ -56,7 +56,7 @@ fn sizes(words: &mut Vec<u16>, random: &mut Random) {
 }
 
 /// Question 2.
-fn pairs(words: &mut [u16], methods: &[Source], random: &mut Random) {
+fn pairs(words: &mut [u16], methods: &[Method], random: &mut Random) {
     let place = pair_place(random.below(methods.len()));
     // An earlier damage may have cut the words short.
     let offset = Words(words).at(place);
@@ -80,7 +80,7 @@ fn pairs(words: &mut [u16], methods: &[Source], random: &mut Random) {
 }
 
 /// Question 3.
-fn rows(words: &mut [u16], methods: &[Source], random: &mut Random) {
+fn rows(words: &mut [u16], methods: &[Method], random: &mut Random) {
     let method = match random.chance(30) {
         true => 0,
         false => random.below(methods.len()),
@@ -105,7 +105,7 @@ fn rows(words: &mut [u16], methods: &[Source], random: &mut Random) {
 }
 
 /// Question 4: an op or an argument that is not in range, often only just.
-fn instruction(words: &mut [u16], methods: &[Source], random: &mut Random) {
+fn instruction(words: &mut [u16], methods: &[Method], random: &mut Random) {
     let method = random.below(methods.len());
     let before: usize = methods[..method].iter().map(|one| one.code.len()).sum();
     let index = random.below(methods[method].code.len());
@@ -126,7 +126,7 @@ fn instruction(words: &mut [u16], methods: &[Source], random: &mut Random) {
 }
 
 /// The first argument that is out of an op's range, or near it.
-fn just_beyond(op: u16, methods: &[Source], method: usize, random: &mut Random) -> u16 {
+fn just_beyond(op: u16, methods: &[Method], method: usize, random: &mut Random) -> u16 {
     let source = &methods[method];
     match op {
         GET | PUT | CLEAR => {

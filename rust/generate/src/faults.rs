@@ -1,8 +1,8 @@
 //! Planned faults 20 and 27: a value is pending while a method is called that
 //! gives it away, and then the emptied value is taken.
 
-use model::assemble::op::*;
-use model::state::Value;
+use data::program::op::*;
+use data::Value;
 
 use crate::helper::Helper;
 use crate::plan::Plan;

@@ -1,20 +1,13 @@
 //! Files for the printing program, well and badly built.
 
-use model::assemble;
-
 use crate::random::Random;
 use crate::{case, Case};
 
 /// The file of a seed: mostly the case of that seed, one in four damaged.
 pub fn file(seed: u64) -> Vec<u8> {
     let mut random = Random::new(seed ^ 0x66_69_6C_65);
-    let Case {
-        program,
-        schedule,
-        outcomes,
-        ..
-    } = case(seed);
-    let mut bytes = assemble::file(&program, &schedule, &outcomes);
+    let Case { program, schedule, outcomes, .. } = case(seed);
+    let mut bytes = data::file::file(&program, &schedule, &outcomes);
     if random.chance(25) {
         damage(&mut bytes, &mut random);
     }
@@ -89,10 +82,7 @@ fn odd_program(bytes: &mut [u8]) {
 fn swap_pairs(bytes: &mut [u8], random: &mut Random) {
     let (first, second) = random.pick(&[(0, 1), (1, 2), (0, 2)]);
     for half in 0..2 {
-        let numbers = (
-            number(bytes, 2 * first + half),
-            number(bytes, 2 * second + half),
-        );
+        let numbers = (number(bytes, 2 * first + half), number(bytes, 2 * second + half));
         if let (Some(one), Some(other)) = numbers {
             set_number(bytes, 2 * first + half, other);
             set_number(bytes, 2 * second + half, one);

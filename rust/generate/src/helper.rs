@@ -1,6 +1,6 @@
 //! Short methods that planned programs call and fork.
 
-use model::assemble::{op::*, Source};
+use data::program::{op::*, Method};
 
 /// Method numbers from here on name helpers while a program is planned; they
 /// are replaced when the number of the other methods is known.
@@ -49,7 +49,7 @@ impl Helpers {
     }
 
     /// Writes all helpers; writing one may ask for another.
-    pub fn write(mut self) -> Vec<Source> {
+    pub fn write(mut self) -> Vec<Method> {
         let mut sources = Vec::new();
         while sources.len() < self.used.len() {
             let helper = self.used[sources.len()];
@@ -58,14 +58,9 @@ impl Helpers {
         sources
     }
 
-    fn source(&mut self, helper: Helper) -> Source {
+    fn source(&mut self, helper: Helper) -> Method {
         let (return_type, parameters) = row_of(helper);
-        Source {
-            return_type,
-            parameters: parameters.len() as u16,
-            slots: parameters,
-            code: self.code_of(helper),
-        }
+        Method { return_type, parameters: parameters.len() as u16, slots: parameters, code: self.code_of(helper) }
     }
 
     fn code_of(&mut self, helper: Helper) -> Vec<(u16, u16)> {

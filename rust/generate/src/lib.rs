@@ -25,8 +25,9 @@ pub use files::file;
 pub use mark::Mark;
 pub use random::Random;
 
-use model::assemble::{table, Source};
-use model::check::{check, WORK_WORDS};
+use data::program::{table, Method};
+use data::WORK_WORDS;
+use model::check::check;
 use model::machine::run;
 use model::table::Program;
 
@@ -54,7 +55,7 @@ pub fn case(seed: u64) -> Case {
 }
 
 /// A program and the most entries that its schedule is to have.
-fn methods(random: &mut Random) -> (Vec<Source>, usize) {
+fn methods(random: &mut Random) -> (Vec<Method>, usize) {
     let most = match random.below(15) {
         0 => random.between(0, 5),
         _ => random.between(20, 400),

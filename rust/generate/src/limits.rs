@@ -1,12 +1,12 @@
 //! Programs at the limits of qubits, channels, processes, frames, pending
 //! values, ints, outcomes, methods and instructions.
 
-use model::assemble::{op::*, Source};
+use data::program::{op::*, Method};
 
 use crate::random::Random;
 
 /// One of the programs below.
-pub fn limits(random: &mut Random) -> Vec<Source> {
+pub fn limits(random: &mut Random) -> Vec<Method> {
     match random.below(12) {
         0 => makers(NEWQ, 0, random),
         1 => {
@@ -25,17 +25,12 @@ pub fn limits(random: &mut Random) -> Vec<Source> {
     }
 }
 
-fn method(return_type: u16, parameters: &[u16], locals: &[u16], code: Vec<(u16, u16)>) -> Source {
-    Source {
-        return_type,
-        parameters: parameters.len() as u16,
-        slots: [parameters, locals].concat(),
-        code,
-    }
+fn method(return_type: u16, parameters: &[u16], locals: &[u16], code: Vec<(u16, u16)>) -> Method {
+    Method { return_type, parameters: parameters.len() as u16, slots: [parameters, locals].concat(), code }
 }
 
 /// Processes that make qubits or channels until there are no more.
-fn makers(op: u16, argument: u16, random: &mut Random) -> Vec<Source> {
+fn makers(op: u16, argument: u16, random: &mut Random) -> Vec<Method> {
     let children = random.below(3);
     let mut main = vec![(FORK, 1); children];
     main.extend([(op, argument), (DROP, 0), (JUMP, children as u16)]);
@@ -44,7 +39,7 @@ fn makers(op: u16, argument: u16, random: &mut Random) -> Vec<Source> {
 }
 
 /// Makes exactly a number of qubits near the limit, and finishes.
-fn counted_makers(random: &mut Random) -> Vec<Source> {
+fn counted_makers(random: &mut Random) -> Vec<Method> {
     let (op, argument, most) = match random.below(2) {
         0 => (NEWQ, 0, 32),
         _ => (NEWC, 2, 16),
@@ -57,7 +52,7 @@ fn counted_makers(random: &mut Random) -> Vec<Source> {
 
 /// Forks children with the same qubit twice until there are no more; children
 /// may fork too.
-fn forker(random: &mut Random) -> Vec<Source> {
+fn forker(random: &mut Random) -> Vec<Method> {
     let mut main = vec![(NEWQ, 0), (PUT, 0), (GET, 0), (INT, 3)];
     main.extend([(FORK, 1), (JUMP, 0)]);
     let mut child = vec![(GET, 0), (GATE, 1)];
@@ -65,14 +60,11 @@ fn forker(random: &mut Random) -> Vec<Source> {
         child.extend([(GET, 1), (GET, 0), (GET, 2), (FORK, 1)]);
     }
     child.push((RET, 0));
-    vec![
-        method(0, &[], &[3], main),
-        method(0, &[3, 3, 1], &[], child),
-    ]
+    vec![method(0, &[], &[3], main), method(0, &[3, 3, 1], &[], child)]
 }
 
 /// f(n) is 0 for n below 1, else n + f(n - 1): n waits in every frame.
-fn recursion(random: &mut Random) -> Vec<Source> {
+fn recursion(random: &mut Random) -> Vec<Method> {
     let depth = random.word_between(4, 9);
     let main = vec![(INT, depth), (CALL, 1), (PUT, 0), (DROP, 0), (RET, 0)];
     let code = vec![
@@ -94,20 +86,11 @@ fn recursion(random: &mut Random) -> Vec<Source> {
 }
 
 /// Doubles an int towards an edge and goes a step to or over it.
-fn ints(random: &mut Random) -> Vec<Source> {
+fn ints(random: &mut Random) -> Vec<Method> {
     // The most doublings that stay in range, for each start.
-    let starts = [
-        (1, 30),
-        (65_535, 31),
-        (3, 29),
-        (65_533, 29),
-        (32_767, 16),
-        (32_768, 16),
-    ];
+    let starts = [(1, 30), (65_535, 31), (3, 29), (65_533, 29), (32_767, 16), (32_768, 16)];
     let (start, most) = random.pick(&starts);
-    let doublings = random
-        .between(most - 1, most + 1)
-        .min(random.between(most, most + 1));
+    let doublings = random.between(most - 1, most + 1).min(random.between(most, most + 1));
     let mut code = vec![(INT, start), (PUT, 0)];
     code.extend([(GET, 0), (ADD, 0), (PUT, 0)].repeat(doublings));
     code.extend([(INT, random.pick(&[0, 1, 2, 65_535])), (SUB, 0)]);
@@ -122,16 +105,9 @@ fn ints(random: &mut Random) -> Vec<Source> {
 
 /// Eight values pending, handed to a method of eight parameters, which pushes
 /// eight of its own before it returns.
-fn full_pending(random: &mut Random) -> Vec<Source> {
+fn full_pending(random: &mut Random) -> Vec<Method> {
     let kinds = [1, 2, 3, 19, 35, 3, 1, 1];
-    let mut main = vec![
-        (NEWQ, 0),
-        (PUT, 0),
-        (DROP, 0),
-        (NEWC, 3),
-        (PUT, 1),
-        (DROP, 0),
-    ];
+    let mut main = vec![(NEWQ, 0), (PUT, 0), (DROP, 0), (NEWC, 3), (PUT, 1), (DROP, 0)];
     let pushes = [(INT, 1), (BOOL, 1), (GET, 0), (GET, 1), (GET, 1), (END, 0)];
     main.extend(pushes);
     main.extend([(GET, 0), (INT, 2), (INT, 65_535)]);
@@ -142,14 +118,11 @@ fn full_pending(random: &mut Random) -> Vec<Source> {
     taker.extend([(ADD, 0); 7]);
     taker.extend([(DROP, 0), (GET, 2), (GATE, 4), (GET, 4), (RECV, 0)]);
     taker.extend([(DROP, 0), (RET, 0)]);
-    vec![
-        method(0, &[], &[3, 19], main),
-        method(0, &kinds, &[], taker),
-    ]
+    vec![method(0, &[], &[3, 19], main), method(0, &kinds, &[], taker)]
 }
 
 /// Up to 32 methods, each calling or forking the next.
-fn chain(random: &mut Random) -> Vec<Source> {
+fn chain(random: &mut Random) -> Vec<Method> {
     let methods = random.between(7, 32);
     let link = |number: usize, random: &mut Random| {
         let op = if random.chance(60) { CALL } else { FORK };
@@ -161,7 +134,7 @@ fn chain(random: &mut Random) -> Vec<Source> {
 
 /// A table of up to 4096 instructions: main jumps far ahead to its last two,
 /// the other method runs from end to end for ever.
-fn long_code(random: &mut Random) -> Vec<Source> {
+fn long_code(random: &mut Random) -> Vec<Method> {
     let length = random.pick(&[4_096, 4_095, 1_000]);
     let split = random.between(3, length - 2);
     let mut main = vec![(CLEAR, 15); split];
@@ -177,7 +150,7 @@ fn long_code(random: &mut Random) -> Vec<Source> {
 }
 
 /// Measures one qubit until the outcomes are used up.
-fn measurer(random: &mut Random) -> Vec<Source> {
+fn measurer(random: &mut Random) -> Vec<Method> {
     let children = random.below(3);
     let mut code = vec![(FORK, 1); children];
     let start = code.len() as u16 + 3;
@@ -189,7 +162,7 @@ fn measurer(random: &mut Random) -> Vec<Source> {
 }
 
 /// Writes lines for ever: more than 4096 in some 8,500 entries.
-pub fn endless(random: &mut Random) -> Vec<Source> {
+pub fn endless(random: &mut Random) -> Vec<Method> {
     let mut code = vec![(NEWQ, 0), (PUT, 0), (DROP, 0)];
     code.push((CLEAR, 1));
     for _ in 0..20 {
@@ -201,7 +174,7 @@ pub fn endless(random: &mut Random) -> Vec<Source> {
 
 /// One process with both ends of a channel: it must not meet itself. A second
 /// one may keep the run going, or wait at another channel.
-fn both_ends(random: &mut Random) -> Vec<Source> {
+fn both_ends(random: &mut Random) -> Vec<Method> {
     let mut main = vec![(NEWC, 1), (PUT, 0), (END, 0), (PUT, 1), (DROP, 0)];
     main.extend([(GET, 0), (END, 1), (PUT, 2), (DROP, 0)]);
     if random.chance(60) {
@@ -219,8 +192,5 @@ fn both_ends(random: &mut Random) -> Vec<Source> {
         1 => vec![(CLEAR, 0), (JUMP, 0)],
         _ => vec![(NEWC, 1), (END, 1), (RECV, 0), (DROP, 0), (RET, 0)],
     };
-    vec![
-        method(0, &[], &[17, 33, 33], main),
-        method(0, &[], &[1], child),
-    ]
+    vec![method(0, &[], &[17, 33, 33], main), method(0, &[], &[1], child)]
 }

@@ -8,9 +8,9 @@ use model::typing::Why;
 #[derive(Clone, Copy, Debug, PartialEq, Eq, PartialOrd, Ord)]
 pub enum Mark {
     /// A question's no.
-    Refusal(u64),
+    Refusal(u16),
     /// The same at a place other than 0.
-    RefusalFurtherOn(u64),
+    RefusalFurtherOn(u16),
     /// What question 5 found.
     Question5(Why),
     /// An op after which question 5 found something pending.
@@ -166,17 +166,10 @@ fn meeting_marks() -> Vec<Mark> {
         let end_emptied = true;
         marks.extend([Mark::WaitsAt(op), Mark::NotReady { op, end_emptied }]);
     }
-    marks.push(Mark::NotReady {
-        op: 15,
-        end_emptied: false,
-    });
+    marks.push(Mark::NotReady { op: 15, end_emptied: false });
     for carried in 1..=3 {
         for side in 0..=1 {
-            marks.extend([false, true].map(|by_sender| Mark::Met {
-                carried,
-                side,
-                by_sender,
-            }));
+            marks.extend([false, true].map(|by_sender| Mark::Met { carried, side, by_sender }));
         }
     }
     marks
@@ -190,11 +183,7 @@ fn giving_marks() -> Vec<Mark> {
     // FORK and SEND leave nothing pending in their own frame.
     for by_fork in [false, true] {
         for (pending, deeper) in [(false, false), (false, true), (true, true)] {
-            marks.push(Mark::Emptied {
-                pending,
-                deeper,
-                by_fork,
-            });
+            marks.push(Mark::Emptied { pending, deeper, by_fork });
         }
     }
     marks

@@ -1,12 +1,12 @@
 //! Programs that question 5 says no to: the methods of a well-typed program
 //! with an instruction more, less or other.
 
-use model::assemble::{op::*, Source};
+use data::program::{op::*, Method};
 
 use crate::random::Random;
 
 /// Changes one method so that it is most likely no longer well-typed.
-pub fn mistype(methods: &mut [Source], random: &mut Random) {
+pub fn mistype(methods: &mut [Method], random: &mut Random) {
     if random.chance(35) {
         return leave_pending(methods, random);
     }
@@ -39,7 +39,7 @@ const LEAVE_NOTHING: [u16; 7] = [DROP, CLEAR, RET, FORK, SEND, JUMP, JFALSE];
 
 /// Lets one of these ops find a value more than it should: each op that the
 /// program has is as likely as the others.
-fn leave_pending(methods: &mut [Source], random: &mut Random) {
+fn leave_pending(methods: &mut [Method], random: &mut Random) {
     let op = random.pick(&LEAVE_NOTHING);
     let mut places = Vec::new();
     for (method, source) in methods.iter().enumerate() {
@@ -62,7 +62,7 @@ fn any_push(random: &mut Random) -> (u16, u16) {
 }
 
 /// Inserts instructions; jumps further on keep their targets.
-fn insert(source: &mut Source, place: usize, code: &[(u16, u16)]) {
+fn insert(source: &mut Method, place: usize, code: &[(u16, u16)]) {
     for (op, target) in &mut source.code {
         if matches!(*op, JUMP | JFALSE) && usize::from(*target) > place {
             *target += code.len() as u16;
@@ -72,7 +72,7 @@ fn insert(source: &mut Source, place: usize, code: &[(u16, u16)]) {
 }
 
 /// Takes an instruction out, unless it is the only one.
-fn remove(source: &mut Source, place: usize) {
+fn remove(source: &mut Method, place: usize) {
     if source.code.len() == 1 {
         return;
     }
@@ -92,7 +92,7 @@ fn remove(source: &mut Source, place: usize) {
 }
 
 /// Makes one of the instructions that push something push another type.
-fn other_push(source: &mut Source, random: &mut Random) {
+fn other_push(source: &mut Method, random: &mut Random) {
     let pushes = |place: &usize| matches!(source.code[*place].0, INT | BOOL | GET | NEWQ | NEWC);
     let places: Vec<usize> = (0..source.code.len()).filter(pushes).collect();
     if let Some(place) = random.pick_any(&places) {
@@ -101,7 +101,7 @@ fn other_push(source: &mut Source, random: &mut Random) {
 }
 
 /// Lets the method end on something else than RET or JUMP.
-fn open_end(source: &mut Source, random: &mut Random) {
+fn open_end(source: &mut Method, random: &mut Random) {
     let used = source.slots.iter().position(|kind| *kind != 0);
     match (used, random.below(3)) {
         (_, 0) => source.code.extend([(BOOL, 1), (JFALSE, 0)]),
@@ -111,7 +111,7 @@ fn open_end(source: &mut Source, random: &mut Random) {
 }
 
 /// Lets a jump end anywhere in its method; makes one where there is none.
-fn other_target(source: &mut Source, random: &mut Random) {
+fn other_target(source: &mut Method, random: &mut Random) {
     let jumps = |place: &usize| matches!(source.code[*place].0, JUMP | JFALSE);
     let places: Vec<usize> = (0..source.code.len()).filter(jumps).collect();
     let target = random.below(source.code.len()) as u16;

@@ -2,9 +2,9 @@
 //! decided first, and each process's code follows the plan. So processes do
 //! meet, and faults come where the plan puts them.
 
-use model::assemble::{op::*, Source};
-use model::state::{Thing, Value};
-use model::table::Side;
+use data::program::{op::*, Method};
+use data::{Side, Thing, Value};
+use model::state::giving_empties;
 
 use crate::helper::{Helper, Helpers, FIRST_HELPER};
 use crate::random::Random;
@@ -26,34 +26,24 @@ pub struct Role {
 
 impl Role {
     fn new(kinds: Vec<u16>, known: Vec<Value>) -> Role {
-        Role {
-            parameters: kinds.len(),
-            kinds,
-            known,
-            code: Vec::new(),
-            over: false,
-        }
+        Role { parameters: kinds.len(), kinds, known, code: Vec::new(), over: false }
     }
 
     /// Slots that hold something of this type.
     pub fn full_slots(&self, kind: u16) -> Vec<usize> {
         let slots = 0..self.kinds.len();
-        slots
-            .filter(|slot| self.kinds[*slot] == kind && self.known[*slot] != Value::Empty)
-            .collect()
+        slots.filter(|slot| self.kinds[*slot] == kind && self.known[*slot] != Value::Empty).collect()
     }
 
     /// Slots that hold a qubit, a channel or an end.
     pub fn thing_slots(&self) -> Vec<usize> {
         let slots = 0..self.kinds.len();
-        slots
-            .filter(|slot| self.known[*slot].thing().is_some())
-            .collect()
+        slots.filter(|slot| self.known[*slot].thing().is_some()).collect()
     }
 
     pub fn give(&mut self, thing: Thing) {
         for value in &mut self.known {
-            if thing.giving_empties(*value) {
+            if giving_empties(thing, *value) {
                 *value = Value::Empty;
             }
         }
@@ -86,14 +76,9 @@ pub struct Plan<'a> {
 }
 
 /// A planned program.
-pub fn plan(random: &mut Random) -> Vec<Source> {
-    let mut plan = Plan {
-        random,
-        roles: vec![Role::new(vec![], vec![])],
-        helpers: Helpers::default(),
-        qubits: 0,
-        channels: 0,
-    };
+pub fn plan(random: &mut Random) -> Vec<Method> {
+    let mut plan =
+        Plan { random, roles: vec![Role::new(vec![], vec![])], helpers: Helpers::default(), qubits: 0, channels: 0 };
     let connections = plan.random.pick(&[0, 1, 1, 2, 2, 3]);
     for _ in 0..connections {
         plan.connect();
@@ -152,12 +137,8 @@ impl Plan<'_> {
     /// A slot for a value of this type: an empty one, a new one, or any.
     fn slot_for(&mut self, role: usize, kind: u16) -> Option<usize> {
         let owner = &mut self.roles[role];
-        let slots: Vec<usize> = (0..owner.kinds.len())
-            .filter(|slot| owner.kinds[*slot] == kind)
-            .collect();
-        let empty = slots
-            .iter()
-            .find(|slot| owner.known[**slot] == Value::Empty);
+        let slots: Vec<usize> = (0..owner.kinds.len()).filter(|slot| owner.kinds[*slot] == kind).collect();
+        let empty = slots.iter().find(|slot| owner.known[**slot] == Value::Empty);
         if let Some(slot) = empty {
             return Some(*slot);
         }
@@ -308,13 +289,7 @@ impl Plan<'_> {
         let mut ways = Vec::new();
         for (slot, (kind, value)) in owner.kinds.iter().zip(&owner.known).enumerate() {
             let mut add = |through_channel, channel, side| {
-                ways.push(Way {
-                    slot,
-                    through_channel,
-                    channel,
-                    side,
-                    carried: kind % 16,
-                })
+                ways.push(Way { slot, through_channel, channel, side, carried: kind % 16 })
             };
             match *value {
                 Value::End(channel, side) => add(false, channel, side),
@@ -441,11 +416,7 @@ impl Plan<'_> {
             return;
         };
         let known = &self.roles[role].known;
-        let others: Vec<usize> = slots
-            .iter()
-            .copied()
-            .filter(|slot| known[*slot] != known[first])
-            .collect();
+        let others: Vec<usize> = slots.iter().copied().filter(|slot| known[*slot] != known[first]).collect();
         match self.random.pick_any(&others) {
             Some(second) if self.random.chance(60) => {
                 let gate = self.random.word_between(6, 8);
@@ -535,7 +506,7 @@ impl Plan<'_> {
             return;
         };
         let kind = owner.kinds[slot];
-        let stays = |other: &usize| !given.giving_empties(owner.known[*other]);
+        let stays = |other: &usize| !giving_empties(given, owner.known[*other]);
         let others: Vec<usize> = owner.thing_slots().into_iter().filter(stays).collect();
         let Some(other) = self.random.pick_any(&others) else {
             return;
@@ -550,15 +521,11 @@ impl Plan<'_> {
 
     // Writing.
 
-    fn write(self) -> Vec<Source> {
+    fn write(self) -> Vec<Method> {
         let first_helper = self.roles.len() as u16;
         let random = self.random;
-        let mut sources: Vec<Source> = self
-            .roles
-            .into_iter()
-            .enumerate()
-            .map(|(number, role)| close(number, role, random))
-            .collect();
+        let mut sources: Vec<Method> =
+            self.roles.into_iter().enumerate().map(|(number, role)| close(number, role, random)).collect();
         sources.extend(self.helpers.write());
         let instructions = sources.iter_mut().flat_map(|source| &mut source.code);
         for (op, argument) in instructions {
@@ -572,7 +539,7 @@ impl Plan<'_> {
 
 /// Closes a role's method: mostly with RET, at times with a value to be
 /// discarded, or with a jump back to the start.
-fn close(number: usize, mut role: Role, random: &mut Random) -> Source {
+fn close(number: usize, mut role: Role, random: &mut Random) -> Method {
     let mut return_type = 0;
     match random.below(20) {
         0 => role.code.push((JUMP, 0)),
@@ -586,10 +553,5 @@ fn close(number: usize, mut role: Role, random: &mut Random) -> Source {
         }
         _ => role.code.push((RET, 0)),
     }
-    Source {
-        return_type,
-        parameters: role.parameters as u16,
-        slots: role.kinds,
-        code: role.code,
-    }
+    Method { return_type, parameters: role.parameters as u16, slots: role.kinds, code: role.code }
 }

@@ -49,13 +49,7 @@ fn choose_manner(random: &mut Random) -> Manner {
     }
 }
 
-fn next_byte(
-    machine: &Machine,
-    manner: Manner,
-    stray: usize,
-    before: &[u8],
-    random: &mut Random,
-) -> u8 {
+fn next_byte(machine: &Machine, manner: Manner, stray: usize, before: &[u8], random: &mut Random) -> u8 {
     let able = able_bytes(machine, random);
     if able.is_empty() || random.chance(stray) {
         return waiting_byte(machine, random).unwrap_or_else(|| stray_byte(random));

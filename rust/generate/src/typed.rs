@@ -1,7 +1,7 @@
 //! Random well-typed programs: every statement leaves nothing pending, every
 //! expression leaves one value of the type asked for.
 
-use model::assemble::{op::*, Source};
+use data::program::{op::*, Method};
 
 use crate::random::Random;
 
@@ -19,7 +19,7 @@ struct Signature {
 }
 
 /// A random well-typed program.
-pub fn typed(random: &mut Random) -> Vec<Source> {
+pub fn typed(random: &mut Random) -> Vec<Method> {
     let methods = match random.below(12) {
         0 => random.between(10, 32),
         _ => random.between(1, 6),
@@ -33,10 +33,7 @@ pub fn typed(random: &mut Random) -> Vec<Source> {
 
 fn signature(own: usize, random: &mut Random) -> Signature {
     if own == 0 {
-        return Signature {
-            return_type: 0,
-            parameters: vec![],
-        };
+        return Signature { return_type: 0, parameters: vec![] };
     }
     let return_type = match random.below(3) {
         0 => 0,
@@ -44,10 +41,7 @@ fn signature(own: usize, random: &mut Random) -> Signature {
     };
     let count = random.pick(&[0, 0, 1, 1, 1, 2, 2, 3, 5, 8]);
     let parameters = (0..count).map(|_| random.pick(&KINDS)).collect();
-    Signature {
-        return_type,
-        parameters,
-    }
+    Signature { return_type, parameters }
 }
 
 /// A method while it is written.
@@ -66,12 +60,7 @@ struct Body<'a> {
 }
 
 impl<'a> Body<'a> {
-    fn new(
-        own: usize,
-        signatures: &'a [Signature],
-        longest: usize,
-        random: &'a mut Random,
-    ) -> Body<'a> {
+    fn new(own: usize, signatures: &'a [Signature], longest: usize, random: &'a mut Random) -> Body<'a> {
         let mut slots = signatures[own].parameters.clone();
         let mut full = [false; SLOTS];
         full[..slots.len()].fill(true);
@@ -80,24 +69,15 @@ impl<'a> Body<'a> {
             let unused = random.chance(15);
             slots.push(if unused { 0 } else { random.pick(&KINDS) });
         }
-        Body {
-            random,
-            signatures,
-            own,
-            slots,
-            full,
-            height: 0,
-            longest,
-            code: Vec::new(),
-        }
+        Body { random, signatures, own, slots, full, height: 0, longest, code: Vec::new() }
     }
 
-    fn write(mut self) -> Source {
+    fn write(mut self) -> Method {
         let statements = self.random.between(2, 9);
         self.block(statements, 2);
         self.close();
         let signature = &self.signatures[self.own];
-        Source {
+        Method {
             return_type: signature.return_type,
             parameters: signature.parameters.len() as u16,
             slots: self.slots,
@@ -164,9 +144,7 @@ impl<'a> Body<'a> {
     }
 
     fn assign(&mut self) {
-        let used: Vec<usize> = (0..self.slots.len())
-            .filter(|slot| self.slots[*slot] != 0)
-            .collect();
+        let used: Vec<usize> = (0..self.slots.len()).filter(|slot| self.slots[*slot] != 0).collect();
         let Some(slot) = self.random.pick_any(&used) else {
             return self.value_and_drop();
         };
@@ -183,9 +161,7 @@ impl<'a> Body<'a> {
     }
 
     fn clear(&mut self) {
-        let used: Vec<usize> = (0..self.slots.len())
-            .filter(|slot| self.slots[*slot] != 0)
-            .collect();
+        let used: Vec<usize> = (0..self.slots.len()).filter(|slot| self.slots[*slot] != 0).collect();
         if let Some(slot) = self.random.pick_any(&used) {
             self.emit(CLEAR, slot as u16, 0, 0);
             self.full[slot] = false;
@@ -287,8 +263,7 @@ impl<'a> Body<'a> {
             // Values may stay pending across gates and calls.
             self.pending_effect();
         }
-        if depth > 0 && !self.is_long() && self.random.chance(45) && self.compound(kind, depth - 1)
-        {
+        if depth > 0 && !self.is_long() && self.random.chance(45) && self.compound(kind, depth - 1) {
             self.maybe_put(kind);
             return None;
         }

@@ -1,86 +1,129 @@
-//! The run.
+//! The check and the run.
 
+use data::{Answer, End, Line, Question, Refusal, Run, LINE_WORDS, WORK_WORDS};
+
+use crate::layout::decode;
+use crate::program::Program;
 use crate::raw;
+use crate::trace::lines;
 
-/// What a run answers. Numbers are those of document 01.
-#[derive(Clone, Copy, Debug, PartialEq, Eq)]
-pub enum Answer {
-    /// A question said no. Trace and work store are as they were.
-    Refused { number: u64, place: u64 },
-    /// The program ran.
-    Ran {
-        end: End,
-        /// Schedule bytes used, idle ones too.
-        entries: usize,
-        /// Lines written, of six words each.
-        lines: usize,
-        /// Outcomes used.
-        outcomes: usize,
-    },
-}
+/// An entry writes at most nine lines: FORK's own and one for each of eight
+/// arguments.
+const LINES_OF_AN_ENTRY: usize = 9;
 
-/// Why a run ended.
-#[derive(Clone, Copy, Debug, PartialEq, Eq)]
-pub enum End {
-    /// 0: the schedule is used up.
-    ScheduleUsed = 0,
-    /// 1: every process made has finished or stopped.
-    AllOver = 1,
-    /// 2: no process is able to move.
-    Stuck = 2,
-    /// 3: the lines of the next entry exceed what the trace still holds.
-    TraceFull = 3,
-}
-
-impl End {
-    /// Document 01's number of it.
-    pub fn number(self) -> u64 {
-        self as u64
-    }
-
-    fn from_number(number: u64) -> End {
-        match number {
-            0 => End::ScheduleUsed,
-            1 => End::AllOver,
-            2 => End::Stuck,
-            3 => End::TraceFull,
-            _ => panic!("the library answered end {number}"),
-        }
-    }
-}
-
-/// Puts the eight questions and, where none says no, runs the program on the
-/// schedule, whatever trace and work store held before.
-///
-/// After a run the trace's first lines are written, six words each, and the
-/// first [`WORK_WORDS`](crate::WORK_WORDS) words of the work store are the
-/// final configuration, which [`decode`](crate::decode) reads; all other words
-/// are as they were. After a refusal every word is.
+/// Puts the questions about a program, a schedule and an outcome list.
 ///
 /// ```
-/// use lanq::{run, Answer, End};
+/// use lanq::op::{GATE, NEWQ, RET};
+/// use lanq::{Method, Program, Question, Refusal};
 ///
-/// // Main makes a qubit, measures it, drops the outcome and returns.
-/// let mut program = vec![1, 4, 0, 4];
-/// program.extend([0; 18]);
-/// program.extend([7, 0, 11, 0, 5, 0, 13, 0]);
-/// let mut trace = [0; 20];
-/// let mut work = vec![0; lanq::WORK_WORDS];
+/// // X on nothing: question 5, at the table's instruction 0.
+/// let code = vec![(GATE, 1), (RET, 0)];
+/// let program = Program::from_methods(&[Method { code, ..Method::default() }]);
+/// assert_eq!(lanq::check(&program, &[], &[]), Err(Refusal::new(Question::Types, 0)));
 ///
-/// let answer = run(&program, &[0, 0, 0, 0], &[1], &mut trace, &mut work);
-/// assert_eq!(answer, Answer::Ran { end: End::AllOver, entries: 4, lines: 3, outcomes: 1 });
+/// // With a qubit it is right, but outcomes are 0 or 1.
+/// let code = vec![(NEWQ, 0), (GATE, 1), (RET, 0)];
+/// let program = Program::from_methods(&[Method { code, ..Method::default() }]);
+/// assert_eq!(lanq::check(&program, &[0, 0], &[1, 0]), Ok(()));
+/// assert_eq!(lanq::check(&program, &[0, 0], &[1, 7]), Err(Refusal::new(Question::Outcomes, 1)));
+/// ```
+pub fn check(program: &Program, schedule: &[u8], outcomes: &[u8]) -> Result<(), Refusal> {
+    check_in(program.words(), schedule, outcomes, WORK_WORDS)
+}
+
+/// Puts the questions and, where none says no, runs the program on the
+/// schedule. The trace has room for whatever the run writes, so no run of this
+/// function has the end [`End::TraceFull`].
+///
+/// ```
+/// use lanq::op::{DROP, END, NEWC, PUT, RECV, RET};
+/// use lanq::{End, Method, Program, State, Value};
+///
+/// // Main waits at RECV for a partner that there is not.
+/// let code = vec![(NEWC, 1), (PUT, 0), (END, 0), (RECV, 0), (PUT, 1), (DROP, 0), (RET, 0)];
+/// let program = Program::from_methods(&[Method { slots: vec![17, 1], code, ..Method::default() }]);
+/// let run = lanq::run(&program, &[0; 10], &[]).unwrap();
+/// assert_eq!((run.end, run.entries), (End::Stuck, 3));
+/// let main = &run.configuration.processes[0];
+/// assert_eq!(main.state, State::Running);
+/// assert_eq!(main.frames[0].place, 3);
+/// assert_eq!(main.frames[0].slots[0], Value::Channel(0));
+/// ```
+pub fn run(program: &Program, schedule: &[u8], outcomes: &[u8]) -> Result<Run, Refusal> {
+    // A longer schedule is refused.
+    let entries = schedule.len().min(65_535);
+    let mut trace = vec![0; LINE_WORDS * LINES_OF_AN_ENTRY * entries];
+    let mut work = vec![0; WORK_WORDS];
+    let answer = run_in(program.words(), schedule, outcomes, &mut trace, &mut work)?;
+    let written: &[Line] = &lines(&trace)[..answer.lines];
+    Ok(Run {
+        end: answer.end,
+        entries: answer.entries,
+        outcomes: answer.outcomes,
+        lines: written.to_vec(),
+        configuration: decode(&work).expect("a run leaves a configuration"),
+    })
+}
+
+/// Puts the questions about a work store of `work_len` words too.
+pub fn check_in(program: &[u16], schedule: &[u8], outcomes: &[u8], work_len: usize) -> Result<(), Refusal> {
+    // SAFETY: each pointer is good for its length as long as its slice is
+    // borrowed, which is longer than the call. The function reads them alone.
+    let answer = unsafe {
+        raw::lanq_check(
+            program.as_ptr(),
+            program.len(),
+            schedule.as_ptr(),
+            schedule.len(),
+            outcomes.as_ptr(),
+            outcomes.len(),
+            work_len,
+        )
+    };
+    debug_assert_eq!((answer.end, answer.entries, answer.lines, answer.outcomes), (0, 0, 0, 0));
+    accepted(&answer)
+}
+
+/// Runs a program in buffers that are lent, whatever they held before.
+///
+/// After a run the first [`Answer::lines`] lines of the trace are written,
+/// which [`lines`] reads, and the first [`WORK_WORDS`] words of the work store
+/// are the final configuration, which [`decode`] reads; all other words are as
+/// they were. After a refusal every word is.
+///
+/// ```
+/// use lanq::op::{DROP, MEAS, NEWQ, RET};
+/// use lanq::{decode, lines, run_in, Answer, End, Method, Program, Question, Refusal, State};
+///
+/// let code = vec![(NEWQ, 0), (MEAS, 0), (DROP, 0), (RET, 0)];
+/// let program = Program::from_methods(&[Method { code, ..Method::default() }]);
+/// let mut trace = [7; 20];
+/// let mut work = vec![7; lanq::WORK_WORDS];
+///
+/// let answer = run_in(program.words(), &[0, 0, 0, 0], &[1], &mut trace, &mut work).unwrap();
+/// assert_eq!(answer, Answer { end: End::AllOver, entries: 4, lines: 3, outcomes: 1 });
 /// assert_eq!(trace[0..6], [0, 0, 1, 0, 65535, 65535]); // qubit 0 made
 /// assert_eq!(trace[6..12], [1, 0, 4, 0, 1, 65535]); // measured 1
 /// assert_eq!(trace[12..18], [3, 0, 9, 65535, 65535, 65535]); // finished
-/// assert_eq!(trace[18..], [0, 0]); // kept
+/// assert_eq!(trace[18..], [7, 7]); // kept
+/// assert_eq!(lines(&trace)[..answer.lines][2].to_string(), "3 0 9 - - -");
+/// assert_eq!(decode(&work).unwrap().processes[0].state, State::Finished);
 ///
 /// // A work store of one word too few is refused by question 8.
-/// let answer = run(&program, &[0], &[1], &mut trace, &mut work[1..]);
-/// assert_eq!(answer, Answer::Refused { number: 8, place: 0 });
+/// let refused = run_in(program.words(), &[0], &[1], &mut trace, &mut work[1..]);
+/// assert_eq!(refused, Err(Refusal::new(Question::WorkStore, 0)));
 /// ```
-pub fn run(program: &[u16], schedule: &[u8], outcomes: &[u8], trace: &mut [u16], work: &mut [u32]) -> Answer {
-    // The slices outlive the call. Trace and work store are borrowed for it
-    // alone, so they overlap neither each other nor an input.
+pub fn run_in(
+    program: &[u16],
+    schedule: &[u8],
+    outcomes: &[u8],
+    trace: &mut [u16],
+    work: &mut [u32],
+) -> Result<Answer, Refusal> {
+    // SAFETY: each pointer is good for its length as long as its slice is
+    // borrowed, which is longer than the call. Trace and work store are borrowed
+    // for this call alone, so they overlap neither each other nor an input.
     let answer = unsafe {
         raw::lanq_run(
             program.as_ptr(),
@@ -95,14 +138,30 @@ pub fn run(program: &[u16], schedule: &[u8], outcomes: &[u8], trace: &mut [u16],
             work.len(),
         )
     };
+    accepted(&answer)?;
+    Ok(Answer {
+        end: listed("end", answer.end, End::read),
+        entries: count(answer.entries),
+        lines: count(answer.lines),
+        outcomes: count(answer.outcomes),
+    })
+}
+
+/// Nothing where the library has accepted the input.
+fn accepted(answer: &raw::Answer) -> Result<(), Refusal> {
     match answer.refused {
-        0 => Answer::Ran {
-            end: End::from_number(answer.end),
-            // Each is at most the length of something in memory.
-            entries: answer.entries as usize,
-            lines: answer.lines as usize,
-            outcomes: answer.outcomes as usize,
-        },
-        number => Answer::Refused { number, place: answer.place },
+        0 => Ok(()),
+        number => Err(Refusal::new(listed("refusal", number, Question::read), count(answer.place))),
     }
+}
+
+/// Counts and places are lengths or indices of something in memory.
+fn count(number: u64) -> usize {
+    usize::try_from(number).expect("a count of things in memory")
+}
+
+/// The case that a number of the library's answer stands for.
+fn listed<T>(what: &str, number: u64, read: fn(u16) -> Option<T>) -> T {
+    let case = u16::try_from(number).ok().and_then(read);
+    case.unwrap_or_else(|| panic!("the library answered {what} {number}"))
 }

@@ -2,40 +2,21 @@
 //! number, with the place in brackets". They stand for any content of any
 //! length.
 
+use data::{Question, Refusal, Type, SLOTS, WORK_WORDS};
+
 use crate::table::{
-    instruction_place, pair_place, row_place, table_words, Method, Op, Program, Row, Type, Words,
-    MOST_INSTRUCTIONS, MOST_METHODS, MOST_PARAMETERS, SLOTS,
+    instruction_place, pair_place, row_place, table_words, Method, Op, Program, Row, Words, MOST_INSTRUCTIONS,
+    MOST_METHODS, MOST_PARAMETERS,
 };
 use crate::typing;
 
 /// "Has the schedule at most 65,535 bytes?"
 pub const MOST_ENTRIES: usize = 65_535;
-/// "Has the work store at least 8,192 words of 32 bits?"
-pub const WORK_WORDS: usize = 8_192;
 /// "Is each outcome byte 0 or 1?"
 pub const HIGHEST_OUTCOME: u8 = 1;
 
-/// "A refusal gives number and place".
-#[derive(Clone, Copy, Debug, PartialEq, Eq, PartialOrd, Ord)]
-pub struct Refusal {
-    pub number: u64,
-    pub place: u64,
-}
-
-impl Refusal {
-    fn at(number: u64, place: usize) -> Refusal {
-        let place = place as u64;
-        Refusal { number, place }
-    }
-}
-
 /// Puts all eight questions in their order. `work_len` counts words.
-pub fn check(
-    program: &[u16],
-    schedule: &[u8],
-    outcomes: &[u8],
-    work_len: usize,
-) -> Result<Program, Refusal> {
+pub fn check(program: &[u16], schedule: &[u8], outcomes: &[u8], work_len: usize) -> Result<Program, Refusal> {
     let program = read_table(program)?;
     question_5_types(&program)?;
     question_6_outcomes(outcomes)?;
@@ -52,14 +33,8 @@ pub fn read_table(program: &[u16]) -> Result<Program, Refusal> {
     let rows = question_3_rows(words, sizes)?;
     let code = question_4_instructions(words, sizes, &spans, &rows)?;
     let methods = spans.iter().zip(rows).zip(code);
-    let methods = methods.map(|((span, row), code)| Method {
-        offset: span.offset,
-        row,
-        code,
-    });
-    Ok(Program {
-        methods: methods.collect(),
-    })
+    let methods = methods.map(|((span, row), code)| Method { offset: span.offset, row, code });
+    Ok(Program { methods: methods.collect() })
 }
 
 /// M and N.
@@ -78,12 +53,9 @@ fn question_1_sizes(words: Words) -> Result<Sizes, Refusal> {
         && (1..=MOST_INSTRUCTIONS).contains(&instructions)
         && words.count() == table_words(methods, instructions);
     if !sound {
-        return Err(Refusal::at(1, 0));
+        return Err(Refusal::new(Question::Sizes, 0));
     }
-    Ok(Sizes {
-        methods,
-        instructions,
-    })
+    Ok(Sizes { methods, instructions })
 }
 
 /// A method's pair (offset, length), in instructions.
@@ -104,13 +76,13 @@ fn question_2_pairs(words: Words, sizes: Sizes) -> Result<Vec<Span>, Refusal> {
         let offset = usize::from(words.at(place));
         let length = usize::from(words.at(place + 1));
         if offset != end || length == 0 {
-            return Err(Refusal::at(2, method));
+            return Err(Refusal::new(Question::Pairs, method));
         }
         end = offset + length;
         spans.push(Span { offset, length });
     }
     if end != sizes.instructions {
-        return Err(Refusal::at(2, sizes.methods - 1));
+        return Err(Refusal::new(Question::Pairs, sizes.methods - 1));
     }
     Ok(spans)
 }
@@ -119,8 +91,7 @@ fn question_2_pairs(words: Words, sizes: Sizes) -> Result<Vec<Span>, Refusal> {
 fn question_3_rows(words: Words, sizes: Sizes) -> Result<Vec<Row>, Refusal> {
     let read = |method| {
         let row = read_row(words, row_place(sizes.methods, method));
-        row.filter(|row| method != 0 || main_row_is_right(row))
-            .ok_or(Refusal::at(3, method))
+        row.filter(|row| method != 0 || main_row_is_right(row)).ok_or(Refusal::new(Question::Rows, method))
     };
     (0..sizes.methods).map(read).collect()
 }
@@ -137,11 +108,7 @@ fn read_row(words: Words, place: usize) -> Option<Row> {
     for (slot, kind) in slots.iter_mut().enumerate() {
         *kind = Type::read(words.at(place + 2 + slot))?;
     }
-    let row = Row {
-        return_type,
-        parameters,
-        slots,
-    };
+    let row = Row { return_type, parameters, slots };
     // "Parameters have no type 0."
     let full = !row.parameter_types().contains(&Type::None);
     full.then_some(row)
@@ -154,18 +121,13 @@ fn main_row_is_right(row: &Row) -> bool {
 
 /// "Is every op listed, its argument in range, its slot used, its target
 /// inside its own method?" The place is "counted over the table".
-fn question_4_instructions(
-    words: Words,
-    sizes: Sizes,
-    spans: &[Span],
-    rows: &[Row],
-) -> Result<Vec<Vec<Op>>, Refusal> {
+fn question_4_instructions(words: Words, sizes: Sizes, spans: &[Span], rows: &[Row]) -> Result<Vec<Vec<Op>>, Refusal> {
     let read = |(span, row): (&Span, &Row)| {
         let code = (span.offset..span.offset + span.length).map(|index| {
             let place = instruction_place(sizes.methods, index);
             Op::read(words.at(place), words.at(place + 1))
                 .filter(|op| argument_fits(*op, sizes.methods, span.length, row))
-                .ok_or(Refusal::at(4, index))
+                .ok_or(Refusal::new(Question::Instructions, index))
         });
         code.collect()
     };
@@ -184,7 +146,7 @@ fn argument_fits(op: Op, methods: usize, length: usize, row: &Row) -> bool {
 /// Question 5, read in `typing`.
 fn question_5_types(program: &Program) -> Result<(), Refusal> {
     match typing::first_fault(program) {
-        Some(fault) => Err(Refusal::at(5, fault.place)),
+        Some(fault) => Err(Refusal::new(Question::Types, fault.place)),
         None => Ok(()),
     }
 }
@@ -193,7 +155,7 @@ fn question_5_types(program: &Program) -> Result<(), Refusal> {
 fn question_6_outcomes(outcomes: &[u8]) -> Result<(), Refusal> {
     let wrong = outcomes.iter().position(|byte| *byte > HIGHEST_OUTCOME);
     match wrong {
-        Some(index) => Err(Refusal::at(6, index)),
+        Some(index) => Err(Refusal::new(Question::Outcomes, index)),
         None => Ok(()),
     }
 }
@@ -201,7 +163,7 @@ fn question_6_outcomes(outcomes: &[u8]) -> Result<(), Refusal> {
 /// "Has the schedule at most 65,535 bytes? 7 (0)"
 fn question_7_schedule(schedule: &[u8]) -> Result<(), Refusal> {
     if schedule.len() > MOST_ENTRIES {
-        return Err(Refusal::at(7, 0));
+        return Err(Refusal::new(Question::Schedule, 0));
     }
     Ok(())
 }
@@ -209,7 +171,7 @@ fn question_7_schedule(schedule: &[u8]) -> Result<(), Refusal> {
 /// "Has the work store at least 8,192 words of 32 bits? 8 (0)"
 fn question_8_work(work_len: usize) -> Result<(), Refusal> {
     if work_len < WORK_WORDS {
-        return Err(Refusal::at(8, 0));
+        return Err(Refusal::new(Question::WorkStore, 0));
     }
     Ok(())
 }

@@ -7,20 +7,18 @@
 //! - [`table`]: the program table, its types and ops
 //! - [`check`]: the eight questions put to a program and its inputs
 //! - [`typing`]: question 5, the reading "with types alone"
-//! - [`state`]: values, frames, processes and the configuration
-//! - [`line`]: trace lines
+//! - [`state`]: how things start, and what giving empties
 //! - [`step`]: what one instruction does
 //! - [`machine`]: entries, waiting, ends and whole runs
 //! - [`owner`]: reach, holders and the ownership statement
 //! - [`lookup`]: holder look-up and same-lines answer on any words
 //! - [`print`]: the printing program
-//! - [`assemble`]: writes tables, for tests and generators
+//!
+//! Values, frames, processes, lines and refusals are the crate `data`'s.
 
 #![forbid(unsafe_code)]
 
-pub mod assemble;
 pub mod check;
-pub mod line;
 pub mod lookup;
 pub mod machine;
 pub mod owner;
@@ -30,6 +28,6 @@ pub mod step;
 pub mod table;
 pub mod typing;
 
-pub use check::{check, Refusal};
-pub use machine::{check_and_run, run, Machine, Run};
+pub use check::check;
+pub use machine::{check_and_run, run, Machine};
 pub use table::Program;

@@ -1,7 +1,14 @@
 //! "The look-up takes any words, k and a qubit number", and the same-lines
 //! answer.
 
-use crate::line::{whole_lines, Line, UNUSED};
+use data::{Line, LINE_WORDS, UNUSED};
+
+/// The lines that any words make; "a part of one at the end is ignored".
+pub fn whole_lines(words: &[u16]) -> Vec<Line> {
+    let parts = words.chunks_exact(LINE_WORDS);
+    let parts = parts.map(|six| [six[0], six[1], six[2], six[3], six[4], six[5]]);
+    parts.map(Line::from_words).collect()
+}
 
 /// "among the first k lines (all, if fewer) the latest kind 1 line of that
 /// qubit answers its process, the latest kind 6 line with thing 3 and that

@@ -1,37 +1,11 @@
 //! "Entries and processes": the schedule, waiting, the ends and whole runs.
 
-use crate::check::{check, Refusal};
-use crate::line::{Line, LINE_WORDS};
-use crate::state::Value;
+use data::{Configuration, End, Fault, Line, Process, Refusal, Run, Side, State, Value, LINE_WORDS};
+
+use crate::check::check;
+use crate::state::start;
 use crate::step::{self, operands_full, Effect, Entry};
-use crate::table::{Op, Program, Side};
-
-pub use crate::state::{Configuration, Fault, Frame, Process, State};
-
-/// How a run ends.
-#[derive(Clone, Copy, Debug, PartialEq, Eq, PartialOrd, Ord)]
-pub enum End {
-    /// 0: "schedule used up"
-    ScheduleUsed,
-    /// 1: "every process made has finished or stopped"
-    AllOver,
-    /// 2: "none able to move (to step, meet or fault)"
-    Stuck,
-    /// 3: "the lines of this entry exceed what the trace still holds"
-    TraceFull,
-}
-
-impl End {
-    /// 01's number of it.
-    pub fn number(self) -> u16 {
-        match self {
-            End::ScheduleUsed => 0,
-            End::AllOver => 1,
-            End::Stuck => 2,
-            End::TraceFull => 3,
-        }
-    }
-}
+use crate::table::{Op, Program};
 
 /// What an entry that was taken did.
 #[derive(Clone, Copy, Debug, PartialEq, Eq, PartialOrd, Ord)]
@@ -88,7 +62,7 @@ impl<'a> Machine<'a> {
             program,
             outcomes,
             room: trace_words / LINE_WORDS,
-            config: Configuration::start(),
+            config: start(program),
             lines: Vec::new(),
             entries: 0,
             outcomes_used: 0,
@@ -205,11 +179,7 @@ impl<'a> Machine<'a> {
             return None;
         }
         match frame.pending[frame.pending.len() - operands] {
-            Value::End(channel, side) => Some(Offer {
-                sends,
-                channel,
-                side,
-            }),
+            Value::End(channel, side) => Some(Offer { sends, channel, side }),
             other => panic!("question 5 promised a channel end, found {other:?}"),
         }
     }
@@ -224,7 +194,7 @@ impl<'a> Machine<'a> {
             return None;
         }
         let frame = process.top()?;
-        Some(self.program.methods[frame.method].code[frame.place])
+        Some(self.program.op(frame.method, frame.place))
     }
 }
 
@@ -239,29 +209,7 @@ struct Offer {
 impl Offer {
     /// The half it meets: the other op, the same channel, the opposite end.
     fn opposite(self) -> Offer {
-        Offer {
-            sends: !self.sends,
-            channel: self.channel,
-            side: self.side.other(),
-        }
-    }
-}
-
-/// "A run answers end, entries used (idle ones too), lines written, outcomes
-/// used", and leaves its lines and the final configuration.
-#[derive(Clone, Debug, PartialEq, Eq)]
-pub struct Run {
-    pub end: End,
-    pub entries: usize,
-    pub lines: Vec<Line>,
-    pub outcomes_used: usize,
-    pub config: Configuration,
-}
-
-impl Run {
-    /// The lines as the words that stand first in the trace.
-    pub fn trace_words(&self) -> Vec<u16> {
-        self.lines.iter().flat_map(|line| line.words()).collect()
+        Offer { sends: !self.sends, channel: self.channel, side: self.side.other() }
     }
 }
 
@@ -286,8 +234,8 @@ pub fn run(program: &Program, schedule: &[u8], outcomes: &[u8], trace_words: usi
         end,
         entries: machine.entries,
         lines: machine.lines,
-        outcomes_used: machine.outcomes_used,
-        config: machine.config,
+        outcomes: machine.outcomes_used,
+        configuration: machine.config,
     }
 }
 

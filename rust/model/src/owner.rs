@@ -2,9 +2,7 @@
 
 use std::collections::BTreeMap;
 
-use crate::line::Line;
-use crate::state::{Configuration, Process, Thing, Value};
-use crate::table::{Gate, Side};
+use data::{Configuration, Gate, Line, Process, Side, Thing, Value};
 
 /// "Reach: in a slot or pending value of any frame, a stopped process's too;
 /// an end also through its channel." A finished process has no frames, so it
@@ -15,11 +13,9 @@ pub fn reach(process: &Process) -> Vec<Thing> {
 
 fn reached_through(value: Value) -> Vec<Thing> {
     match value.thing() {
-        Some(Thing::Channel(number)) => vec![
-            Thing::Channel(number),
-            Thing::End(number, Side::Zero),
-            Thing::End(number, Side::One),
-        ],
+        Some(Thing::Channel(number)) => {
+            vec![Thing::Channel(number), Thing::End(number, Side::Zero), Thing::End(number, Side::One)]
+        }
         Some(thing) => vec![thing],
         None => vec![],
     }
@@ -65,11 +61,7 @@ pub fn ownership(config: &Configuration, lines: &[Line]) -> Result<(), String> {
 
 /// The same, where the lines before `first_new` were looked at earlier: what
 /// is said of a line depends on the lines above it alone.
-pub fn ownership_since(
-    config: &Configuration,
-    lines: &[Line],
-    first_new: usize,
-) -> Result<(), String> {
+pub fn ownership_since(config: &Configuration, lines: &[Line], first_new: usize) -> Result<(), String> {
     reach_is_held(config, lines)?;
     (first_new..lines.len()).try_for_each(|index| line_is_held(lines, index))
 }
@@ -115,10 +107,7 @@ fn used_by_line(line: &Line) -> Result<Vec<(Thing, u16)>, String> {
         4 => Ok(vec![(Thing::Qubit(line.a), line.process)]),
         7 => {
             let side = Side::read(line.c).ok_or("a side that is not 0 or 1")?;
-            Ok(vec![
-                (Thing::End(line.b, side), line.process),
-                (Thing::End(line.b, side.other()), line.a),
-            ])
+            Ok(vec![(Thing::End(line.b, side), line.process), (Thing::End(line.b, side.other()), line.a)])
         }
         _ => Ok(vec![]),
     }

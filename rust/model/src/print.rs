@@ -1,9 +1,8 @@
 //! "The printing program reads standard input, at most 65,536 bytes".
 
-use crate::check::{Refusal, WORK_WORDS};
-use crate::line::{Line, LINE_WORDS};
-use crate::machine::{check_and_run, Run};
-use crate::table::Gate;
+use data::{Gate, Line, Question, Refusal, Run, LINE_WORDS, WORK_WORDS};
+
+use crate::machine::check_and_run;
 
 /// The longest file.
 pub const MOST_FILE_BYTES: usize = 65_536;
@@ -23,24 +22,14 @@ struct Parts<'a> {
 pub fn print(file: &[u8]) -> String {
     match run_file(file) {
         Ok(run) => print_run(&run),
-        Err(refusal) => format!("refused {} {}\n", refusal.number, refusal.place),
+        Err(refusal) => format!("refused {} {}\n", refusal.number(), refusal.place),
     }
 }
 
 /// Reads, checks and runs a file. What is no such file is refused first.
 fn run_file(file: &[u8]) -> Result<Run, Refusal> {
-    let not_built = Refusal {
-        number: 9,
-        place: 0,
-    };
-    let parts = read_file(file).ok_or(not_built)?;
-    check_and_run(
-        &parts.program,
-        parts.schedule,
-        parts.outcomes,
-        TRACE_LINES * LINE_WORDS,
-        WORK_WORDS,
-    )
+    let parts = read_file(file).ok_or(Refusal::new(Question::File, 0))?;
+    check_and_run(&parts.program, parts.schedule, parts.outcomes, TRACE_LINES * LINE_WORDS, WORK_WORDS)
 }
 
 /// The parts, "adjacent from byte 24 to the file's end"; none where the file
@@ -55,11 +44,7 @@ fn read_file(file: &[u8]) -> Option<Parts<'_>> {
     if rest != file.len() || program.len() % 2 != 0 {
         return None;
     }
-    Some(Parts {
-        program: read_words(program),
-        schedule,
-        outcomes,
-    })
+    Some(Parts { program: read_words(program), schedule, outcomes })
 }
 
 /// One part, which must start where the one before ended, and where it ends.
@@ -83,9 +68,7 @@ fn read_number(file: &[u8], place: usize) -> Option<usize> {
 /// "16-bit words, lowest byte first"
 fn read_words(bytes: &[u8]) -> Vec<u16> {
     let pairs = bytes.chunks_exact(2);
-    pairs
-        .map(|pair| u16::from_le_bytes([pair[0], pair[1]]))
-        .collect()
+    pairs.map(|pair| u16::from_le_bytes([pair[0], pair[1]])).collect()
 }
 
 /// The lines, then "end, entries, lines, outcomes".
@@ -93,7 +76,7 @@ fn print_run(run: &Run) -> String {
     let mut text: String = run.lines.iter().map(print_line).collect();
     let end = run.end.number();
     let lines = run.lines.len();
-    text += &format!("end {end} {} {lines} {}\n", run.entries, run.outcomes_used);
+    text += &format!("end {end} {} {lines} {}\n", run.entries, run.outcomes);
     text
 }
 

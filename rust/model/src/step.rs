@@ -3,9 +3,10 @@
 //! A step works on a copy: a fault throws the copy away, so that the process
 //! "keeps all slots and pending values as they were before the entry".
 
-use crate::line::{Event, Line};
-use crate::state::{Configuration, Fault, Frame, Process, State, Thing, Value};
-use crate::table::{Gate, Op, Program, Side, Type};
+use data::{Configuration, Event, Fault, Frame, Gate, Line, Process, Side, State, Thing, Type, Value};
+
+use crate::state::{give, start_frame, start_process};
+use crate::table::{Op, Program};
 
 /// "channel beyond 16"
 pub const MOST_CHANNELS: u16 = 16;
@@ -40,12 +41,7 @@ pub struct Entry<'a> {
 pub fn take(entry: Entry, config: &Configuration, op: Op, partner: Option<usize>) -> Effect {
     let mut step = Step::new(entry, config);
     match step.execute(op, partner) {
-        Ok(()) => Effect {
-            config: step.config,
-            lines: step.lines,
-            outcomes_used: step.outcomes_used,
-            fault: None,
-        },
+        Ok(()) => Effect { config: step.config, lines: step.lines, outcomes_used: step.outcomes_used, fault: None },
         Err(fault) => stop(entry, config, fault),
     }
 }
@@ -55,13 +51,8 @@ pub fn take(entry: Entry, config: &Configuration, op: Op, partner: Option<usize>
 fn stop(entry: Entry, config: &Configuration, fault: Fault) -> Effect {
     let mut config = config.clone();
     config.processes[entry.process].state = State::Stopped(fault);
-    let line = Event::Stopped(fault).line(entry.number, number_of(entry.process));
-    Effect {
-        config,
-        lines: vec![line],
-        outcomes_used: 0,
-        fault: Some(fault),
-    }
+    let line = Event::Stopped { fault }.line(entry.number, number_of(entry.process));
+    Effect { config, lines: vec![line], outcomes_used: 0, fault: Some(fault) }
 }
 
 /// Process numbers stay below 8, method numbers below 32.
@@ -79,12 +70,7 @@ struct Step<'a> {
 
 impl<'a> Step<'a> {
     fn new(entry: Entry<'a>, config: &Configuration) -> Step<'a> {
-        Step {
-            entry,
-            config: config.clone(),
-            lines: Vec::new(),
-            outcomes_used: 0,
-        }
+        Step { entry, config: config.clone(), lines: Vec::new(), outcomes_used: 0 }
     }
 
     /// The table of ops. The place moves on first; jumps set it anew.
@@ -109,7 +95,7 @@ impl<'a> Step<'a> {
             Op::Fork(method) => self.fork(method)?,
             Op::Send => self.send(partner)?,
             Op::Receive => self.receive(partner)?,
-            Op::Jump(target) => self.top().place = target,
+            Op::Jump(target) => self.jump(target),
             Op::JumpFalse(target) => self.jump_false(target)?,
             Op::Add => self.arithmetic(i32::checked_add)?,
             Op::Sub => self.arithmetic(i32::checked_sub)?,
@@ -217,7 +203,7 @@ impl<'a> Step<'a> {
         }
         self.config.qubits += 1;
         self.push(Value::Qubit(number));
-        self.tell(Event::QubitMade(number));
+        self.tell(Event::QubitMade { qubit: number });
         Ok(())
     }
 
@@ -228,7 +214,7 @@ impl<'a> Step<'a> {
         }
         self.config.channels += 1;
         self.push(Value::Channel(number));
-        self.tell(Event::ChannelMade(number));
+        self.tell(Event::ChannelMade { channel: number });
         Ok(())
     }
 
@@ -243,14 +229,14 @@ impl<'a> Step<'a> {
     fn gate(&mut self, gate: Gate) -> Result<(), Fault> {
         let upper = self.pop_qubit()?;
         if !gate.takes_two() {
-            self.tell(Event::Gate(gate, upper, None));
+            self.tell(Event::Gate { gate, qubit: upper, second: None });
             return Ok(());
         }
         let deeper = self.pop_qubit()?;
         if deeper == upper {
             return Err(Fault::OneQubit);
         }
-        self.tell(Event::Gate(gate, deeper, Some(upper)));
+        self.tell(Event::Gate { gate, qubit: deeper, second: Some(upper) });
         Ok(())
     }
 
@@ -277,7 +263,7 @@ impl<'a> Step<'a> {
         if self.process().frames.len() >= MOST_FRAMES {
             return Err(Fault::Frames);
         }
-        let frame = Frame::start(method, &arguments);
+        let frame = start_frame(self.entry.program, method, &arguments);
         self.process().frames.push(frame);
         Ok(())
     }
@@ -311,19 +297,19 @@ impl<'a> Step<'a> {
         self.tell(Event::Forked {
             child: number_of(child),
             method: number_of(method),
-            parameters: number_of(arguments.len()),
+            arguments: number_of(arguments.len()),
         });
         for thing in arguments.iter().filter_map(|value| value.thing()) {
             self.give(self.entry.process, child, thing);
         }
-        let child = Process::start(method, &arguments);
+        let child = start_process(self.entry.program, method, &arguments);
         self.config.processes.push(child);
         Ok(())
     }
 
     /// Empties the thing in the giver and writes the kind 6 line.
     fn give(&mut self, giver: usize, receiver: usize, thing: Thing) {
-        self.config.processes[giver].give(thing);
+        give(&mut self.config.processes[giver], thing);
         let to = number_of(receiver);
         self.write(giver, Event::Gave { to, thing });
     }
@@ -360,11 +346,7 @@ impl<'a> Step<'a> {
         let value = pop_from(top_of(&mut self.config.processes[sender]))?;
         let (channel, side) = pop_end(top_of(&mut self.config.processes[sender]))?;
         pop_end(top_of(&mut self.config.processes[receiver]))?;
-        let met = Event::Met {
-            receiver: number_of(receiver),
-            channel,
-            side,
-        };
+        let met = Event::Met { receiver: number_of(receiver), channel, side };
         self.write(sender, met);
         match value.thing() {
             Some(thing) => self.give(sender, receiver, thing),
@@ -375,12 +357,18 @@ impl<'a> Step<'a> {
         Ok(())
     }
 
-    // Ops 18 to 23.
+    // Ops 17 to 23.
+
+    /// A target counts "from the method's start", a place over the table.
+    fn jump(&mut self, target: usize) {
+        let offset = self.entry.program.methods[self.top().method].offset;
+        self.top().place = offset + target;
+    }
 
     /// "JFALSE takes a boolean, jumps on false"
     fn jump_false(&mut self, target: usize) -> Result<(), Fault> {
         if !self.pop_bool()? {
-            self.top().place = target;
+            self.jump(target);
         }
         Ok(())
     }
@@ -443,14 +431,10 @@ pub fn operands_full(frame: &Frame, count: usize) -> bool {
 
 /// "8: the value's low and high 16 bits (two's complement; boolean 0 or 1)"
 fn sent(value: Value) -> Event {
-    let bits = match value {
-        Value::Int(value) => u32::from_le_bytes(value.to_le_bytes()),
-        Value::Bool(value) => u32::from(value),
+    let value = match value {
+        Value::Int(value) => value,
+        Value::Bool(value) => i32::from(value),
         other => wrong_type("int or boolean", other),
     };
-    let [b0, b1, b2, b3] = bits.to_le_bytes();
-    Event::Sent {
-        low: u16::from_le_bytes([b0, b1]),
-        high: u16::from_le_bytes([b2, b3]),
-    }
+    Event::Passed { value }
 }

@@ -1,13 +1,13 @@
 //! "Program table": sixteen-bit words, numbered from 0.
 
+use data::{Carried, Gate, Side, Type, SLOTS};
+
 /// "Word 0: methods M, 1 to 32."
 pub const MOST_METHODS: usize = 32;
 /// "Word 1: instructions N, 1 to 4096."
 pub const MOST_INSTRUCTIONS: usize = 4096;
 /// "parameter count P (0 to 8)"
 pub const MOST_PARAMETERS: usize = 8;
-/// "16 slot types"
-pub const SLOTS: usize = 16;
 /// "M rows of 18 words"
 pub const ROW_WORDS: usize = 18;
 
@@ -45,166 +45,6 @@ pub fn row_place(methods: usize, method: usize) -> usize {
 /// Where an instruction starts, counted over the table.
 pub fn instruction_place(methods: usize, instruction: usize) -> usize {
     table_words(methods, instruction)
-}
-
-/// What a channel carries: "T is 1, 2 or 3".
-#[derive(Clone, Copy, Debug, PartialEq, Eq, PartialOrd, Ord)]
-pub enum Carried {
-    Int,
-    Bool,
-    Qubit,
-}
-
-impl Carried {
-    /// Reads T.
-    pub fn read(word: u16) -> Option<Carried> {
-        match word {
-            1 => Some(Carried::Int),
-            2 => Some(Carried::Bool),
-            3 => Some(Carried::Qubit),
-            _ => None,
-        }
-    }
-
-    /// 01's number of it.
-    pub fn number(self) -> u16 {
-        match self {
-            Carried::Int => 1,
-            Carried::Bool => 2,
-            Carried::Qubit => 3,
-        }
-    }
-
-    /// The type of a carried value.
-    pub fn as_type(self) -> Type {
-        match self {
-            Carried::Int => Type::Int,
-            Carried::Bool => Type::Bool,
-            Carried::Qubit => Type::Qubit,
-        }
-    }
-}
-
-/// "Types: 0 none, 1 int, 2 boolean, 3 qbit, 16+T channel and 32+T channel
-/// end carrying T"
-#[derive(Clone, Copy, Debug, PartialEq, Eq, PartialOrd, Ord)]
-pub enum Type {
-    None,
-    Int,
-    Bool,
-    Qubit,
-    Channel(Carried),
-    End(Carried),
-}
-
-impl Type {
-    /// Reads a type's word; nothing but the listed numbers is a type.
-    pub fn read(word: u16) -> Option<Type> {
-        match word {
-            0 => Some(Type::None),
-            1 => Some(Type::Int),
-            2 => Some(Type::Bool),
-            3 => Some(Type::Qubit),
-            16..=31 => Carried::read(word - 16).map(Type::Channel),
-            32..=47 => Carried::read(word - 32).map(Type::End),
-            _ => None,
-        }
-    }
-
-    /// 01's number of it.
-    pub fn number(self) -> u16 {
-        match self {
-            Type::None => 0,
-            Type::Int => 1,
-            Type::Bool => 2,
-            Type::Qubit => 3,
-            Type::Channel(carried) => 16 + carried.number(),
-            Type::End(carried) => 32 + carried.number(),
-        }
-    }
-}
-
-/// One of a channel's two ends.
-#[derive(Clone, Copy, Debug, PartialEq, Eq, PartialOrd, Ord)]
-pub enum Side {
-    Zero,
-    One,
-}
-
-impl Side {
-    /// Reads "side 0 or 1".
-    pub fn read(word: u16) -> Option<Side> {
-        match word {
-            0 => Some(Side::Zero),
-            1 => Some(Side::One),
-            _ => None,
-        }
-    }
-
-    /// 01's number of it.
-    pub fn number(self) -> u16 {
-        match self {
-            Side::Zero => 0,
-            Side::One => 1,
-        }
-    }
-
-    /// The opposite side.
-    pub fn other(self) -> Side {
-        match self {
-            Side::Zero => Side::One,
-            Side::One => Side::Zero,
-        }
-    }
-}
-
-/// "1 X, 2 Y, 3 Z, 4 H, 5 S, 6 CX, 7 CZ, 8 SWAP"
-#[derive(Clone, Copy, Debug, PartialEq, Eq, PartialOrd, Ord)]
-pub enum Gate {
-    X,
-    Y,
-    Z,
-    H,
-    S,
-    Cx,
-    Cz,
-    Swap,
-}
-
-impl Gate {
-    /// Reads a gate's number.
-    pub fn read(word: u16) -> Option<Gate> {
-        match word {
-            1 => Some(Gate::X),
-            2 => Some(Gate::Y),
-            3 => Some(Gate::Z),
-            4 => Some(Gate::H),
-            5 => Some(Gate::S),
-            6 => Some(Gate::Cx),
-            7 => Some(Gate::Cz),
-            8 => Some(Gate::Swap),
-            _ => None,
-        }
-    }
-
-    /// 01's number of it.
-    pub fn number(self) -> u16 {
-        match self {
-            Gate::X => 1,
-            Gate::Y => 2,
-            Gate::Z => 3,
-            Gate::H => 4,
-            Gate::S => 5,
-            Gate::Cx => 6,
-            Gate::Cz => 7,
-            Gate::Swap => 8,
-        }
-    }
-
-    /// "one qubit off for 1 to 5, else two"
-    pub fn takes_two(self) -> bool {
-        self.number() > 5
-    }
 }
 
 /// The table of ops, each with its argument.
@@ -366,4 +206,15 @@ pub struct Method {
 #[derive(Clone, Debug, PartialEq, Eq)]
 pub struct Program {
     pub methods: Vec<Method>,
+}
+
+impl Program {
+    /// The instruction at a place of a method, counted over the table.
+    ///
+    /// # Panics
+    /// At a place outside the method.
+    pub fn op(&self, method: usize, place: usize) -> Op {
+        let method = &self.methods[method];
+        method.code[place - method.offset]
+    }
 }

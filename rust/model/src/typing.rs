@@ -5,7 +5,9 @@
 //!
 //! Unreachable code is read like any other.
 
-use crate::table::{Method, Op, Program, Row, Type};
+use data::Type;
+
+use crate::table::{Method, Op, Program, Row};
 
 /// "hold at most 8 pending values"
 pub const MOST_PENDING: usize = 8;
@@ -46,10 +48,7 @@ pub fn first_fault(program: &Program) -> Option<TypeFault> {
 fn read_method(program: &Program, method: &Method) -> Result<(), TypeFault> {
     let mut pending = Vec::new();
     for (index, op) in method.code.iter().enumerate() {
-        let fault = |why| TypeFault {
-            place: method.offset + index,
-            why,
-        };
+        let fault = |why| TypeFault { place: method.offset + index, why };
         if !pending.is_empty() && is_target(method, index) {
             return Err(fault(Why::PendingAtTarget));
         }
@@ -72,12 +71,7 @@ fn closes(op: Op) -> bool {
 }
 
 /// Takes the operands off, puts the results on, looks at what is pending.
-fn read_instruction(
-    program: &Program,
-    row: &Row,
-    op: Op,
-    pending: &mut Vec<Type>,
-) -> Result<(), Why> {
+fn read_instruction(program: &Program, row: &Row, op: Op, pending: &mut Vec<Type>) -> Result<(), Why> {
     take_and_put(program, row, op, pending)?;
     if pending.len() > MOST_PENDING {
         return Err(Why::TooManyPending);
@@ -90,16 +84,7 @@ fn read_instruction(
 
 /// "hold none after DROP, CLEAR, RET, FORK, SEND, JUMP and JFALSE"
 fn leaves_nothing(op: Op) -> bool {
-    matches!(
-        op,
-        Op::Drop
-            | Op::Clear(_)
-            | Op::Return
-            | Op::Fork(_)
-            | Op::Send
-            | Op::Jump(_)
-            | Op::JumpFalse(_)
-    )
+    matches!(op, Op::Drop | Op::Clear(_) | Op::Return | Op::Fork(_) | Op::Send | Op::Jump(_) | Op::JumpFalse(_))
 }
 
 /// The op's operands and results, as the table of ops gives them.

@@ -3,14 +3,14 @@
 mod common;
 
 use common::*;
-use model::assemble::{file, op::*, table, Source};
-use model::machine::{run, State};
+use data::program::{op::*, table, Method};
+use data::{file::file, Fault, Question, Refusal, State, Value, WORK_WORDS};
+use model::check;
+use model::machine::run;
 use model::print::print;
-use model::state::{Fault, Value};
-use model::{check, Refusal};
 
 /// "A run given whole", its words typed from 01.
-fn worked_methods() -> Vec<Source> {
+fn worked_methods() -> Vec<Method> {
     vec![
         main_method(
             &[3, 19, 35],
@@ -69,8 +69,8 @@ fn table_of_the_worked_run() {
 fn p1_empty_schedule() {
     let run = run_all(&worked_methods(), &[], &[]);
     assert_eq!(answer(&run), (0, 0, 0, 0));
-    assert_eq!(run.config.processes.len(), 1);
-    assert_eq!(run.config.processes[0].frames[0].place, 0);
+    assert_eq!(run.configuration.processes.len(), 1);
+    assert_eq!(run.configuration.processes[0].frames[0].place, 0);
 }
 
 #[test]
@@ -79,7 +79,7 @@ fn p2_no_trace_lines() {
     for trace_words in [0, 1, 5] {
         let run = run(&program, &[0], &[], trace_words);
         assert_eq!(answer(&run), (3, 0, 0, 0));
-        assert_eq!(run.config, model::state::Configuration::start());
+        assert_eq!(run.configuration, model::state::start(&program));
     }
 }
 
@@ -111,7 +111,7 @@ fn p3_worked_run_printed() {
 #[test]
 fn p3_worked_run_final_configuration() {
     let run = run_all(&worked_methods(), &WORKED_SCHEDULE, &[]);
-    let [main, child] = &run.config.processes[..] else {
+    let [main, child] = &run.configuration.processes[..] else {
         panic!("two processes were made");
     };
     assert_eq!(main.state, State::Stopped(Fault::Empty));
@@ -121,11 +121,11 @@ fn p3_worked_run_final_configuration() {
     assert_eq!(main.frames[0].pending, []);
     assert_eq!(main.frames[0].slots[0], Value::Empty);
     assert_eq!(main.frames[0].slots[1], Value::Empty);
-    let side = model::table::Side::Zero;
+    let side = data::Side::Zero;
     assert_eq!(main.frames[0].slots[2], Value::End(0, side));
     assert_eq!(child.state, State::Finished);
     assert!(child.frames.is_empty());
-    assert_eq!((run.config.qubits, run.config.channels), (1, 1));
+    assert_eq!((run.configuration.qubits, run.configuration.channels), (1, 1));
 }
 
 #[test]
@@ -136,7 +136,7 @@ fn p4_one_word_short() {
 }
 
 /// Main that makes and drops so many qubits.
-fn qubit_maker(count: usize) -> Vec<Source> {
+fn qubit_maker(count: usize) -> Vec<Method> {
     let mut code = [(NEWQ, 0), (DROP, 0)].repeat(count);
     code.push((RET, 0));
     vec![main_method(&[], &code)]
@@ -154,11 +154,11 @@ fn p6_thirty_third_qubit_is_22() {
     let run = run_all(&qubit_maker(33), &[0; 70], &[]);
     assert_eq!(answer(&run), (1, 65, 33, 0));
     assert_eq!(lines(&run)[32], [64, 0, 10, 22, U, U]);
-    assert_eq!(run.config.qubits, 32);
+    assert_eq!(run.configuration.qubits, 32);
 }
 
 /// Main with 2147483647 pending after 96 entries, and then plus `added`.
-fn largest_plus(added: u16) -> Vec<Source> {
+fn largest_plus(added: u16) -> Vec<Method> {
     let mut code = vec![(INT, 1), (PUT, 0)];
     // 30 doublings: 1073741824.
     code.extend([(GET, 0), (ADD, 0), (PUT, 0)].repeat(30));
@@ -171,7 +171,7 @@ fn largest_plus(added: u16) -> Vec<Source> {
 fn p7_largest_int_plus_0_is_made() {
     let run = run_all(&largest_plus(0), &[0; 99], &[]);
     assert_eq!(answer(&run), (0, 99, 0, 0));
-    let frame = &run.config.processes[0].frames[0];
+    let frame = &run.configuration.processes[0].frames[0];
     assert_eq!(frame.slots[0], Value::Int(1_073_741_824));
     assert_eq!(frame.slots[1], Value::Int(2_147_483_647));
     assert_eq!(frame.pending, [Value::Int(2_147_483_647)]);
@@ -182,7 +182,7 @@ fn p8_largest_int_plus_1_is_26() {
     let run = run_all(&largest_plus(1), &[0; 99], &[]);
     assert_eq!(answer(&run), (1, 98, 1, 0));
     assert_eq!(lines(&run), [[97, 0, 10, 26, U, U]]);
-    let frame = &run.config.processes[0].frames[0];
+    let frame = &run.configuration.processes[0].frames[0];
     // Both operands are as they were before the entry.
     assert_eq!(frame.pending, [Value::Int(2_147_483_647), Value::Int(1)]);
     assert_eq!(frame.place, 97);
@@ -194,40 +194,23 @@ fn p9_cx_on_one_qubit_is_27() {
     let run = run_all(&[main_method(&[QBIT], &code)], &[0; 9], &[]);
     assert_eq!(answer(&run), (1, 4, 2, 0));
     assert_eq!(lines(&run)[1], [3, 0, 10, 27, U, U]);
-    let frame = &run.config.processes[0].frames[0];
+    let frame = &run.configuration.processes[0].frames[0];
     assert_eq!(frame.pending, [Value::Qubit(0), Value::Qubit(0)]);
 }
 
 #[test]
 fn p10_value_already_evaluated_is_emptied() {
-    let main = [
-        (NEWQ, 0),
-        (PUT, 0),
-        (DROP, 0),
-        (GET, 0),
-        (GET, 0),
-        (CALL, 1),
-        (GATE, 6),
-        (RET, 0),
-    ];
+    let main = [(NEWQ, 0), (PUT, 0), (DROP, 0), (GET, 0), (GET, 0), (CALL, 1), (GATE, 6), (RET, 0)];
     let forks = [(GET, 0), (FORK, 2), (NEWQ, 0), (RET, 0)];
-    let methods = [
-        main_method(&[QBIT], &main),
-        method(QBIT, &[QBIT], &[], &forks),
-        method(VOID, &[QBIT], &[], &[(RET, 0)]),
-    ];
+    let methods =
+        [main_method(&[QBIT], &main), method(QBIT, &[QBIT], &[], &forks), method(VOID, &[QBIT], &[], &[(RET, 0)])];
     let run = run_all(&methods, &[0; 11], &[]);
-    let expected = [
-        [0, 0, 1, 0, U, U],
-        [7, 0, 5, 1, 2, 1],
-        [7, 0, 6, 1, 3, 0],
-        [8, 0, 1, 1, U, U],
-        [10, 0, 10, 20, U, U],
-    ];
+    let expected =
+        [[0, 0, 1, 0, U, U], [7, 0, 5, 1, 2, 1], [7, 0, 6, 1, 3, 0], [8, 0, 1, 1, U, U], [10, 0, 10, 20, U, U]];
     assert_eq!(lines(&run), expected);
     // The child has not run yet, so the schedule's end decides.
     assert_eq!(answer(&run), (0, 11, 5, 0));
-    let frame = &run.config.processes[0].frames[0];
+    let frame = &run.configuration.processes[0].frames[0];
     assert_eq!(frame.pending, [Value::Empty, Value::Qubit(1)]);
     assert_eq!(frame.slots[0], Value::Empty);
 }
@@ -248,17 +231,9 @@ fn p11_partner_gone_is_end_2() {
         (SEND, 0),
         (RET, 0),
     ];
-    let methods = [
-        main_method(&[CHANNEL_INT, END_INT], &main),
-        method(VOID, &[END_INT], &[], &[(RET, 0)]),
-    ];
+    let methods = [main_method(&[CHANNEL_INT, END_INT], &main), method(VOID, &[END_INT], &[], &[(RET, 0)])];
     let schedule = [0, 0, 0, 0, 0, 0, 0, 0, 0, 0, 1, 0, 0];
-    let expected = [
-        [0, 0, 2, 0, U, U],
-        [7, 0, 5, 1, 1, 1],
-        [7, 0, 6, 1, 6, 0],
-        [10, 1, 9, U, U, U],
-    ];
+    let expected = [[0, 0, 2, 0, U, U], [7, 0, 5, 1, 1, 1], [7, 0, 6, 1, 6, 0], [10, 1, 9, U, U, U]];
     // Main was never named at SEND; with exactly 11 entries end 2 still comes
     // before the schedule's end.
     for used in [11, 12, 13] {
@@ -266,19 +241,12 @@ fn p11_partner_gone_is_end_2() {
         assert_eq!(answer(&run), (2, 11, 4, 0));
         assert_eq!(lines(&run), expected);
     }
-    assert_eq!(
-        answer(&run_all(&methods, &schedule[..10], &[])),
-        (0, 10, 3, 0)
-    );
+    assert_eq!(answer(&run_all(&methods, &schedule[..10], &[])), (0, 10, 3, 0));
 }
 
 #[test]
 fn p12_outcome_byte_2_is_6() {
     let words = table(&worked_methods());
-    let refused = check(&words, &[0], &[0, 1, 2, 3], 8192);
-    let expected = Refusal {
-        number: 6,
-        place: 2,
-    };
-    assert_eq!(refused, Err(expected));
+    let refused = check(&words, &[0], &[0, 1, 2, 3], WORK_WORDS);
+    assert_eq!(refused, Err(Refusal::new(Question::Outcomes, 2)));
 }

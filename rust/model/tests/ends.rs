@@ -3,31 +3,18 @@
 mod common;
 
 use common::*;
-use model::assemble::{op::*, Source};
-use model::machine::{run, Did, End, Machine, Standing};
-use model::state::Value;
-use model::table::Side;
+use data::program::{op::*, Method};
+use data::{End, Side, Value};
+use model::machine::{run, Did, Machine, Standing};
 
 /// Main makes a channel, keeps end 0 and forks a child with end 1. Main's
 /// entries 0 to 7; then both go on with their own code, the end in slot 1 of
 /// main and slot 0 of the child.
-fn pair(carried: u16, main_code: &[(u16, u16)], child_code: &[(u16, u16)]) -> Vec<Source> {
-    let make = [
-        (NEWC, carried),
-        (PUT, 0),
-        (END, 0),
-        (PUT, 1),
-        (DROP, 0),
-        (GET, 0),
-        (END, 1),
-        (FORK, 1),
-    ];
+fn pair(carried: u16, main_code: &[(u16, u16)], child_code: &[(u16, u16)]) -> Vec<Method> {
+    let make = [(NEWC, carried), (PUT, 0), (END, 0), (PUT, 1), (DROP, 0), (GET, 0), (END, 1), (FORK, 1)];
     let main_slots = [16 + carried, 32 + carried, carried];
     let main = [&make, main_code].concat();
-    vec![
-        main_method(&main_slots, &main),
-        method(VOID, &[32 + carried], &[carried], child_code),
-    ]
+    vec![main_method(&main_slots, &main), method(VOID, &[32 + carried], &[carried], child_code)]
 }
 
 const MADE: [u8; 8] = [0; 8];
@@ -59,10 +46,8 @@ fn end_1_all_over() {
 
 #[test]
 fn end_1_wants_every_process_over() {
-    let methods = [
-        main_method(&[], &[(FORK, 1), (RET, 0)]),
-        method(VOID, &[], &[INT_TYPE], &[(GET, 0), (DROP, 0), (RET, 0)]),
-    ];
+    let methods =
+        [main_method(&[], &[(FORK, 1), (RET, 0)]), method(VOID, &[], &[INT_TYPE], &[(GET, 0), (DROP, 0), (RET, 0)])];
     assert_eq!(answer(&run_all(&methods, &[0, 0, 0], &[])), (0, 3, 2, 0));
     assert_eq!(answer(&run_all(&methods, &[0, 0, 1, 1], &[])), (1, 3, 3, 0));
 }
@@ -115,12 +100,9 @@ fn end_3_lines_do_not_fit() {
     for words in [6, 12, 17] {
         let run = run(&program, &schedule, &[], words);
         assert_eq!(answer(&run), (3, 7, 1, 0));
-        assert_eq!(run.config.processes.len(), 1);
-        assert_eq!(run.config.processes[0].frames[0].place, 7);
-        assert_eq!(
-            run.config.processes[0].frames[0].pending,
-            [Value::End(0, Side::One)]
-        );
+        assert_eq!(run.configuration.processes.len(), 1);
+        assert_eq!(run.configuration.processes[0].frames[0].place, 7);
+        assert_eq!(run.configuration.processes[0].frames[0].pending, [Value::End(0, Side::One)]);
     }
     // Room for three: the meeting wants two, the entries without a line and
     // the idle ones go on with a full trace.
@@ -169,8 +151,8 @@ fn meeting_named_by_the_sender_and_by_the_receiver() {
         let run = run_all(&methods, &after_making(&[1, 0, 0, named, 1]), &[]);
         let met = [[11, 0, 7, 1, 0, 0], [11, 0, 8, 7, 0, U]];
         assert_eq!(lines(&run)[3..], met);
-        assert_eq!(run.config.processes[0].frames[0].place, 11);
-        assert_eq!(run.config.processes[1].frames[0].slots[1], Value::Int(7));
+        assert_eq!(run.configuration.processes[0].frames[0].place, 11);
+        assert_eq!(run.configuration.processes[1].frames[0].slots[1], Value::Int(7));
     }
 }
 
@@ -183,10 +165,7 @@ fn meeting_without_having_been_named_there_before() {
     drive(&mut machine, &after_making(&[0, 0]));
     assert_eq!(machine.standing(0), Standing::Waits);
     assert_eq!(machine.standing(1), Standing::Steps);
-    assert_eq!(
-        drive(&mut machine, &[0, 0, 1]),
-        [Did::Idle, Did::Idle, Did::Stepped]
-    );
+    assert_eq!(drive(&mut machine, &[0, 0, 1]), [Did::Idle, Did::Idle, Did::Stepped]);
     assert_eq!(machine.standing(0), Standing::Meets(1));
     assert_eq!(machine.standing(1), Standing::Meets(0));
     assert_eq!(drive(&mut machine, &[1]), [Did::Met(0)]);
@@ -204,10 +183,7 @@ fn the_child_may_send_over_side_1() {
     let run = run_all(&methods, &after_making(&[1, 1, 0, 0, 0]), &[]);
     let met = [[11, 1, 7, 0, 0, 1], [11, 1, 8, 1, 0, U]];
     assert_eq!(lines(&run)[3..], met);
-    assert_eq!(
-        run.config.processes[0].frames[0].slots[2],
-        Value::Bool(true)
-    );
+    assert_eq!(run.configuration.processes[0].frames[0].slots[2], Value::Bool(true));
 }
 
 /// The two halves of an int as its kind 8 line has them.
@@ -257,10 +233,7 @@ fn another_channel_is_no_partner() {
         (RET, 0),
     ];
     let child = [(GET, 0), (RECV, 0), (DROP, 0), (RET, 0)];
-    let methods = [
-        main_method(&[END_INT], &main),
-        method(VOID, &[END_INT], &[], &child),
-    ];
+    let methods = [main_method(&[END_INT], &main), method(VOID, &[END_INT], &[], &child)];
     let run = run_all(&methods, &[0, 0, 0, 0, 0, 0, 0, 0, 0, 1, 0], &[]);
     assert_eq!(answer(&run), (2, 10, 4, 0));
 }
@@ -269,53 +242,27 @@ fn another_channel_is_no_partner() {
 fn values_stay_pending_across_a_meeting() {
     let send = [(GET, 1), (INT, 7), (SEND, 0), (RET, 0)];
     let child = [(INT, 1), (GET, 0), (RECV, 0), (ADD, 0), (DROP, 0), (RET, 0)];
-    let run = run_all(
-        &pair(1, &send, &child),
-        &after_making(&[1, 1, 0, 0, 0]),
-        &[],
-    );
-    let frame = &run.config.processes[1].frames[0];
+    let run = run_all(&pair(1, &send, &child), &after_making(&[1, 1, 0, 0, 0]), &[]);
+    let frame = &run.configuration.processes[1].frames[0];
     assert_eq!(frame.pending, [Value::Int(1), Value::Int(7)]);
     assert_eq!(frame.slots[0], Value::End(0, Side::One));
 }
 
 /// Main receives over side 0 and waits; the child stands at SEND with an
 /// emptied value, or with an emptied end.
-fn not_ready(child: &[(u16, u16)], given: u16) -> Vec<Source> {
+fn not_ready(child: &[(u16, u16)], given: u16) -> Vec<Method> {
     let receive = [(GET, 1), (RECV, 0), (DROP, 0), (RET, 0)];
     let mut methods = pair(3, &receive, child);
     methods[1].slots[1] = QBIT;
-    methods.push(method(
-        VOID,
-        &[given],
-        &[],
-        &[(GET, 0), (FORK, 3), (RET, 0)],
-    ));
+    methods.push(method(VOID, &[given], &[], &[(GET, 0), (FORK, 3), (RET, 0)]));
     methods.push(method(VOID, &[given], &[], &[(RET, 0)]));
     methods
 }
 
 #[test]
 fn a_partner_with_an_emptied_operand_is_not_ready() {
-    let value_gone = [
-        (NEWQ, 0),
-        (PUT, 1),
-        (DROP, 0),
-        (GET, 0),
-        (GET, 1),
-        (GET, 1),
-        (CALL, 2),
-        (SEND, 0),
-        (RET, 0),
-    ];
-    let end_gone = [
-        (GET, 0),
-        (NEWQ, 0),
-        (GET, 0),
-        (CALL, 2),
-        (SEND, 0),
-        (RET, 0),
-    ];
+    let value_gone = [(NEWQ, 0), (PUT, 1), (DROP, 0), (GET, 0), (GET, 1), (GET, 1), (CALL, 2), (SEND, 0), (RET, 0)];
+    let end_gone = [(GET, 0), (NEWQ, 0), (GET, 0), (CALL, 2), (SEND, 0), (RET, 0)];
     for (child, given, steps) in [(&value_gone[..], QBIT, 10), (&end_gone[..], END_QBIT, 7)] {
         let program = program(&not_ready(child, given));
         let mut machine = Machine::new(&program, &[], AMPLE);
@@ -325,7 +272,7 @@ fn a_partner_with_an_emptied_operand_is_not_ready() {
         assert_eq!(machine.standing(0), Standing::Waits);
         assert_eq!(machine.standing(1), Standing::Steps);
         assert_eq!(drive(&mut machine, &[0]), [Did::Idle]);
-        let fault = model::state::Fault::Empty;
+        let fault = data::Fault::Empty;
         assert_eq!(drive(&mut machine, &[1]), [Did::Stopped(fault)]);
     }
 }
@@ -333,27 +280,10 @@ fn a_partner_with_an_emptied_operand_is_not_ready() {
 #[test]
 fn a_receiver_with_an_emptied_end_is_not_ready() {
     let send = [(GET, 1), (INT, 7), (SEND, 0), (RET, 0)];
-    let child = [
-        (GET, 0),
-        (GET, 0),
-        (CALL, 2),
-        (RECV, 0),
-        (DROP, 0),
-        (RET, 0),
-    ];
+    let child = [(GET, 0), (GET, 0), (CALL, 2), (RECV, 0), (DROP, 0), (RET, 0)];
     let mut methods = pair(1, &send, &child);
-    methods.push(method(
-        VOID,
-        &[END_INT],
-        &[],
-        &[(GET, 0), (FORK, 3), (RET, 0)],
-    ));
-    methods.push(method(
-        VOID,
-        &[END_INT],
-        &[],
-        &[(GET, 0), (RECV, 0), (DROP, 0), (RET, 0)],
-    ));
+    methods.push(method(VOID, &[END_INT], &[], &[(GET, 0), (FORK, 3), (RET, 0)]));
+    methods.push(method(VOID, &[END_INT], &[], &[(GET, 0), (RECV, 0), (DROP, 0), (RET, 0)]));
     let program = program(&methods);
     let mut machine = Machine::new(&program, &[], AMPLE);
     drive(&mut machine, &after_making(&[0, 0, 1, 1, 1, 1, 1, 1]));
@@ -367,10 +297,7 @@ fn a_receiver_with_an_emptied_end_is_not_ready() {
 
 #[test]
 fn an_entry_not_taken_changes_nothing() {
-    let program = program(&[main_method(
-        &[],
-        &[(NEWQ, 0), (MEAS, 0), (DROP, 0), (RET, 0)],
-    )]);
+    let program = program(&[main_method(&[], &[(NEWQ, 0), (MEAS, 0), (DROP, 0), (RET, 0)])]);
     let mut machine = Machine::new(&program, &[0], 6);
     drive(&mut machine, &[0]);
     let before = machine.clone();

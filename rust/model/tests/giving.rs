@@ -3,12 +3,11 @@
 mod common;
 
 use common::*;
-use model::assemble::{op::*, Source};
-use model::line::Line;
-use model::machine::Run;
+use data::program::{op::*, Method};
+use data::Side::{One, Zero};
+use data::{Configuration, Line, Process, Run, Thing, Value};
 use model::owner::{holder, ownership, reach};
-use model::state::{Configuration, Process, Thing, Value};
-use model::table::Side::{One, Zero};
+use model::state::start_process;
 
 /// Main's slots after it made a qubit (slot 0), a channel of qubits (slot 1)
 /// and both its ends (slots 2 and 3), end 1 still on top: 12 entries. Slot 4
@@ -35,10 +34,7 @@ fn fork_with(slots: &[u16]) -> Run {
     let close = [(FORK, 1), (RET, 0)];
     let code = [&MAKING[..], &[(DROP, 0)], &gets, &close].concat();
     let types: Vec<u16> = slots.iter().map(|slot| SLOTS[usize::from(*slot)]).collect();
-    let methods = [
-        main_method(&SLOTS, &code),
-        method(VOID, &types, &[], &[(RET, 0)]),
-    ];
+    let methods = [main_method(&SLOTS, &code), method(VOID, &types, &[], &[(RET, 0)])];
     let entries = MAKING.len() + 2 + slots.len();
     run_all(&methods, &vec![0; entries], &[])
 }
@@ -46,10 +42,7 @@ fn fork_with(slots: &[u16]) -> Run {
 /// Main's five slots and the child's arguments, all numbered 0.
 fn slots_after(run: &Run, arguments: usize) -> (Vec<Value>, Vec<Value>) {
     let slots = |process: &Process, count| process.frames[0].slots[..count].to_vec();
-    (
-        slots(&run.config.processes[0], 5),
-        slots(&run.config.processes[1], arguments),
-    )
+    (slots(&run.configuration.processes[0], 5), slots(&run.configuration.processes[1], arguments))
 }
 
 const Q: Value = Value::Qubit(0);
@@ -110,32 +103,14 @@ fn the_child_has_every_argument() {
 #[test]
 fn ints_and_booleans_have_no_line_but_count() {
     let methods = [
-        main_method(
-            &[],
-            &[
-                (INT, 5),
-                (BOOL, 1),
-                (NEWQ, 0),
-                (INT, 6),
-                (FORK, 1),
-                (RET, 0),
-            ],
-        ),
-        method(
-            VOID,
-            &[INT_TYPE, BOOL_TYPE, QBIT, INT_TYPE],
-            &[],
-            &[(RET, 0)],
-        ),
+        main_method(&[], &[(INT, 5), (BOOL, 1), (NEWQ, 0), (INT, 6), (FORK, 1), (RET, 0)]),
+        method(VOID, &[INT_TYPE, BOOL_TYPE, QBIT, INT_TYPE], &[], &[(RET, 0)]),
     ];
     let run = run_all(&methods, &[0; 5], &[]);
     let expected = [[2, 0, 1, 0, U, U], [4, 0, 5, 1, 1, 4], [4, 0, 6, 1, 3, 0]];
     assert_eq!(lines(&run), expected);
-    let slots = &run.config.processes[1].frames[0].slots;
-    assert_eq!(
-        slots[..4],
-        [Value::Int(5), Value::Bool(true), Q, Value::Int(6)]
-    );
+    let slots = &run.configuration.processes[1].frames[0].slots;
+    assert_eq!(slots[..4], [Value::Int(5), Value::Bool(true), Q, Value::Int(6)]);
     assert_eq!(slots[4..], [GONE; 12]);
 }
 
@@ -158,7 +133,7 @@ fn given_from_a_deeper_frame(slot: u16) -> (Vec<Value>, Vec<Value>) {
         method(VOID, &[given], &[], &[(RET, 0)]),
     ];
     let run = run_all(&methods, &[0; 26], &[]);
-    let frames = &run.config.processes[0].frames;
+    let frames = &run.configuration.processes[0].frames;
     assert_eq!(frames.len(), 1);
     (frames[0].slots[..5].to_vec(), frames[0].pending.clone())
 }
@@ -177,26 +152,13 @@ fn pending_values_of_all_frames_are_emptied_in_place() {
 
 /// Main makes a qubit in slots 0 and 4 and another one in slot 5, forks a
 /// child with end 1 and sends it the first; the child receives.
-fn qubit_sent() -> Vec<Source> {
-    let send = [
-        (DROP, 0),
-        (NEWQ, 0),
-        (PUT, 5),
-        (DROP, 0),
-        (GET, 3),
-        (FORK, 1),
-        (GET, 2),
-        (GET, 4),
-        (SEND, 0),
-        (RET, 0),
-    ];
+fn qubit_sent() -> Vec<Method> {
+    let send =
+        [(DROP, 0), (NEWQ, 0), (PUT, 5), (DROP, 0), (GET, 3), (FORK, 1), (GET, 2), (GET, 4), (SEND, 0), (RET, 0)];
     let code = [&MAKING[..], &send].concat();
     let slots = [&SLOTS[..], &[QBIT]].concat();
     let child = [(GET, 0), (RECV, 0), (PUT, 1), (DROP, 0), (RET, 0)];
-    vec![
-        main_method(&slots, &code),
-        method(VOID, &[END_QBIT], &[QBIT], &child),
-    ]
+    vec![main_method(&slots, &code), method(VOID, &[END_QBIT], &[QBIT], &child)]
 }
 
 #[test]
@@ -205,35 +167,21 @@ fn sending_a_qubit_gives_it() {
     let run = run_all(&qubit_sent(), &schedule, &[]);
     let expected = [[21, 0, 7, 1, 0, 0], [21, 0, 6, 1, 3, 0]];
     assert_eq!(lines(&run)[5..], expected);
-    let main = &run.config.processes[0].frames[0];
+    let main = &run.configuration.processes[0].frames[0];
     // Both slots with the qubit are empty, the other qubit and the end stay.
     let slots = [GONE, GONE, E0, GONE, GONE, Value::Qubit(1)];
     assert_eq!(main.slots[..6], slots);
     assert_eq!(main.pending, []);
-    assert_eq!(run.config.processes[1].frames[0].slots[..2], [E1, Q]);
+    assert_eq!(run.configuration.processes[1].frames[0].slots[..2], [E1, Q]);
 }
 
 #[test]
 fn copies_calls_and_ends_give_nothing() {
-    let code = [
-        (NEWC, 1),
-        (PUT, 0),
-        (CALL, 1),
-        (GET, 0),
-        (END, 0),
-        (DROP, 0),
-        (GET, 0),
-        (END, 0),
-        (DROP, 0),
-        (RET, 0),
-    ];
-    let methods = [
-        main_method(&[CHANNEL_INT], &code),
-        method(VOID, &[CHANNEL_INT], &[], &[(CLEAR, 0), (RET, 0)]),
-    ];
+    let code = [(NEWC, 1), (PUT, 0), (CALL, 1), (GET, 0), (END, 0), (DROP, 0), (GET, 0), (END, 0), (DROP, 0), (RET, 0)];
+    let methods = [main_method(&[CHANNEL_INT], &code), method(VOID, &[CHANNEL_INT], &[], &[(CLEAR, 0), (RET, 0)])];
     let run = run_all(&methods, &[0; 11], &[]);
     assert_eq!(answer(&run), (0, 11, 1, 0));
-    assert_eq!(run.config.processes[0].frames[0].slots[0], C);
+    assert_eq!(run.configuration.processes[0].frames[0].slots[0], C);
 }
 
 /// Lines from their words.
@@ -275,16 +223,16 @@ fn holders_by_lines_alone() {
     assert_eq!(after(6, Thing::End(4, One)), None);
 }
 
+/// A process with these values in its first slots.
+fn process_with(values: &[Value]) -> Process {
+    start_process(&program(&[main_method(&[], &[(RET, 0)])]), 0, values)
+}
+
 #[test]
 fn an_end_is_reached_through_its_channel() {
-    let mut process = Process::start(0, &[Value::Channel(3), Value::Int(4)]);
+    let mut process = process_with(&[Value::Channel(3), Value::Int(4)]);
     process.frames[0].pending.push(Value::Qubit(2));
-    let expected = [
-        Thing::Channel(3),
-        Thing::End(3, Zero),
-        Thing::End(3, One),
-        Thing::Qubit(2),
-    ];
+    let expected = [Thing::Channel(3), Thing::End(3, Zero), Thing::End(3, One), Thing::Qubit(2)];
     assert_eq!(reach(&process), expected);
     process.frames.clear();
     assert_eq!(reach(&process), []);
@@ -292,11 +240,7 @@ fn an_end_is_reached_through_its_channel() {
 
 /// A configuration of two processes with these values in their slots.
 fn two_processes(first: Value, second: Value) -> Configuration {
-    Configuration {
-        processes: vec![Process::start(0, &[first]), Process::start(0, &[second])],
-        qubits: 2,
-        channels: 2,
-    }
+    Configuration { processes: vec![process_with(&[first]), process_with(&[second])], qubits: 2, channels: 2 }
 }
 
 #[test]
@@ -347,14 +291,11 @@ fn ownership_can_fail_on_lines() {
 fn an_end_never_taken_out_is_lost() {
     // The child has end 1; main had only the channel, which is emptied.
     let methods = [
-        main_method(
-            &[CHANNEL_INT],
-            &[(NEWC, 1), (PUT, 0), (END, 1), (FORK, 1), (RET, 0)],
-        ),
+        main_method(&[CHANNEL_INT], &[(NEWC, 1), (PUT, 0), (END, 1), (FORK, 1), (RET, 0)]),
         method(VOID, &[END_INT], &[], &[(RET, 0)]),
     ];
     let run = run_all(&methods, &[0; 4], &[]);
-    assert_eq!(reach(&run.config.processes[0]), []);
+    assert_eq!(reach(&run.configuration.processes[0]), []);
     assert_eq!(holder(&run.lines, Thing::End(0, Zero)), Some(0));
     assert_eq!(holder(&run.lines, Thing::End(0, One)), Some(1));
 }

@@ -3,10 +3,9 @@
 mod common;
 
 use common::*;
-use model::assemble::{op::*, Source};
-use model::machine::{Did, Machine, State};
-use model::state::{Fault, Value};
-use model::table::Side;
+use data::program::{op::*, Method};
+use data::{Fault, Side, State, Value};
+use model::machine::{Did, Machine};
 
 /// Runs main alone on as many entries as its code is long, less the RET.
 fn pending_after(slots: &[u16], code: &[(u16, u16)], outcomes: &[u8]) -> Vec<Value> {
@@ -14,25 +13,15 @@ fn pending_after(slots: &[u16], code: &[(u16, u16)], outcomes: &[u8]) -> Vec<Val
     // the schedule does not reach.
     let mut whole = code.to_vec();
     whole.extend([(DROP, 0), (RET, 0)]);
-    let run = run_all(
-        &[main_method(slots, &whole)],
-        &vec![0; code.len()],
-        outcomes,
-    );
+    let run = run_all(&[main_method(slots, &whole)], &vec![0; code.len()], outcomes);
     assert_eq!(run.entries, code.len());
-    run.config.processes[0].frames[0].pending.clone()
+    run.configuration.processes[0].frames[0].pending.clone()
 }
 
 #[test]
 fn values_are_pushed() {
-    assert_eq!(
-        pending_after(&[], &[(INT, 32_767)], &[]),
-        [Value::Int(32_767)]
-    );
-    assert_eq!(
-        pending_after(&[], &[(INT, 32_768)], &[]),
-        [Value::Int(-32_768)]
-    );
+    assert_eq!(pending_after(&[], &[(INT, 32_767)], &[]), [Value::Int(32_767)]);
+    assert_eq!(pending_after(&[], &[(INT, 32_768)], &[]), [Value::Int(-32_768)]);
     assert_eq!(pending_after(&[], &[(INT, 65_535)], &[]), [Value::Int(-1)]);
     assert_eq!(pending_after(&[], &[(BOOL, 0)], &[]), [Value::Bool(false)]);
     assert_eq!(pending_after(&[], &[(BOOL, 1)], &[]), [Value::Bool(true)]);
@@ -60,18 +49,11 @@ fn put_leaves_the_top_and_clear_empties() {
     let code = [(INT, 5), (PUT, 3), (INT, 6), (PUT, 3), (ADD, 0)];
     let slots = [0, 0, 0, INT_TYPE];
     assert_eq!(pending_after(&slots, &code, &[]), [Value::Int(11)]);
-    let code = [
-        (INT, 5),
-        (PUT, 3),
-        (DROP, 0),
-        (CLEAR, 3),
-        (CLEAR, 3),
-        (RET, 0),
-    ];
+    let code = [(INT, 5), (PUT, 3), (DROP, 0), (CLEAR, 3), (CLEAR, 3), (RET, 0)];
     let methods = [main_method(&slots, &code)];
     let slot_after = |entries| {
         let run = run_all(&methods, &vec![0; entries], &[]);
-        run.config.processes[0].frames[0].slots[3]
+        run.configuration.processes[0].frames[0].slots[3]
     };
     assert_eq!(slot_after(1), Value::Empty);
     assert_eq!(slot_after(3), Value::Int(5));
@@ -82,14 +64,7 @@ fn put_leaves_the_top_and_clear_empties() {
 
 #[test]
 fn gates_name_the_deeper_first() {
-    let mut code = vec![
-        (NEWQ, 0),
-        (PUT, 0),
-        (DROP, 0),
-        (NEWQ, 0),
-        (PUT, 1),
-        (DROP, 0),
-    ];
+    let mut code = vec![(NEWQ, 0), (PUT, 0), (DROP, 0), (NEWQ, 0), (PUT, 1), (DROP, 0)];
     for gate in 1..=5 {
         code.extend([(GET, 1), (GATE, gate)]);
     }
@@ -117,14 +92,7 @@ fn gates_name_the_deeper_first() {
 
 #[test]
 fn measurements_use_the_outcomes_in_order() {
-    let code = [
-        (NEWQ, 0),
-        (PUT, 0),
-        (MEAS, 0),
-        (GET, 0),
-        (MEAS, 0),
-        (SUB, 0),
-    ];
+    let code = [(NEWQ, 0), (PUT, 0), (MEAS, 0), (GET, 0), (MEAS, 0), (SUB, 0)];
     assert_eq!(pending_after(&[QBIT], &code, &[1, 0, 1]), [Value::Int(1)]);
     assert_eq!(pending_after(&[QBIT], &code, &[0, 1]), [Value::Int(-1)]);
 }
@@ -132,21 +100,11 @@ fn measurements_use_the_outcomes_in_order() {
 #[test]
 fn jumps() {
     // On false the qubit is left out; the jump back makes it a loop.
-    let code = |condition| {
-        [
-            (BOOL, condition),
-            (JFALSE, 4),
-            (NEWQ, 0),
-            (DROP, 0),
-            (NEWC, 1),
-            (DROP, 0),
-            (JUMP, 0),
-        ]
-    };
+    let code = |condition| [(BOOL, condition), (JFALSE, 4), (NEWQ, 0), (DROP, 0), (NEWC, 1), (DROP, 0), (JUMP, 0)];
     let run = run_all(&[main_method(&[], &code(1))], &[0; 8], &[]);
     let expected = [[2, 0, 1, 0, U, U], [4, 0, 2, 0, U, U]];
     assert_eq!(lines(&run), expected);
-    assert_eq!(run.config.processes[0].frames[0].place, 1);
+    assert_eq!(run.configuration.processes[0].frames[0].place, 1);
     let run = run_all(&[main_method(&[], &code(0))], &[0; 8], &[]);
     let expected = [[2, 0, 2, 0, U, U], [7, 0, 2, 1, U, U]];
     assert_eq!(lines(&run), expected);
@@ -154,16 +112,7 @@ fn jumps() {
 
 #[test]
 fn call_and_return() {
-    let main = [
-        (INT, 1),
-        (INT, 20),
-        (INT, 30),
-        (CALL, 1),
-        (ADD, 0),
-        (PUT, 0),
-        (DROP, 0),
-        (RET, 0),
-    ];
+    let main = [(INT, 1), (INT, 20), (INT, 30), (CALL, 1), (ADD, 0), (PUT, 0), (DROP, 0), (RET, 0)];
     let minus = [(GET, 0), (GET, 1), (SUB, 0), (CALL, 2), (RET, 0)];
     let methods = [
         main_method(&[INT_TYPE], &main),
@@ -178,11 +127,9 @@ fn call_and_return() {
     // The caller's place stands behind its CALL, its values stay pending.
     assert_eq!(frames[0].place, 4);
     assert_eq!(frames[0].pending, [Value::Int(1)]);
-    assert_eq!((frames[1].method, frames[1].place), (1, 0));
-    assert_eq!(
-        frames[1].slots[..3],
-        [Value::Int(20), Value::Int(30), Value::Empty]
-    );
+    // Counted over the table, behind the eight instructions of main.
+    assert_eq!((frames[1].method, frames[1].place), (1, 8));
+    assert_eq!(frames[1].slots[..3], [Value::Int(20), Value::Int(30), Value::Empty]);
     drive(&mut machine, &[0; 4]);
     let frames = &machine.config.processes[0].frames;
     assert_eq!(frames.len(), 3);
@@ -193,10 +140,7 @@ fn call_and_return() {
     assert_eq!(frames.len(), 1);
     assert_eq!(frames[0].pending, [Value::Int(1), Value::Int(-10)]);
     drive(&mut machine, &[0; 3]);
-    assert_eq!(
-        machine.config.processes[0].frames[0].slots[0],
-        Value::Int(-9)
-    );
+    assert_eq!(machine.config.processes[0].frames[0].slots[0], Value::Int(-9));
     assert!(machine.lines.is_empty());
 }
 
@@ -208,12 +152,7 @@ fn main_may_be_called_and_forked() {
     assert_eq!(lines(&run), [[7, 0, 10, 25, U, U]]);
     let code = [(FORK, 0), (RET, 0)];
     let run = run_all(&[main_method(&[], &code)], &[0, 1, 1, 0], &[]);
-    let expected = [
-        [0, 0, 5, 1, 0, 0],
-        [1, 1, 5, 2, 0, 0],
-        [2, 1, 9, U, U, U],
-        [3, 0, 9, U, U, U],
-    ];
+    let expected = [[0, 0, 5, 1, 0, 0], [1, 1, 5, 2, 0, 0], [2, 1, 9, U, U, U], [3, 0, 9, U, U, U]];
     assert_eq!(lines(&run), expected);
 }
 
@@ -226,16 +165,10 @@ fn a_root_frame_discards_what_it_returns() {
         method(QBIT, &[], &[], &[(NEWQ, 0), (RET, 0)]),
     ];
     let run = run_all(&methods, &[0, 0, 1, 1, 2, 2], &[]);
-    let expected = [
-        [0, 0, 5, 1, 1, 0],
-        [1, 0, 5, 2, 2, 0],
-        [3, 1, 9, U, U, U],
-        [4, 2, 1, 0, U, U],
-        [5, 2, 9, U, U, U],
-    ];
+    let expected = [[0, 0, 5, 1, 1, 0], [1, 0, 5, 2, 2, 0], [3, 1, 9, U, U, U], [4, 2, 1, 0, U, U], [5, 2, 9, U, U, U]];
     assert_eq!(lines(&run), expected);
-    assert_eq!(run.config.processes[2].state, State::Finished);
-    assert!(run.config.processes[2].frames.is_empty());
+    assert_eq!(run.configuration.processes[2].state, State::Finished);
+    assert!(run.configuration.processes[2].frames.is_empty());
 }
 
 /// Runs main alone to its fault: the fault line's entry and number.
@@ -252,21 +185,13 @@ fn fault_20_slot_read_is_empty() {
         let code = [(GET, 0), (DROP, 0), (RET, 0)];
         assert_eq!(fault_of(&[slot], &code, &[]), (0, 20));
     }
-    let code = [
-        (INT, 1),
-        (PUT, 0),
-        (DROP, 0),
-        (CLEAR, 0),
-        (GET, 0),
-        (DROP, 0),
-        (RET, 0),
-    ];
+    let code = [(INT, 1), (PUT, 0), (DROP, 0), (CLEAR, 0), (GET, 0), (DROP, 0), (RET, 0)];
     assert_eq!(fault_of(&[INT_TYPE], &code, &[]), (4, 20));
 }
 
 /// Main pushes a thing of slot 0 (a qubit, or an end or the channel itself),
 /// calls a method that forks it away, and then takes the emptied value.
-fn emptied(kind: u16, before: &[(u16, u16)], after: &[(u16, u16)]) -> Vec<Source> {
+fn emptied(kind: u16, before: &[(u16, u16)], after: &[(u16, u16)]) -> Vec<Method> {
     let make: &[(u16, u16)] = match kind {
         QBIT => &[(NEWQ, 0)],
         CHANNEL_INT => &[(NEWC, 1)],
@@ -286,12 +211,12 @@ fn emptied(kind: u16, before: &[(u16, u16)], after: &[(u16, u16)]) -> Vec<Source
 }
 
 /// The fault of process 0 in such a program, and its pending values.
-fn emptied_fault(methods: &[Source]) -> (u16, Vec<Value>) {
+fn emptied_fault(methods: &[Method]) -> (u16, Vec<Value>) {
     let run = run_all(methods, &[0; 40], &[1]);
     let last = run.lines.last().expect("a fault line");
     assert_eq!((last.process, last.kind), (0, 10));
-    assert_eq!(run.outcomes_used, 0);
-    let frames = &run.config.processes[0].frames;
+    assert_eq!(run.outcomes, 0);
+    let frames = &run.configuration.processes[0].frames;
     (last.a, frames[0].pending.clone())
 }
 
@@ -308,11 +233,7 @@ fn fault_20_for_an_operand_of_every_op() {
     ];
     for (kind, after) in takers {
         let methods = emptied(kind, get, after);
-        assert_eq!(
-            emptied_fault(&methods),
-            (20, vec![Value::Empty]),
-            "{after:?}"
-        );
+        assert_eq!(emptied_fault(&methods), (20, vec![Value::Empty]), "{after:?}");
     }
     // The end below a value that is there.
     let methods = emptied(END_INT, get, &[(INT, 4), (SEND, 0)]);
@@ -352,24 +273,18 @@ fn fault_20_of_a_value_returned() {
     ];
     let run = run_all(&methods, &[0, 0, 1, 1, 1, 1, 1, 1, 1], &[]);
     assert_eq!(lines(&run).last(), Some(&[8, 1, 10, 20, U, U]));
-    let child = &run.config.processes[1];
+    let child = &run.configuration.processes[1];
     assert_eq!(child.state, State::Stopped(Fault::Empty));
     assert_eq!(child.frames[0].pending, [Value::Empty]);
-    assert_eq!(child.frames[0].place, 3);
+    // The fourth instruction behind the three of main.
+    assert_eq!(child.frames[0].place, 6);
 }
 
 #[test]
 fn fault_20_comes_before_23() {
     // Seven children, then a FORK with an emptied argument: 20, not 23.
     let mut main = vec![(FORK, 3); 6];
-    main.extend([
-        (NEWQ, 0),
-        (PUT, 0),
-        (GET, 0),
-        (CALL, 1),
-        (FORK, 2),
-        (RET, 0),
-    ]);
+    main.extend([(NEWQ, 0), (PUT, 0), (GET, 0), (CALL, 1), (FORK, 2), (RET, 0)]);
     let methods = [
         main_method(&[QBIT], &main),
         method(VOID, &[QBIT], &[], &[(GET, 0), (FORK, 2), (RET, 0)]),
@@ -377,7 +292,7 @@ fn fault_20_comes_before_23() {
         method(VOID, &[], &[], &[(RET, 0)]),
     ];
     let run = run_all(&methods, &[0; 14], &[]);
-    assert_eq!(run.config.processes.len(), 8);
+    assert_eq!(run.configuration.processes.len(), 8);
     assert_eq!(lines(&run).last(), Some(&[13, 0, 10, 20, U, U]));
 }
 
@@ -387,7 +302,7 @@ fn fault_21_channel_beyond_16() {
     assert_eq!(fault_of(&[], &code, &[]), (48, 21));
     let run = run_all(&[main_method(&[], &code)], &[0; 60], &[]);
     assert_eq!(lines(&run)[15], [45, 0, 2, 15, U, U]);
-    assert_eq!(run.config.channels, 16);
+    assert_eq!(run.configuration.channels, 16);
 }
 
 #[test]
@@ -399,22 +314,19 @@ fn fault_22_qubit_beyond_32() {
 #[test]
 fn fault_23_process_beyond_8() {
     let code = [(NEWQ, 0), (FORK, 1), (JUMP, 0)];
-    let methods = [
-        main_method(&[], &code),
-        method(VOID, &[QBIT], &[], &[(RET, 0)]),
-    ];
+    let methods = [main_method(&[], &code), method(VOID, &[QBIT], &[], &[(RET, 0)])];
     // Children that have finished count too.
     let mut schedule = [0, 0, 0].repeat(8);
     schedule.splice(2..2, [1]);
     let run = run_all(&methods, &schedule, &[]);
-    assert_eq!(run.config.processes.len(), 8);
+    assert_eq!(run.configuration.processes.len(), 8);
     let written = lines(&run);
     // Three entries a child, and entry 2 was child 1's: child 7 is made at
     // 20, and the next FORK at 23 is one too many.
     assert!(written.contains(&[20, 0, 5, 7, 1, 1]));
     assert_eq!(written.last(), Some(&[23, 0, 10, 23, U, U]));
     // The argument of the FORK that failed stays pending.
-    assert_eq!(run.config.processes[0].frames[0].pending, [Value::Qubit(7)]);
+    assert_eq!(run.configuration.processes[0].frames[0].pending, [Value::Qubit(7)]);
 }
 
 #[test]
@@ -425,7 +337,7 @@ fn fault_24_no_outcome_left() {
     let run = run_all(&[main_method(&[], &code)], &[0; 9], &[1, 0]);
     assert_eq!(lines(&run)[1], [1, 0, 4, 0, 1, U]);
     assert_eq!(lines(&run)[3], [5, 0, 4, 1, 0, U]);
-    assert_eq!(run.outcomes_used, 2);
+    assert_eq!(run.outcomes, 2);
 }
 
 #[test]
@@ -437,12 +349,9 @@ fn fault_25_frame_beyond_8() {
     let run = run_all(&methods, &[0; 40], &[]);
     // The calls at entries 1, 3, ... 13 make frames 2 to 8.
     assert_eq!(lines(&run), [[15, 0, 10, 25, U, U]]);
-    let frames = &run.config.processes[0].frames;
+    let frames = &run.configuration.processes[0].frames;
     assert_eq!(frames.len(), 8);
-    assert_eq!(
-        (frames[7].place, frames[6].place, frames[0].place),
-        (1, 2, 2)
-    );
+    assert_eq!((frames[7].place, frames[6].place, frames[0].place), (4, 5, 2));
     assert_eq!(frames[7].pending, [Value::Int(1)]);
 }
 
@@ -476,12 +385,7 @@ fn fault_27_two_qubit_gate_on_one_qubit() {
 fn a_stopped_process_is_idle_and_keeps_all() {
     let methods = [
         main_method(&[], &[(FORK, 1), (RET, 0)]),
-        method(
-            VOID,
-            &[],
-            &[QBIT],
-            &[(NEWQ, 0), (MEAS, 0), (DROP, 0), (RET, 0)],
-        ),
+        method(VOID, &[], &[QBIT], &[(NEWQ, 0), (MEAS, 0), (DROP, 0), (RET, 0)]),
     ];
     let program = program(&methods);
     let mut machine = Machine::new(&program, &[], AMPLE);
@@ -490,9 +394,6 @@ fn a_stopped_process_is_idle_and_keeps_all() {
     let before = machine.config.clone();
     assert_eq!(drive(&mut machine, &[1, 1]), [Did::Idle, Did::Idle]);
     assert_eq!(machine.config, before);
-    assert_eq!(
-        machine.config.processes[1].frames[0].pending,
-        [Value::Qubit(0)]
-    );
+    assert_eq!(machine.config.processes[1].frames[0].pending, [Value::Qubit(0)]);
     assert_eq!(machine.entries, 5);
 }

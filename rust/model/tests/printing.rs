@@ -3,7 +3,8 @@
 mod common;
 
 use common::*;
-use model::assemble::{file, op::*, table};
+use data::file::file;
+use data::program::{op::*, table};
 use model::print::print;
 
 /// Main returns at once.
@@ -154,10 +155,8 @@ fn every_kind_has_its_columns() {
         (RET, 0),
     ];
     let child = [(GET, 0), (RECV, 0), (DROP, 0), (RET, 0)];
-    let words = table(&[
-        main_method(&[CHANNEL_INT, END_INT, QBIT], &main),
-        method(VOID, &[END_INT, INT_TYPE], &[], &child),
-    ]);
+    let words =
+        table(&[main_method(&[CHANNEL_INT, END_INT, QBIT], &main), method(VOID, &[END_INT, INT_TYPE], &[], &child)]);
     let schedule = [[0; 20].as_slice(), &[1, 1, 1, 1, 0, 0, 0]].concat();
     let expected = "\
 0 0 2 0 - -

@@ -3,23 +3,18 @@
 mod common;
 
 use common::*;
-use model::assemble::{op::*, table, Source};
+use data::program::{op::*, table, Method};
+use data::WORK_WORDS;
 use model::check::check;
 use model::table::{instruction_place, pair_place, row_place};
-use model::Refusal;
 
 const RETURN: &[(u16, u16)] = &[(RET, 0)];
 
 /// Three methods of lengths 1, 3 and 2: offsets 0, 1 and 4, in all 6.
-fn three_methods() -> Vec<Source> {
+fn three_methods() -> Vec<Method> {
     vec![
         main_method(&[], RETURN),
-        method(
-            INT_TYPE,
-            &[INT_TYPE],
-            &[QBIT],
-            &[(GET, 0), (PUT, 0), (RET, 0)],
-        ),
+        method(INT_TYPE, &[INT_TYPE], &[QBIT], &[(GET, 0), (PUT, 0), (RET, 0)]),
         method(VOID, &[], &[], &[(BOOL, 1), (JFALSE, 0)]),
     ]
 }
@@ -109,10 +104,7 @@ fn question_2_wrong_sum_alone_counts_against_the_last() {
 #[test]
 fn question_2_sums_do_not_wrap() {
     // 65535 + 1 would wrap to 0, and 65530 + 12 to 6.
-    assert_eq!(
-        refusal(&with_pairs([(0, 65_535), (65_535, 1), (0, 6)])),
-        (2, 2)
-    );
+    assert_eq!(refusal(&with_pairs([(0, 65_535), (65_535, 1), (0, 6)])), (2, 2));
     let pairs = [(0, 65_529), (65_529, 1), (65_530, 12)];
     assert_eq!(refusal(&with_pairs(pairs)), (2, 2));
 }
@@ -160,15 +152,12 @@ fn question_3_main() {
 }
 
 /// Two methods; the instruction is the third of the second, 4 in the table.
-fn with_instruction(op: u16, argument: u16) -> (u64, u64) {
+fn with_instruction(op: u16, argument: u16) -> (u16, usize) {
     let code = [(CLEAR, 1), (CLEAR, 1), (op, argument), (RET, 0)];
     let mut slots = [0; 16];
     slots[1] = INT_TYPE;
     slots[15] = QBIT;
-    let methods = [
-        main_method(&[], &[(JUMP, 1), (RET, 0)]),
-        method(VOID, &[], &slots, &code),
-    ];
+    let methods = [main_method(&[], &[(JUMP, 1), (RET, 0)]), method(VOID, &[], &slots, &code)];
     refusal_of(&methods)
 }
 
@@ -207,17 +196,8 @@ fn question_4_argument_ranges() {
     for (op, argument) in passing {
         assert_ne!(with_instruction(op, argument).0, 4, "{op} {argument}");
     }
-    let failing = [
-        (BOOL, 2),
-        (NEWC, 0),
-        (NEWC, 4),
-        (END, 2),
-        (GATE, 0),
-        (GATE, 9),
-        (CALL, 2),
-        (FORK, 2),
-        (FORK, 65_535),
-    ];
+    let failing =
+        [(BOOL, 2), (NEWC, 0), (NEWC, 4), (END, 2), (GATE, 0), (GATE, 9), (CALL, 2), (FORK, 2), (FORK, 65_535)];
     for (op, argument) in failing {
         assert_eq!(with_instruction(op, argument), (4, 4), "{op} {argument}");
     }
@@ -257,7 +237,7 @@ fn question_4_first_instruction_at_fault() {
 
 /// Refusal of a method 1 of this code, after a main of one instruction;
 /// slots 0 to 8 have the nine types that a slot can have.
-fn typed(return_type: u16, code: &[(u16, u16)]) -> (u64, u64) {
+fn typed(return_type: u16, code: &[(u16, u16)]) -> (u16, usize) {
     let slots = [1, 2, 3, 17, 18, 19, 33, 34, 35];
     let methods = [
         main_method(&[], RETURN),
@@ -269,7 +249,7 @@ fn typed(return_type: u16, code: &[(u16, u16)]) -> (u64, u64) {
 }
 
 /// The same with RET after the code.
-fn typed_void(code: &[(u16, u16)]) -> (u64, u64) {
+fn typed_void(code: &[(u16, u16)]) -> (u16, usize) {
     let code = [code, RETURN].concat();
     typed(VOID, &code)
 }
@@ -335,28 +315,13 @@ fn question_5_send_wants_what_the_end_carries() {
 
 #[test]
 fn question_5_results_have_their_types() {
-    assert_eq!(
-        typed_void(&[(NEWQ, 0), (MEAS, 0), (PUT, 0), (DROP, 0)]),
-        (0, 0)
-    );
-    assert_eq!(
-        typed_void(&[(NEWC, 2), (PUT, 4), (END, 1), (PUT, 7), (DROP, 0)]),
-        (0, 0)
-    );
+    assert_eq!(typed_void(&[(NEWQ, 0), (MEAS, 0), (PUT, 0), (DROP, 0)]), (0, 0));
+    assert_eq!(typed_void(&[(NEWC, 2), (PUT, 4), (END, 1), (PUT, 7), (DROP, 0)]), (0, 0));
     assert_eq!(typed_void(&[(NEWC, 2), (PUT, 5)]), (5, 2));
-    assert_eq!(
-        typed_void(&[(GET, 8), (RECV, 0), (PUT, 2), (DROP, 0)]),
-        (0, 0)
-    );
+    assert_eq!(typed_void(&[(GET, 8), (RECV, 0), (PUT, 2), (DROP, 0)]), (0, 0));
     assert_eq!(typed_void(&[(GET, 8), (RECV, 0), (PUT, 0)]), (5, 3));
-    assert_eq!(
-        typed_void(&[(INT, 1), (INT, 2), (LESS, 0), (PUT, 1), (DROP, 0)]),
-        (0, 0)
-    );
-    assert_eq!(
-        typed_void(&[(INT, 1), (INT, 2), (SUB, 0), (PUT, 1)]),
-        (5, 4)
-    );
+    assert_eq!(typed_void(&[(INT, 1), (INT, 2), (LESS, 0), (PUT, 1), (DROP, 0)]), (0, 0));
+    assert_eq!(typed_void(&[(INT, 1), (INT, 2), (SUB, 0), (PUT, 1)]), (5, 4));
     let call = [(INT, 1), (NEWQ, 0), (CALL, 2), (PUT, 2), (DROP, 0)];
     assert_eq!(typed_void(&call), (0, 0));
     assert_eq!(typed_void(&[(BOOL, 1), (CALL, 3)]), (0, 0));
@@ -384,10 +349,7 @@ fn question_5_nothing_pending_after() {
     assert_eq!(typed_void(&[(INT, 1), (CLEAR, 0)]), (5, 2));
     assert_eq!(typed_void(&[(INT, 1)]), (5, 2));
     assert_eq!(typed_void(&[(INT, 1), (BOOL, 1), (FORK, 3)]), (5, 3));
-    assert_eq!(
-        typed_void(&[(INT, 1), (GET, 6), (INT, 1), (SEND, 0)]),
-        (5, 4)
-    );
+    assert_eq!(typed_void(&[(INT, 1), (GET, 6), (INT, 1), (SEND, 0)]), (5, 4));
     assert_eq!(typed_void(&[(INT, 1), (JUMP, 0)]), (5, 2));
     assert_eq!(typed_void(&[(INT, 1), (BOOL, 1), (JFALSE, 0)]), (5, 3));
 }
@@ -452,36 +414,33 @@ fn question_5_unreachable_code_is_read() {
 fn question_5_first_over_the_table() {
     let bad = method(VOID, &[], &[], &[(INT, 1), (RET, 0)]);
     let good = main_method(&[], RETURN);
-    assert_eq!(
-        refusal_of(&[bad.clone(), good.clone(), bad.clone()]),
-        (5, 1)
-    );
+    assert_eq!(refusal_of(&[bad.clone(), good.clone(), bad.clone()]), (5, 1));
     assert_eq!(refusal_of(&[good.clone(), good, bad]), (5, 3));
 }
 
 /// Number and place for the inputs beside the table.
-fn inputs(schedule: &[u8], outcomes: &[u8], work_len: usize) -> (u64, u64) {
+fn inputs(schedule: &[u8], outcomes: &[u8], work_len: usize) -> (u16, usize) {
     match check(&good(), schedule, outcomes, work_len) {
         Ok(_) => (0, 0),
-        Err(Refusal { number, place }) => (number, place),
+        Err(refusal) => (refusal.number(), refusal.place),
     }
 }
 
 #[test]
 fn question_6_outcomes() {
-    assert_eq!(inputs(&[], &[0, 1, 1, 0], 8192), (0, 0));
-    assert_eq!(inputs(&[], &[2], 8192), (6, 0));
-    assert_eq!(inputs(&[], &[0, 1, 255, 2], 8192), (6, 2));
+    assert_eq!(inputs(&[], &[0, 1, 1, 0], WORK_WORDS), (0, 0));
+    assert_eq!(inputs(&[], &[2], WORK_WORDS), (6, 0));
+    assert_eq!(inputs(&[], &[0, 1, 255, 2], WORK_WORDS), (6, 2));
     let mut many = vec![1; 70_000];
     many[69_999] = 3;
-    assert_eq!(inputs(&[], &many, 8192), (6, 69_999));
+    assert_eq!(inputs(&[], &many, WORK_WORDS), (6, 69_999));
 }
 
 #[test]
 fn question_7_schedule() {
-    assert_eq!(inputs(&vec![9; 65_535], &[], 8192), (0, 0));
-    assert_eq!(inputs(&vec![0; 65_536], &[], 8192), (7, 0));
-    assert_eq!(inputs(&vec![0; 70_000], &[], 8192), (7, 0));
+    assert_eq!(inputs(&vec![9; 65_535], &[], WORK_WORDS), (0, 0));
+    assert_eq!(inputs(&vec![0; 65_536], &[], WORK_WORDS), (7, 0));
+    assert_eq!(inputs(&vec![0; 70_000], &[], WORK_WORDS), (7, 0));
 }
 
 #[test]
@@ -498,7 +457,7 @@ fn the_first_no_decides() {
     assert_eq!(inputs(&long, &[0, 2], 0), (6, 1));
     assert_eq!(inputs(&long, &[0], 0), (7, 0));
     let mut words = good();
-    let number = |words: &[u16]| check(words, &long, &[2], 0).unwrap_err().number;
+    let number = |words: &[u16]| check(words, &long, &[2], 0).unwrap_err().number();
     words[instruction_place(3, 3)] = CLEAR;
     words[instruction_place(3, 3) + 1] = 0;
     assert_eq!(number(&words), 5);

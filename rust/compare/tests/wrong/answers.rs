@@ -1,9 +1,9 @@
 //! Wrong about the answer and the words left in the buffers.
 
-use compare::left::{by_model, Answer, Buffers, Left};
+use compare::left::{by_model, Buffers, Left};
+use data::{Answer, Refusal, Run, WORK_WORDS};
 use generate::Case;
-use model::machine::Run;
-use model::Refusal;
+use model::table::pair_place;
 
 use crate::rules::{Rules, RIGHT};
 use crate::Wrong;
@@ -12,7 +12,7 @@ pub const WRONG: [Wrong; 14] = [
     ("a refusal clears the store", Rules { leave: refusal_clears, ..RIGHT }),
     ("a refusal writes the trace", Rules { leave: refusal_writes, ..RIGHT }),
     ("unused words of the store are kept", Rules { leave: unused_kept, ..RIGHT }),
-    ("words beyond 8,192 are cleared", Rules { leave: beyond_cleared, ..RIGHT }),
+    ("words beyond the configuration are cleared", Rules { leave: beyond_cleared, ..RIGHT }),
     ("the trace's tail is cleared", Rules { leave: tail_cleared, ..RIGHT }),
     ("a word behind the trace is written", Rules { leave: one_behind, ..RIGHT }),
     ("an unused column is 0", Rules { leave: columns_0, ..RIGHT }),
@@ -29,7 +29,7 @@ type Ran = Result<Run, Refusal>;
 
 /// The right leavings, changed after a run. The words before are there too.
 fn after_run(case: &Case, ran: &Ran, buffers: Buffers, change: fn(&Case, &Run, &mut Buffers, Buffers)) -> Left {
-    let mut left = by_model(case, ran, buffers.clone());
+    let mut left = by_model(ran, buffers.clone());
     if let Ok(run) = ran {
         change(case, run, &mut left.buffers, buffers);
     }
@@ -37,33 +37,33 @@ fn after_run(case: &Case, ran: &Ran, buffers: Buffers, change: fn(&Case, &Run, &
 }
 
 /// The right answer, changed after a run.
-fn answered(case: &Case, ran: &Ran, buffers: Buffers, change: fn(&Case, &mut usize, &mut usize)) -> Left {
-    let mut left = by_model(case, ran, buffers);
-    if let Answer::Ran { lines, outcomes, .. } = &mut left.answer {
-        change(case, lines, outcomes);
+fn answered(case: &Case, ran: &Ran, buffers: Buffers, change: fn(&Case, &mut Answer)) -> Left {
+    let mut left = by_model(ran, buffers);
+    if let Ok(answer) = &mut left.answer {
+        change(case, answer);
     }
     left
 }
 
-fn refusal_clears(case: &Case, ran: &Ran, buffers: Buffers) -> Left {
-    let mut left = by_model(case, ran, buffers);
+fn refusal_clears(_: &Case, ran: &Ran, buffers: Buffers) -> Left {
+    let mut left = by_model(ran, buffers);
     if ran.is_err() {
         left.buffers.lent().1.fill(0);
     }
     left
 }
 
-fn refusal_writes(case: &Case, ran: &Ran, buffers: Buffers) -> Left {
-    let mut left = by_model(case, ran, buffers);
+fn refusal_writes(_: &Case, ran: &Ran, buffers: Buffers) -> Left {
+    let mut left = by_model(ran, buffers);
     if let (Err(refusal), Some(word)) = (ran, left.buffers.lent().0.first_mut()) {
-        *word = refusal.number as u16;
+        *word = refusal.number();
     }
     left
 }
 
 fn unused_kept(case: &Case, ran: &Ran, buffers: Buffers) -> Left {
     after_run(case, ran, buffers, |_, _, left, mut before| {
-        let old = before.lent().1[..8_192].iter();
+        let old = before.lent().1[..WORK_WORDS].iter();
         for (word, old) in left.lent().1.iter_mut().zip(old).skip(4_608) {
             *word = *old;
         }
@@ -71,7 +71,7 @@ fn unused_kept(case: &Case, ran: &Ran, buffers: Buffers) -> Left {
 }
 
 fn beyond_cleared(case: &Case, ran: &Ran, buffers: Buffers) -> Left {
-    after_run(case, ran, buffers, |_, _, left, _| left.lent().1[8_192..].fill(0))
+    after_run(case, ran, buffers, |_, _, left, _| left.lent().1[WORK_WORDS..].fill(0))
 }
 
 fn tail_cleared(case: &Case, ran: &Ran, buffers: Buffers) -> Left {
@@ -98,15 +98,15 @@ fn from_1(case: &Case, ran: &Ran, buffers: Buffers) -> Left {
 
 /// Each part of a process that was made.
 fn parts<'a>(run: &Run, left: &'a mut Buffers) -> impl Iterator<Item = &'a mut [u32]> {
-    let made = run.config.processes.len();
-    left.lent().1[..8_192].chunks_exact_mut(512).skip(1).take(made)
+    let made = run.configuration.processes.len();
+    left.lent().1[..WORK_WORDS].chunks_exact_mut(512).skip(1).take(made)
 }
 
 fn place_in_method(case: &Case, ran: &Ran, buffers: Buffers) -> Left {
-    after_run(case, ran, buffers, |_, run, left, _| {
-        for (process, part) in run.config.processes.iter().zip(parts(run, left)) {
+    after_run(case, ran, buffers, |case, run, left, _| {
+        for (process, part) in run.configuration.processes.iter().zip(parts(run, left)) {
             for (f, frame) in process.frames.iter().enumerate() {
-                part[9 + 4 * f] = frame.place as u32;
+                part[9 + 4 * f] -= u32::from(case.program[pair_place(frame.method)]);
             }
         }
     })
@@ -138,9 +138,9 @@ fn one_tag(case: &Case, ran: &Ran, buffers: Buffers) -> Left {
 }
 
 fn all_outcomes(case: &Case, ran: &Ran, buffers: Buffers) -> Left {
-    answered(case, ran, buffers, |case, _, outcomes| *outcomes = case.outcomes.len())
+    answered(case, ran, buffers, |case, answer| answer.outcomes = case.outcomes.len())
 }
 
 fn words_for_lines(case: &Case, ran: &Ran, buffers: Buffers) -> Left {
-    answered(case, ran, buffers, |_, lines, _| *lines *= 6)
+    answered(case, ran, buffers, |_, answer| answer.lines *= 6)
 }

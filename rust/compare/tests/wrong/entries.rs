@@ -1,7 +1,7 @@
 //! Wrong about entries and ends.
 
+use data::Process;
 use model::machine::{Machine, Standing};
-use model::state::Process;
 use model::step::Effect;
 
 use crate::rules::{effect, End, Rules, RIGHT};

@@ -1,8 +1,7 @@
 //! Wrong about faults.
 
-use model::line::{Event, Line};
+use data::{Event, Fault, Frame, Line, State, Value};
 use model::machine::Machine;
-use model::state::{Fault, Frame, State, Value};
 use model::step::Effect;
 use model::table::Op;
 
@@ -98,7 +97,7 @@ fn qubit_33(machine: &Machine, process: usize, partner: Option<usize>) -> Effect
         if fault == Fault::Qubits && effect.config.qubits == 32 {
             effect.config.qubits = 33;
             top(effect, process).pending.push(Value::Qubit(32));
-            let made = Event::QubitMade(32).line(machine.entries as u16, process as u16);
+            let made = Event::QubitMade { qubit: 32 }.line(machine.entries as u16, process as u16);
             goes_on(effect, process, vec![made]);
         }
     })
@@ -136,7 +135,7 @@ fn one_qubit(machine: &Machine, process: usize, partner: Option<usize>) -> Effec
         if fault == Fault::OneQubit {
             let pending = &mut top(effect, process).pending;
             if let (Some(Value::Qubit(upper)), Some(Value::Qubit(deeper))) = (pending.pop(), pending.pop()) {
-                let line = Event::Gate(gate, deeper, Some(upper));
+                let line = Event::Gate { gate, qubit: deeper, second: Some(upper) };
                 goes_on(effect, process, vec![line.line(machine.entries as u16, process as u16)]);
             }
         }

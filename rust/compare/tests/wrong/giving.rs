@@ -1,9 +1,10 @@
 //! Wrong about giving away.
 
+use data::{Frame, Process, Thing, Value};
 use model::machine::Machine;
-use model::state::{Frame, Process, Thing, Value};
+use model::state::{give, giving_empties};
 use model::step::Effect;
-use model::table::{Op, Side};
+use model::table::Op;
 
 use crate::rules::{effect, Rules, RIGHT};
 use crate::Wrong;
@@ -36,11 +37,7 @@ struct Place {
 fn given(effect: &Effect) -> Option<(usize, Vec<Thing>)> {
     let mut lines = effect.lines.iter().filter(|line| line.kind == 6).peekable();
     let giver = usize::from(lines.peek()?.process);
-    let things = lines.map(|line| match line.b {
-        3 => Thing::Qubit(line.c),
-        4 => Thing::Channel(line.c),
-        _ => Thing::End(line.c, Side::read(line.b - 5).expect("5 end 0, 6 end 1")),
-    });
+    let things = lines.filter_map(|line| Thing::read(line.b, line.c));
     Some((giver, things.collect()))
 }
 
@@ -111,7 +108,7 @@ fn opposite_too(machine: &Machine, process: usize, partner: Option<usize>) -> Ef
     let (giver, things) = given(&effect).unwrap_or_default();
     for thing in things {
         if let Thing::End(number, side) = thing {
-            effect.config.processes[giver].give(Thing::End(number, side.other()));
+            give(&mut effect.config.processes[giver], Thing::End(number, side.other()));
         }
     }
     effect
@@ -128,7 +125,7 @@ fn one_by_one(machine: &Machine, process: usize, partner: Option<usize>) -> Effe
         let slots = &mut child.frames[0].slots;
         let given = slots.map(Value::thing);
         for (s, slot) in slots.iter_mut().enumerate() {
-            let gone = given[..s].iter().flatten().any(|thing| thing.giving_empties(*slot));
+            let gone = given[..s].iter().flatten().any(|thing| giving_empties(*thing, *slot));
             if gone {
                 *slot = Value::Empty;
             }
@@ -165,7 +162,7 @@ fn call_gives(machine: &Machine, process: usize, partner: Option<usize>) -> Effe
 
 fn empty(frame: &mut Frame, given: &[Thing]) {
     for value in frame.slots.iter_mut().chain(&mut frame.pending) {
-        if given.iter().any(|thing| thing.giving_empties(*value)) {
+        if given.iter().any(|thing| giving_empties(*thing, *value)) {
             *value = Value::Empty;
         }
     }

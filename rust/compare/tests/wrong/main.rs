@@ -83,9 +83,6 @@ fn a_difference_is_shown_small() {
     let case = (0..).map(input).find(|case| told(&rules, case).is_some());
     let case = case.expect("an input with an idle entry");
     let small = shortest(&case, |case| told(&rules, case).is_some());
-    let without_last = Case {
-        schedule: small.schedule[..small.schedule.len() - 1].to_vec(),
-        ..small.clone()
-    };
+    let without_last = Case { schedule: small.schedule[..small.schedule.len() - 1].to_vec(), ..small.clone() };
     assert!(told(&rules, &small).is_some() && told(&rules, &without_last).is_none());
 }

@@ -1,10 +1,9 @@
 //! Wrong about meetings.
 
-use model::line::Line;
+use data::{Frame, Line, Side, Value};
 use model::machine::{Machine, Standing};
-use model::state::{Frame, Value};
 use model::step::Effect;
-use model::table::{Op, Side};
+use model::table::Op;
 
 use crate::rules::{effect, Rules, RIGHT};
 use crate::Wrong;
@@ -42,7 +41,11 @@ fn with_itself(machine: &Machine, number: usize) -> Standing {
         Some((channel, side)) if standing == Standing::Waits => {
             let opposite = Value::End(channel, side.other());
             let both = machine.config.processes[number].values().any(|value| value == opposite);
-            if both { Standing::Meets(number) } else { standing }
+            if both {
+                Standing::Meets(number)
+            } else {
+                standing
+            }
         }
         _ => standing,
     }

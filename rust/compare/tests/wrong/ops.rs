@@ -1,7 +1,7 @@
 //! Wrong about single ops.
 
+use data::{Frame, Value};
 use model::machine::Machine;
-use model::state::{Frame, Value};
 use model::step::Effect;
 use model::table::Op;
 
@@ -75,8 +75,9 @@ fn less(machine: &Machine, process: usize, partner: Option<usize>) -> Effect {
 fn jump_on_true(machine: &Machine, process: usize, partner: Option<usize>) -> Effect {
     executed(machine, process, partner, |machine, process, op, effect| {
         if let (Op::JumpFalse(target), [.., Value::Bool(jumps)]) = (op, before(machine, process)) {
-            let place = machine.config.processes[process].top().expect("it runs").place;
-            top(effect, process).place = if *jumps { target } else { place + 1 };
+            let frame = machine.config.processes[process].top().expect("it runs");
+            let start = machine.program.methods[frame.method].offset;
+            top(effect, process).place = if *jumps { start + target } else { frame.place + 1 };
         }
     })
 }

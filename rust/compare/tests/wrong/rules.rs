@@ -2,12 +2,13 @@
 //! machine has one rule of its own.
 
 use compare::left::{by_model, Buffers, Left};
+use data::{Refusal, Run};
 use generate::Case;
-use model::machine::{Machine, Run, Standing};
+use model::machine::{Machine, Standing};
 use model::step::{self, Effect, Entry};
-use model::{Program, Refusal};
+use model::Program;
 
-pub use model::machine::End;
+pub use data::End;
 
 #[derive(Clone, Copy)]
 pub struct Rules {
@@ -46,7 +47,7 @@ pub const RIGHT: Rules = Rules {
     fits: |machine, effect| machine.lines.len() + effect.lines.len() <= machine.room,
     idle: |machine| machine.entries += 1,
     untaken: |_, _| (),
-    leave: by_model,
+    leave: |_, ran, buffers| by_model(ran, buffers),
 };
 
 /// What the model's step does.
@@ -85,8 +86,8 @@ fn run(rules: &Rules, program: &Program, case: &Case) -> Run {
         end,
         entries: machine.entries,
         lines: machine.lines,
-        outcomes_used: machine.outcomes_used,
-        config: machine.config,
+        outcomes: machine.outcomes_used,
+        configuration: machine.config,
     }
 }
 

@@ -1,11 +1,12 @@
 //! Helpers of the tests: short ways to write programs and to read runs.
 #![allow(dead_code)]
 
-use model::assemble::{table, Source};
-use model::machine::{run, Did, End, Machine, Run};
+use data::program::{table, Method};
+use data::{End, Run, WORK_WORDS};
+use model::check;
+use model::machine::{run, Did, Machine};
 use model::owner::ownership;
 use model::table::Program;
-use model::{check, Refusal};
 
 /// The number in an unused column.
 pub const U: u16 = 65_535;
@@ -25,8 +26,8 @@ pub const END_QBIT: u16 = 35;
 /// More words than any test's lines need.
 pub const AMPLE: usize = 6 * 1000;
 
-pub fn method(return_type: u16, parameters: &[u16], locals: &[u16], code: &[(u16, u16)]) -> Source {
-    Source {
+pub fn method(return_type: u16, parameters: &[u16], locals: &[u16], code: &[(u16, u16)]) -> Method {
+    Method {
         return_type,
         parameters: u16::try_from(parameters.len()).unwrap(),
         slots: [parameters, locals].concat(),
@@ -35,17 +36,17 @@ pub fn method(return_type: u16, parameters: &[u16], locals: &[u16], code: &[(u16
 }
 
 /// Main with these slots.
-pub fn main_method(slots: &[u16], code: &[(u16, u16)]) -> Source {
+pub fn main_method(slots: &[u16], code: &[(u16, u16)]) -> Method {
     method(VOID, &[], slots, code)
 }
 
 /// The program of methods that pass the questions.
-pub fn program(methods: &[Source]) -> Program {
-    check(&table(methods), &[], &[], 8192).expect("the test's program passes")
+pub fn program(methods: &[Method]) -> Program {
+    check(&table(methods), &[], &[], WORK_WORDS).expect("the test's program passes")
 }
 
 /// A run with an ample trace; ownership is looked at after every entry.
-pub fn run_all(methods: &[Source], schedule: &[u8], outcomes: &[u8]) -> Run {
+pub fn run_all(methods: &[Method], schedule: &[u8], outcomes: &[u8]) -> Run {
     let program = program(methods);
     let mut machine = Machine::new(&program, outcomes, AMPLE);
     for byte in schedule {
@@ -55,7 +56,7 @@ pub fn run_all(methods: &[Source], schedule: &[u8], outcomes: &[u8]) -> Run {
         ownership(&machine.config, &machine.lines).expect("ownership holds");
     }
     let whole = run(&program, schedule, outcomes, AMPLE);
-    assert_eq!(whole.config, machine.config);
+    assert_eq!(whole.configuration, machine.config);
     assert_eq!(whole.lines, machine.lines);
     whole
 }
@@ -67,12 +68,7 @@ pub fn lines(run: &Run) -> Vec<[u16; 6]> {
 
 /// End, entries, lines, outcomes.
 pub fn answer(run: &Run) -> (u16, usize, usize, usize) {
-    (
-        run.end.number(),
-        run.entries,
-        run.lines.len(),
-        run.outcomes_used,
-    )
+    (run.end.number(), run.entries, run.lines.len(), run.outcomes)
 }
 
 /// Takes entries that are all to be taken.
@@ -83,14 +79,14 @@ pub fn drive(machine: &mut Machine, schedule: &[u8]) -> Vec<Did> {
 }
 
 /// The number and place of a table's refusal, (0, 0) where it passes.
-pub fn refusal(table: &[u16]) -> (u64, u64) {
-    match check(table, &[], &[], 8192) {
+pub fn refusal(table: &[u16]) -> (u16, usize) {
+    match check(table, &[], &[], WORK_WORDS) {
         Ok(_) => (0, 0),
-        Err(Refusal { number, place }) => (number, place),
+        Err(refusal) => (refusal.number(), refusal.place),
     }
 }
 
 /// The refusal of methods written out.
-pub fn refusal_of(methods: &[Source]) -> (u64, u64) {
+pub fn refusal_of(methods: &[Method]) -> (u16, usize) {
     refusal(&table(methods))
 }

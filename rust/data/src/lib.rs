@@ -1,0 +1,39 @@
+//! Plain data of the LanQ process machine, shared by the model, the binding of
+//! the proved library, the comparison of the two, and the command.
+//!
+//! Nothing here says what the machine does. A type has the numbers that
+//! document 01 gives to its cases, and words for them; how a run comes about is
+//! told by the model and, apart from it, by the proved library. "01" in a
+//! comment means that document; words in quotation marks are taken from it.
+//!
+//! - [`refusal`]: the questions, and a refusal
+//! - [`run`]: ends, the answer of a run, and a run with all it leaves
+//! - [`line`]: trace lines and what they tell
+//! - [`configuration`]: values, frames, processes
+//! - [`fault`]: what stops a process
+//! - [`types`]: types, sides and gates
+//! - [`program`]: methods as plain numbers, and the table they make
+//! - [`file`]: the input file of the printing program
+
+#![forbid(unsafe_code)]
+
+pub mod configuration;
+pub mod fault;
+pub mod file;
+pub mod line;
+pub mod program;
+pub mod refusal;
+pub mod run;
+pub mod types;
+
+pub use configuration::{Configuration, Frame, Process, State, Thing, Value, SLOTS, WORK_WORDS};
+pub use fault::Fault;
+pub use line::{Event, Line, LINE_WORDS, UNUSED};
+pub use refusal::{Question, Refusal};
+pub use run::{Answer, End, Run};
+pub use types::{Carried, Gate, Side, Type};
+
+/// The case of an enum that has this number.
+fn numbered<T: Copy>(all: &[T], number: impl Fn(T) -> u16, wanted: u16) -> Option<T> {
+    all.iter().copied().find(|one| number(*one) == wanted)
+}

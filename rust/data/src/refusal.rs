@@ -1,0 +1,106 @@
+//! The questions at the door, and a refusal.
+
+use std::fmt;
+
+use crate::numbered;
+
+/// A question that a refusal answers with no, by 01's number.
+#[derive(Clone, Copy, Debug, PartialEq, Eq, PartialOrd, Ord, Hash)]
+pub enum Question {
+    /// M, N and the table's length; the place is 0.
+    Sizes = 1,
+    /// The pairs (offset, length); the place is the method.
+    Pairs = 2,
+    /// The rows; the place is the method.
+    Rows = 3,
+    /// Ops and arguments; the place is the instruction, counted over the table.
+    Instructions = 4,
+    /// Types; the place is the instruction, counted over the table.
+    Types = 5,
+    /// The outcome list; the place is the byte's index.
+    Outcomes = 6,
+    /// The schedule's length; the place is 0.
+    Schedule = 7,
+    /// The work store's length; the place is 0.
+    WorkStore = 8,
+    /// The input file of the printing program; the place is 0. It is put before
+    /// all others, and by programs that read such a file alone.
+    File = 9,
+}
+
+impl Question {
+    /// All of them, by their numbers.
+    pub const ALL: [Question; 9] = [
+        Question::Sizes,
+        Question::Pairs,
+        Question::Rows,
+        Question::Instructions,
+        Question::Types,
+        Question::Outcomes,
+        Question::Schedule,
+        Question::WorkStore,
+        Question::File,
+    ];
+
+    /// 01's number of it.
+    pub fn number(self) -> u16 {
+        self as u16
+    }
+
+    /// The question of a number.
+    pub fn read(number: u16) -> Option<Question> {
+        numbered(&Question::ALL, Question::number, number)
+    }
+}
+
+/// The question in words.
+impl fmt::Display for Question {
+    fn fmt(&self, f: &mut fmt::Formatter) -> fmt::Result {
+        f.write_str(match self {
+            Question::Sizes => "Are M and N in range, and has the table 2 + 20M + 2N words?",
+            Question::Pairs => "Does each method start where the one before ends, none empty, and is their sum N?",
+            Question::Rows => {
+                "Are all types listed, with 0 to 8 parameters, none unused, and is main void without any?"
+            }
+            Question::Instructions => {
+                "Is the op listed, its argument in range, its slot used, its target inside its method?"
+            }
+            Question::Types => {
+                "With types alone: is every operand there and of its type, are at most 8 values pending, \
+                 none after DROP, CLEAR, RET, FORK, SEND, JUMP and JFALSE and none before a jump's target, \
+                 and does the method close on RET or JUMP?"
+            }
+            Question::Outcomes => "Is each outcome 0 or 1?",
+            Question::Schedule => "Has the schedule at most 65,535 entries?",
+            Question::WorkStore => "Has the work store at least 8,192 words?",
+            Question::File => "Is the file built as docs/LAYOUT.md says?",
+        })
+    }
+}
+
+/// "A refusal gives number and place".
+#[derive(Clone, Copy, Debug, PartialEq, Eq, PartialOrd, Ord, Hash)]
+pub struct Refusal {
+    pub question: Question,
+    pub place: usize,
+}
+
+impl Refusal {
+    pub fn new(question: Question, place: usize) -> Refusal {
+        Refusal { question, place }
+    }
+
+    /// 01's number of the question.
+    pub fn number(self) -> u16 {
+        self.question.number()
+    }
+}
+
+/// As the printing program prints it.
+impl fmt::Display for Refusal {
+    fn fmt(&self, f: &mut fmt::Formatter) -> fmt::Result {
+        write!(f, "refused {} {}", self.number(), self.place)
+    }
+}
+
+impl std::error::Error for Refusal {}

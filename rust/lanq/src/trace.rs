@@ -1,0 +1,96 @@
+//! Traces: lines as words, words as lines, and what is asked of them.
+
+use data::{Line, LINE_WORDS, UNUSED};
+
+use crate::raw;
+
+/// A trace: lines, or any words. "Six words make a line, and a part of one at
+/// the end is ignored."
+pub trait Trace {
+    /// The words.
+    fn words(&self) -> &[u16];
+}
+
+impl Trace for [u16] {
+    fn words(&self) -> &[u16] {
+        self
+    }
+}
+
+impl Trace for [Line] {
+    fn words(&self) -> &[u16] {
+        let length = LINE_WORDS * self.len();
+        // SAFETY: a line is six words one after the other, without padding
+        // (`repr(C)`), so the slice's memory is so many words, and a word's
+        // alignment is a line's.
+        unsafe { std::slice::from_raw_parts(self.as_ptr().cast::<u16>(), length) }
+    }
+}
+
+impl<T, const N: usize> Trace for [T; N]
+where
+    [T]: Trace,
+{
+    fn words(&self) -> &[u16] {
+        self.as_slice().words()
+    }
+}
+
+impl<T> Trace for Vec<T>
+where
+    [T]: Trace,
+{
+    fn words(&self) -> &[u16] {
+        self.as_slice().words()
+    }
+}
+
+/// The whole lines of any words.
+///
+/// ```
+/// use lanq::{lines, Event};
+///
+/// // Process 2 makes qubit 0; three words behind it are no line.
+/// let words = [0, 2, 1, 0, 65535, 65535, 7, 7, 7];
+/// let lines = lines(&words);
+/// assert_eq!(lines.len(), 1);
+/// assert_eq!(lines[0].event(), Some(Event::QubitMade { qubit: 0 }));
+/// ```
+pub fn lines(words: &[u16]) -> &[Line] {
+    // SAFETY: a line is six words one after the other, without padding
+    // (`repr(C)`), any words are a line, a line's alignment is a word's, and so
+    // many lines end within the slice.
+    unsafe { std::slice::from_raw_parts(words.as_ptr().cast::<Line>(), words.len() / LINE_WORDS) }
+}
+
+/// Who holds a qubit by the first `k` lines of a trace, all its lines if there
+/// are fewer; nobody is the number 65535.
+///
+/// ```
+/// // Process 2 makes qubit 0 and gives it to process 5.
+/// let trace = [0, 2, 1, 0, 65535, 65535, 1, 2, 6, 5, 3, 0];
+/// assert_eq!(lanq::holder(&trace, 1, 0), Some(2));
+/// assert_eq!(lanq::holder(&trace, 2, 0), Some(5));
+/// assert_eq!(lanq::holder(&trace, 2, 1), None);
+/// ```
+pub fn holder(trace: &(impl Trace + ?Sized), k: usize, qubit: u16) -> Option<u16> {
+    let words = trace.words();
+    // SAFETY: the pointer is good for its length as long as the slice is
+    // borrowed, which is longer than the call. The function only reads it.
+    let number = unsafe { raw::lanq_holder(words.as_ptr(), words.len(), k, qubit) };
+    (number != UNUSED).then_some(number)
+}
+
+/// Whether two traces have the same lines, the entries' numbers left out.
+///
+/// ```
+/// let (first, later) = ([0, 2, 1, 0, 65535, 65535], [9, 2, 1, 0, 65535, 65535]);
+/// assert!(lanq::same_lines(&first, &later));
+/// assert!(!lanq::same_lines(&first, lanq::lines(&[])));
+/// ```
+pub fn same_lines(a: &(impl Trace + ?Sized), b: &(impl Trace + ?Sized)) -> bool {
+    let (a, b) = (a.words(), b.words());
+    // SAFETY: each pointer is good for its length as long as its slice is
+    // borrowed, which is longer than the call. The function only reads them.
+    unsafe { raw::lanq_same_lines(a.as_ptr(), a.len(), b.as_ptr(), b.len()) }
+}
