@@ -18,7 +18,7 @@ use Rattle.table.proofs.Accepted.{Kept}
 use Rattle.machine.specs.Value.{Thing, qubit, channel, end, Value, empty}
 use Rattle.machine.specs.State.{Frame, Process, Config, State, processAt, setProcess, started}
 use Rattle.machine.specs.Act.{Offer, sends, receives, Act, idle, stuck, faults, goes, ends, makes, forks, offers, actOf}
-use Rattle.machine.specs.Entry.{lostWith, without, frameWithout, framesWithout, thingsOf, Meeting, joins, offered, meetsWith, meetingOf, runs, counted, joined, forking, pushTop, meeting, meetingIf, applied, effectOf}
+use Rattle.machine.specs.Entry.{lostWith, without, frameWithout, framesWithout, thingsOf, Meeting, joins, offered, meetsWith, meetingOf, runs, counted, joined, forking, pushTop, meetIn, meetIfIn, applied, effectOf, appliedIn, effectIn, forkingIn, meetingIn, tableMachine}
 use Rattle.machine.proofs.Typing.{Fits, fits-more-qubits, fits-more-channels, FrameTyped, Callers, Frames, frames-pay, started-typed, ProcessTyped, processes-imply, ConfigTyped, Typed}
 use Rattle.machine.proofs.Acts.{OfferTyped, MakingTyped, ActTyped}
 use Rattle.machine.proofs.Standing.{act-typed, act-runs}
@@ -171,10 +171,10 @@ module _ (p ks : List ℕ) (q : ℕ) where
   pushTop-typed v t [] f h = absurd (h .stack)
   pushTop-typed v t (g ∷ fs) f h = frames-pay h (cons f nil)
 
-meeting-typed : (p ks : List ℕ) (k : ℕ) (s : State) → ConfigTyped p ks (s .config) → (e : Meeting)
-    → MeetingTyped p ks (s .config .qubits) e → ConfigTyped p ks (meeting k s e .config)
-unfolding meeting setProcess
-meeting-typed p ks k s t e (fit, sender, receiver) =
+meeting-typed : (p outcomes ks : List ℕ) (k : ℕ) (s : State) → ConfigTyped p ks (s .config) → (e : Meeting)
+    → MeetingTyped p ks (s .config .qubits) e → ConfigTyped p ks (meetIn (tableMachine p outcomes) k s e .config)
+unfolding meetIn setProcess
+meeting-typed p outcomes ks k s t e (fit, sender, receiver) =
     let q = s .config .qubits in
     let things = thingsOf (e .value ∷ []) in
     let sent = frames-without p ks q things [] (e .senderFrames) sender in
@@ -182,22 +182,22 @@ meeting-typed p ks k s t e (fit, sender, receiver) =
     (e .receiver) (runs (pushTop (e .value) (e .receiverFrames)))
     (pushTop-typed p ks q (e .value) (getD ks (e .channel) 0) (e .receiverFrames) fit receiver)
 
-meetingIf-typed : (p ks : List ℕ) (k : ℕ) (s : State) → ConfigTyped p ks (s .config) → (o : Option Meeting)
-    → Given (MeetingTyped p ks (s .config .qubits)) o → ConfigTyped p ks (meetingIf k s o .config)
-unfolding meetingIf
-meetingIf-typed p ks k s t none g = t
-meetingIf-typed p ks k s t (some e) g = meeting-typed p ks k s t e g
+meetingIf-typed : (p outcomes ks : List ℕ) (k : ℕ) (s : State) → ConfigTyped p ks (s .config) → (o : Option Meeting)
+    → Given (MeetingTyped p ks (s .config .qubits)) o → ConfigTyped p ks (meetIfIn (tableMachine p outcomes) k s o .config)
+unfolding meetIfIn
+meetingIf-typed p outcomes ks k s t none g = t
+meetingIf-typed p outcomes ks k s t (some e) g = meeting-typed p outcomes ks k s t e g
 
 -- Entries
 
-faults≢idle : (f : ℕ) → faults f ≢ idle
+faults≢idle : (f : ℕ) → _≢_ {A = Act} (faults f) idle
 faults≢idle f e = let z : _≡_ {A = ℕ} 0 1 = cc in omega arith
 
 module _ (p : List ℕ) (k : Kept p) (outcomes : List ℕ) (bytes : All (λ o. o < 256) outcomes)
     (s : State) (ks : List ℕ) (t : ConfigTyped p ks (s .config)) where
   meetingOf-typed : (n : ℕ) (o : Offer) → OfferTyped p ks (s .config .qubits) o
       → Given (MeetingTyped p ks (s .config .qubits)) (meetingOf p outcomes s n o)
-  unfolding meetingOf
+  unfolding meetingIn
   meetingOf-typed n o h = firstSome-given (MeetingTyped p ks q) _ with-other (length (s .config .processes))
     where
       q : ℕ
@@ -212,7 +212,7 @@ module _ (p : List ℕ) (k : Kept p) (outcomes : List ℕ) (bytes : All (λ o. o
   applied-typed : (i n : ℕ) (act : Act) → ActTyped p ks (s .config .qubits) (length (s .config .processes)) act
       → (act ≢ idle → Frames p (Fits ks (s .config .qubits)) [] (processAt (s .config) n .frames))
       → Typed p (applied p outcomes i s n act .config)
-  unfolding applied forking
+  unfolding appliedIn forkingIn
   applied-typed i n idle h g = (ks, t)
   applied-typed i n stuck h g = absurd h
   applied-typed i n (faults f) h g = (ks, set-typed p ks (s .config) t n _ (h .0, h .1, g (faults≢idle f)))
@@ -220,9 +220,9 @@ module _ (p : List ℕ) (k : Kept p) (outcomes : List ℕ) (bytes : All (λ o. o
   applied-typed i n ends h g = (ks, set-typed p ks (s .config) t n _ refl)
   applied-typed i n (makes u fs) h g = making-typed p ks (s .config) t n u fs h
   applied-typed i n (forks m args fs) h g = (ks, forking-typed p ks k (s .config) t n m args fs h)
-  applied-typed i n (offers o) h g = (ks, meetingIf-typed p ks i s t (meetingOf p outcomes s n o) (meetingOf-typed n o h))
+  applied-typed i n (offers o) h g = (ks, meetingIf-typed p outcomes ks i s t (meetingOf p outcomes s n o) (meetingOf-typed n o h))
 
   pub effect-typed : (i n : ℕ) → Typed p (effectOf p outcomes i s n .config)
-  unfolding effectOf
+  unfolding effectIn
   effect-typed i n =
       applied-typed i n (actOf p outcomes s n) (act-typed p k outcomes bytes s ks t n) (act-runs p k outcomes bytes s ks t n)

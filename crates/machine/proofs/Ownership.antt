@@ -16,10 +16,10 @@ use Rattle.lists.specs.Lists.{any, All}
 use Rattle.lists.proofs.Tests.{or-cases, or-left, and-left, and-right, cond-both}
 use Rattle.lists.proofs.Any.{any-elim, firstSome-found}
 use Rattle.machine.specs.Value.{Thing, qubit, channel, end, Value, ref, covers}
-use Rattle.machine.specs.State.{Frame, finished, stopped, Process, Config, Line, State, Event, processAt, setProcess, started, startConfig, start, lineOf, gave, forked, met, finishes, stops}
+use Rattle.machine.specs.State.{Frame, finished, stopped, Process, Config, Line, State, Event, processAt, setProcess, started, startConfig, start, lineOf, gave, forked, met, finishes, stops, startConfigWith, startWith}
 use Rattle.machine.specs.Act.{Offer, sends, receives, Act, idle, stuck, faults, goes, ends, makes, forks, offers, actOf}
-use Rattle.machine.specs.Entry.{Effect, Meeting, joins, offered, meetsWith, meetingOf, meetingIf, meeting, runs, counted, making, joined, forking, framesWithout, thingsOf, pushTop, handing, applied, effectOf}
-use Rattle.machine.specs.Run.{Result, allOver, noneAble, fits, afterEffect, runFrom, run}
+use Rattle.machine.specs.Entry.{Effect, Meeting, joins, offered, meetsWith, meetingOf, meetIfIn, meetIn, runs, counted, making, joined, forking, framesWithout, thingsOf, pushTop, handing, applied, effectOf, appliedIn, effectIn, forkingIn, meetingIn, tableMachine}
+use Rattle.machine.specs.Run.{Result, allOver, noneAble, fits, afterEffect, runFrom, run, runFromIn, runIn}
 use Rattle.machine.specs.Owner.{names, valuesOf, reaches, holder, holderAfter, Holds, LineHeld, MeetingHeld, Owned}
 use Rattle.machine.specs.Sound.{Made}
 use Rattle.machine.proofs.Things.{beq-eq}
@@ -377,7 +377,7 @@ meets-offer n q o (offers r) e h = (r, refl, h)
 
 meeting-joined : (p outcomes : List ℕ) (s : State) (n : ℕ) (o : Offer) (e : Meeting)
     → OfferWithin (valuesOf (processAt (s .config) n .frames)) o → meetingOf p outcomes s n o ≡ some e → Joined (s .config) e
-unfolding meetingOf
+unfolding meetingIn
 meeting-joined p outcomes s n o e ho h = found (firstSome-found _ (length (s .config .processes)) e h)
   where
     partner : (q : ℕ) → q ≢ n → meetsWith n o q (offered (actOf p outcomes s q)) ≡ some e → Joined (s .config) e
@@ -418,11 +418,11 @@ quiet-finishes ys = record {
   measurement = λ e. absurd (omega arith);
 }
 
-moved-met : (k : ℕ) (s : State) (o : Option Meeting) → Kept (s .config) (s .lines)
-    → ((e : Meeting) → o ≡ some e → Joined (s .config) e) → SomeMoved s (meetingIf k s o)
-unfolding meetingIf meeting
-moved-met k s none h j = (0, [], moved-nothing (s .config) (s .lines))
-moved-met k s (some e) h j =
+moved-met : (p outcomes : List ℕ) (k : ℕ) (s : State) (o : Option Meeting) → Kept (s .config) (s .lines)
+    → ((e : Meeting) → o ≡ some e → Joined (s .config) e) → SomeMoved s (meetIfIn (tableMachine p outcomes) k s o)
+unfolding meetIfIn meetIn
+moved-met p outcomes k s none h j = (0, [], moved-nothing (s .config) (s .lines))
+moved-met p outcomes k s (some e) h j =
     let w = j e refl in (
       e .receiver,
       thingsOf (e .value ∷ []),
@@ -433,7 +433,7 @@ moved-met k s (some e) h j =
 applied-moved : (p outcomes : List ℕ) (k : ℕ) (s : State) (n : ℕ) → Kept (s .config) (s .lines) → (act : Act)
     → ActWithin (valuesOf (processAt (s .config) n .frames)) (s .config .qubits) (s .config .channels) act
     → SomeMoved s (applied p outcomes k s n act)
-unfolding applied forking
+unfolding appliedIn forkingIn
 applied-moved p outcomes k s n h idle w = (0, [], moved-nothing (s .config) (s .lines))
 applied-moved p outcomes k s n h stuck w = (0, [], moved-nothing (s .config) (s .lines))
 applied-moved p outcomes k s n h (faults f) w = (
@@ -459,11 +459,11 @@ applied-moved p outcomes k s n h (forks m args fs) w = (
   moved-forking (s .config) (s .lines) h k n p m args fs (length args) (w .0) (w .1),
 )
 applied-moved p outcomes k s n h (offers o) w =
-    moved-met k s (meetingOf p outcomes s n o) h (λ e i. meeting-joined p outcomes s n o e w i)
+    moved-met p outcomes k s (meetingOf p outcomes s n o) h (λ e i. meeting-joined p outcomes s n o e w i)
 
 pub entry-kept : (p outcomes : List ℕ) (k : ℕ) (s : State) (n : ℕ) → Kept (s .config) (s .lines)
     → Kept (effectOf p outcomes k s n .config) (s .lines ++ effectOf p outcomes k s n .lines)
-unfolding effectOf
+unfolding effectIn
 entry-kept p outcomes k s n h =
     let w = applied-moved p outcomes k s n h (actOf p outcomes s n) (act-within p outcomes s n) in
     moved-keeps (s .config) (effectOf p outcomes k s n .config) (s .lines) (effectOf p outcomes k s n .lines) (w .0) (w .1) (w .2) h
@@ -471,7 +471,7 @@ entry-kept p outcomes k s n h =
 -- the run
 
 pub start-kept : (p : List ℕ) → Kept (startConfig p) []
-unfolding startConfig processAt reaches
+unfolding startConfigWith processAt reaches
 start-kept p = record {
   named = λ x n r. absurd (nothing-reached x n r);
   made = λ x n r. absurd (nothing-reached x n r);
@@ -484,7 +484,7 @@ start-kept p = record {
 
 run-kept : (p outcomes : List ℕ) (room : ℕ) (s : State) (k : ℕ) (schedule : List ℕ) → Kept (s .config) (s .lines)
     → Kept (runFrom p outcomes room s k schedule .state .config) (runFrom p outcomes room s k schedule .state .lines)
-unfolding runFrom afterEffect
+unfolding runFromIn afterEffect
 run-kept p outcomes room s k [] h =
     cond-both Fine (allOver s) h (cond-both Fine (noneAble p outcomes s) h h)
   where
@@ -511,6 +511,6 @@ kept-owned c ls h = record {
 -- entries is owned.
 pub ownership : (p outcomes : List ℕ) (room : ℕ) (schedule : List ℕ) (k : ℕ)
     → Owned (run p outcomes room (take k schedule) .state .config) (run p outcomes room (take k schedule) .state .lines)
-unfolding run start
+unfolding runIn startWith
 ownership p outcomes room schedule k =
     kept-owned _ _ (run-kept p outcomes room (start p) 0 (take k schedule) (start-kept p))

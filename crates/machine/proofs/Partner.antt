@@ -15,7 +15,7 @@ use Rattle.lists.proofs.Tests.{decide}
 use Rattle.machine.specs.Value.{Thing, end}
 use Rattle.machine.specs.State.{Process, Config, State, processAt}
 use Rattle.machine.specs.Act.{Offer, sends, receives, Act, idle, atFrames, byStatus, actOf}
-use Rattle.machine.specs.Entry.{Meeting, joins, offered, meetsWith, meetingOf}
+use Rattle.machine.specs.Entry.{Meeting, joins, offered, meetsWith, meetingOf, meetingIn}
 use Rattle.machine.specs.Owner.{valuesOf, reaches, holder}
 use Rattle.machine.proofs.Within.{InReach, OfferWithin, ActWithin, act-within}
 use Rattle.machine.proofs.Giving.{process-beyond}
@@ -109,5 +109,5 @@ module _ (p outcomes : List ℕ) (s : State) (kept : Kept (s .config) (s .lines)
 
   -- only the holder of the opposite end can be the partner
   pub partner-is : meetingOf p outcomes s n o ≡ cond (eqb h n) none (meetsWith n o h (offered (actOf p outcomes s h)))
-  unfolding meetingOf
+  unfolding meetingIn
   partner-is = first-only tried (length (s .config .processes)) h (λ q l. others-none q) unmade-none

@@ -8,14 +8,14 @@ use lib.ListN.{getD, take, length}
 use lib.Seq.{take-suc}
 use Rattle.machine.specs.State.{State, start}
 use Rattle.machine.specs.Entry.{effectOf}
-use Rattle.machine.specs.Run.{Result, allOver, noneAble, fits, afterEffect, ended, runFrom, run, followed}
+use Rattle.machine.specs.Run.{Result, allOver, noneAble, fits, afterEffect, ended, runFrom, run, followed, followedIn, runFromIn, runIn}
 
 module _ (p outcomes : List ℕ) (room : ℕ) where
   -- the ends are asked in the same order, whether an entry follows or not
   last-asked : (a b : Bool) (s : State) (k n : ℕ)
       → cond a (ended 1 k s) (cond b (ended 2 k s) (followed p outcomes room (ended 0 k s) n))
       ≡ followed p outcomes room (cond a (ended 1 k s) (cond b (ended 2 k s) (ended 0 k s))) n
-  unfolding followed
+  unfolding followedIn
   last-asked true b s k n = refl
   last-asked false true s k n = refl
   last-asked false false s k n = refl
@@ -23,7 +23,7 @@ module _ (p outcomes : List ℕ) (room : ℕ) where
   asked : (a b c : Bool) (s : State) (k n : ℕ) (rest rest′ : Result) → rest ≡ followed p outcomes room rest′ n
       → cond a (ended 1 k s) (cond b (ended 2 k s) (cond c rest (ended 3 k s)))
       ≡ followed p outcomes room (cond a (ended 1 k s) (cond b (ended 2 k s) (cond c rest′ (ended 3 k s)))) n
-  unfolding followed
+  unfolding followedIn
   asked true b c s k n rest rest′ e = refl
   asked false true c s k n rest rest′ e = refl
   asked false false true s k n rest rest′ e = e
@@ -31,7 +31,7 @@ module _ (p outcomes : List ℕ) (room : ℕ) where
 
   run-snoc : (s : State) (k : ℕ) (schedule : List ℕ) (n : ℕ)
       → runFrom p outcomes room s k (schedule ++ (n ∷ [])) ≡ followed p outcomes room (runFrom p outcomes room s k schedule) n
-  unfolding runFrom followed
+  unfolding runFromIn followedIn
   run-snoc s k [] n = last-asked (allOver s) (noneAble p outcomes s) s k n
   run-snoc s k (m ∷ schedule) n =
       asked (allOver s) (noneAble p outcomes s) (fits room s (effectOf p outcomes k s m)) s k n _ _
@@ -40,7 +40,7 @@ module _ (p outcomes : List ℕ) (room : ℕ) where
   pub prefix : (schedule : List ℕ) (k : ℕ) → k < length schedule
       → run p outcomes room (take (suc k) schedule)
       ≡ followed p outcomes room (run p outcomes room (take k schedule)) (getD schedule k 0)
-  unfolding run
+  unfolding runIn
   prefix schedule k h =
       ap (runFrom p outcomes room (start p) 0) (take-suc schedule k 0 h)
       ∙ run-snoc (start p) 0 (take k schedule) (getD schedule k 0)

@@ -15,9 +15,9 @@ use Rattle.table.proofs.Accepted.{Kept, kept}
 use Rattle.table.proofs.Methods.{inside-bound, slotTypes-length}
 use Rattle.table.proofs.Before.{before-height}
 use Rattle.machine.specs.Value.{Thing, qubit, channel, end, Value, empty, int, bool, ref}
-use Rattle.machine.specs.State.{Frame, Status, running, finished, stopped, Config, State, startConfig, start}
+use Rattle.machine.specs.State.{Frame, Status, running, finished, stopped, Config, State, startConfig, start, startConfigWith, startWith}
 use Rattle.machine.specs.Entry.{effectOf}
-use Rattle.machine.specs.Run.{Result, allOver, noneAble, fits, afterEffect, runFrom, run}
+use Rattle.machine.specs.Run.{Result, allOver, noneAble, fits, afterEffect, runFrom, run, runFromIn, runIn}
 use Rattle.machine.specs.Sound.{Made, ValueSound, FrameSound, ProcessSound, ConfigSound, Sound}
 use Rattle.machine.proofs.Typing.{ThingFits, Fits, FrameTyped, Callers, Frames, started-typed, StatusTyped, ProcessTyped, ConfigTyped, Typed}
 use Rattle.machine.proofs.Standing.{act-typed}
@@ -30,7 +30,7 @@ unfolding paramTypes
 main-takes-none p k = ap (λ n. take n (slotTypes p 0)) (k .main-params)
 
 pub start-typed : (p : List ℕ) → Kept p → ConfigTyped p [] (start p .config)
-unfolding start startConfig
+unfolding startWith startConfigWith
 start-typed p k =
     let main = started-typed p k {R = Fits [] 0} (λ t. tt) 0 [] (k .sizes .methods-some) (rw (main-takes-none p k) nil) in
     record {
@@ -47,7 +47,7 @@ module _ (p : List ℕ) (k : Kept p) (outcomes : List ℕ) (bytes : All (λ o. o
 
   runFrom-typed : (schedule : List ℕ) (s : State) (i : ℕ) → Typed p (s .config)
       → Leaves (runFrom p outcomes room s i schedule)
-  unfolding runFrom afterEffect
+  unfolding runFromIn afterEffect
   runFrom-typed [] s i h = cond-both Leaves (allOver s) h (cond-both Leaves (noneAble p outcomes s) h h)
   runFrom-typed (n ∷ schedule) s i h =
       let e = effectOf p outcomes i s n in
@@ -55,7 +55,7 @@ module _ (p : List ℕ) (k : Kept p) (outcomes : List ℕ) (bytes : All (λ o. o
       cond-both Leaves (allOver s) h (cond-both Leaves (noneAble p outcomes s) h (cond-both Leaves (fits room s e) rest h))
 
   run-typed : (schedule : List ℕ) → Leaves (run p outcomes room schedule)
-  unfolding run
+  unfolding runIn
   run-typed schedule = runFrom-typed schedule (start p) 0 ([], start-typed p k)
 
 -- From typed to sound

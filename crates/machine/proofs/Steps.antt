@@ -13,10 +13,10 @@ use Rattle.lists.specs.Lists.{any, every, All, below}
 use Rattle.lists.proofs.Tests.{passed, passes}
 use Rattle.lists.proofs.First.{any-below}
 use Rattle.table.proofs.Accepted.{Kept}
-use Rattle.machine.specs.State.{Status, running, finished, stopped, Process, State, processAt, start, unmade}
+use Rattle.machine.specs.State.{Status, running, finished, stopped, Process, State, processAt, start, unmade, startWith}
 use Rattle.machine.specs.Act.{Act, idle, stuck, faults, goes, ends, makes, forks, offers, byStatus, actOf}
-use Rattle.machine.specs.Entry.{Meeting, nothing, meetingOf, meetingIf, isMeeting, applied, effectOf, moves, able}
-use Rattle.machine.specs.Run.{Result, isOver, allOver, noneAble, fits, afterEffect, ended, runFrom, run}
+use Rattle.machine.specs.Entry.{Meeting, nothing, meetingOf, meetIfIn, isMeeting, applied, effectOf, moves, able, ableIn, appliedIn, effectIn, movesIn, tableMachine}
+use Rattle.machine.specs.Run.{Result, isOver, allOver, noneAble, fits, afterEffect, ended, runFrom, run, noneAbleIn, runFromIn, runIn}
 use Rattle.machine.proofs.Typing.{Typed}
 use Rattle.machine.proofs.Effects.{effect-typed}
 use Rattle.machine.proofs.Sound.{start-typed}
@@ -24,10 +24,10 @@ use Rattle.machine.proofs.Ownership as own
 
 -- an entry of a process that cannot move does nothing
 pub unable-nothing : (p outcomes : List ℕ) (k : ℕ) (s : State) (n : ℕ) → able p outcomes s n ≡ false → effectOf p outcomes k s n ≡ nothing s
-unfolding able effectOf meetingIf isMeeting applied moves
+unfolding ableIn effectIn meetIfIn isMeeting appliedIn movesIn
 unable-nothing p outcomes k s n e = go (actOf p outcomes s n) e
   where
-    unmet : (m : Option Meeting) → isMeeting m ≡ false → meetingIf k s m ≡ nothing s
+    unmet : (m : Option Meeting) → isMeeting m ≡ false → meetIfIn (tableMachine p outcomes) k s m ≡ nothing s
     unmet none e = refl
     unmet (some m) e = absurd (true≢false e)
 
@@ -60,13 +60,13 @@ ending p outcomes s = cond (allOver s) 1 (cond (noneAble p outcomes s) 2 0)
 
 module _ (p outcomes schedule : List ℕ) where
   pub at-typed : (k : Kept p) → All (λ o. o < 256) outcomes → (i : ℕ) → Typed p (stateAt p outcomes schedule i .config)
-  unfolding stateAt start afterEffect
+  unfolding stateAt startWith afterEffect
   at-typed k bytes zero = ([], start-typed p k)
   at-typed k bytes (suc i) =
       effect-typed p k outcomes bytes (stateAt p outcomes schedule i) (at-typed k bytes i .0) (at-typed k bytes i .1) i (getD schedule i 0)
 
   pub at-kept : (i : ℕ) → own.Kept (stateAt p outcomes schedule i .config) (stateAt p outcomes schedule i .lines)
-  unfolding stateAt start afterEffect
+  unfolding stateAt startWith afterEffect
   at-kept zero = own.start-kept p
   at-kept (suc i) = own.entry-kept p outcomes i (stateAt p outcomes schedule i) (getD schedule i 0) (at-kept i)
 
@@ -75,7 +75,7 @@ module _ (p outcomes schedule : List ℕ) where
 module _ (p outcomes : List ℕ) (room : ℕ) where
   -- an end of the processes comes before everything else
   pub ends-here : (s : State) (k e : ℕ) (rest : List ℕ) → ending p outcomes s ≡ suc e → runFrom p outcomes room s k rest ≡ ended (suc e) k s
-  unfolding ending runFrom
+  unfolding ending runFromIn
   ends-here s k e [] h = first (allOver s) (noneAble p outcomes s) h
     where
       first : (a b : Bool) → cond a 1 (cond b 2 0) ≡ suc e → cond a (ended 1 k s) (cond b (ended 2 k s) (ended 0 k s)) ≡ ended (suc e) k s
@@ -93,7 +93,7 @@ module _ (p outcomes : List ℕ) (room : ℕ) where
 
   -- the schedule is used up
   pub ends-last : (s : State) (k : ℕ) → runFrom p outcomes room s k [] ≡ ended (ending p outcomes s) k s
-  unfolding ending runFrom
+  unfolding ending runFromIn
   ends-last s k = last (allOver s) (noneAble p outcomes s)
     where
       last : (a b : Bool) → cond a (ended 1 k s) (cond b (ended 2 k s) (ended 0 k s)) ≡ ended (cond a 1 (cond b 2 0)) k s
@@ -105,7 +105,7 @@ module _ (p outcomes : List ℕ) (room : ℕ) where
   pub goes-on : (s : State) (k n : ℕ) (rest : List ℕ) → ending p outcomes s ≡ 0
       → runFrom p outcomes room s k (n ∷ rest)
       ≡ cond (fits room s (effectOf p outcomes k s n)) (runFrom p outcomes room (afterEffect s (effectOf p outcomes k s n)) (suc k) rest) (ended 3 k s)
-  unfolding ending runFrom
+  unfolding ending runFromIn
   goes-on s k n rest h =
       on (allOver s) (noneAble p outcomes s) h
       (cond (fits room s (effectOf p outcomes k s n)) (runFrom p outcomes room (afterEffect s (effectOf p outcomes k s n)) (suc k) rest) (ended 3 k s))
@@ -118,7 +118,7 @@ module _ (p outcomes : List ℕ) (room : ℕ) where
   -- the same along the states before the entries
   module _ (schedule : List ℕ) where
     pub at-start : run p outcomes room schedule ≡ runFrom p outcomes room (stateAt p outcomes schedule 0) 0 (drop 0 schedule)
-    unfolding run stateAt
+    unfolding runIn stateAt
     at-start = refl
 
     pub at-next : (k : ℕ) → k < length schedule → ending p outcomes (stateAt p outcomes schedule k) ≡ 0
@@ -159,7 +159,7 @@ module _ (p outcomes : List ℕ) (room : ℕ) where
 -- a process that is able to move is made and not over, so the run has not ended
 
 status-moves : (p outcomes : List ℕ) (s : State) (n : ℕ) (st : Status) (act : Act) → T (moves p outcomes s n (byStatus st act)) → st ≡ running
-unfolding byStatus moves
+unfolding byStatus movesIn
 status-moves p outcomes s n running act t = refl
 status-moves p outcomes s n finished act t = absurd t
 status-moves p outcomes s n (stopped f) act t = absurd t
@@ -182,7 +182,7 @@ some-running (pr ∷ prs) (suc n) e = ap (λ (b : Bool). isOver pr && b) (some-r
     and-false false = refl
 
 pub able-made : (p outcomes : List ℕ) (s : State) (n : ℕ) → able p outcomes s n ≡ true → n < length (s .config .processes)
-unfolding able actOf processAt
+unfolding ableIn actOf processAt
 able-made p outcomes s n e = go (s .config .processes) n (status-moves p outcomes s n _ _ (passes e))
   where
     go : (prs : List Process) (n : ℕ) → getD prs n unmade .status ≡ running → n < length prs
@@ -196,7 +196,7 @@ able-made p outcomes s n e = go (s .config .processes) n (status-moves p outcome
     go (pr ∷ prs) (suc n) e = omega (arith, go prs n e)
 
 pub able-goes : (p outcomes : List ℕ) (s : State) (n : ℕ) → able p outcomes s n ≡ true → ending p outcomes s ≡ 0
-unfolding ending allOver noneAble able actOf processAt
+unfolding ending allOver noneAbleIn ableIn actOf processAt
 able-goes p outcomes s n e =
     ap₂ (λ (a b : Bool). cond {A = ℕ} a 1 (cond (not b) 2 0)) {u = any (able p outcomes s) (below (length (s .config .processes)))} {v = true}
     (some-running (s .config .processes) n (status-moves p outcomes s n _ _ (passes e)))

@@ -18,29 +18,36 @@ use Rattle.machine.specs.Value.{Thing, qubit, channel, end, Value, empty
 use Rattle.machine.specs.State.{Frame, Status, running, finished, stopped, State, Event, processAt, started, atPlace, withPending, withSlot, push, gatedOne, gatedTwo, measured}
 
 -- An offer names the channel and the side of the end that it is made on.
-pub data Offer : Type 0 where
+pub data OfferOf (F : Type 0) : Type 0 where
   -- to send this value; the frames once it is sent
-  sends : ℕ → Bool → Value → List Frame → Offer
+  sends : ℕ → Bool → Value → List F → OfferOf F
   -- to receive; the frames before the value is pushed
-  receives : ℕ → Bool → List Frame → Offer
+  receives : ℕ → Bool → List F → OfferOf F
 
-pub data Act : Type 0 where
+pub data ActOf (F : Type 0) : Type 0 where
   -- not started, finished or stopped
-  idle : Act
+  idle : ActOf F
   -- 01 has no case: document 000 gets stuck here too
-  stuck : Act
+  stuck : ActOf F
   -- stops by this fault
-  faults : ℕ → Act
+  faults : ℕ → ActOf F
   -- goes on with these frames; the lines written; how many outcomes are used
-  goes : List Frame → List Event → ℕ → Act
+  goes : List F → List Event → ℕ → ActOf F
   -- the root frame returns
-  ends : Act
+  ends : ActOf F
   -- makes the next qubit or channel, and goes on with these frames
-  makes : Thing → List Frame → Act
+  makes : Thing → List F → ActOf F
   -- starts a process in this method with these arguments, first to last, and goes on with these frames
-  forks : ℕ → List Value → List Frame → Act
+  forks : ℕ → List Value → List F → ActOf F
   -- stands at SEND or RECV
-  offers : Offer → Act
+  offers : OfferOf F → ActOf F
+
+-- those of program tables
+abbrev pub Offer : Type 0
+Offer = OfferOf Frame
+
+abbrev pub Act : Type 0
+Act = ActOf Frame
 
 -- What an instruction works on: the table, the outcomes not yet used, the counts of things made; its argument; its
 -- operands, from the top down, none of them empty; the frame with the operands off, standing after the instruction;
@@ -288,7 +295,7 @@ unfoldable pub atFrames : List ℕ → List ℕ → State → List Frame → Act
 atFrames p outcomes s [] = stuck
 atFrames p outcomes s (f ∷ fs) = atFrame p outcomes s f fs
 
-unfoldable pub byStatus : Status → Act → Act
+unfoldable pub byStatus : {F : Type 0} → Status → ActOf F → ActOf F
 byStatus running act = act
 byStatus finished act = idle
 byStatus (stopped n) act = idle

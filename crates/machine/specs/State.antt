@@ -21,15 +21,16 @@ pub data Status : Type 0 where
   finished : Status
   stopped : ℕ → Status
 
--- A process's frames, the one at work first.
-pub record Process : Type 0 where
+-- A process's frames, the top frame first. Processes, configurations and states are for any type F of frames: 01's rules
+-- of entries, meetings, faults and ends do not look into a frame. `Frame` is that of a program table.
+pub record ProcessOf (F : Type 0) : Type 0 where
   pub status : Status
-  pub frames : List Frame
+  pub frames : List F
 
 -- The configuration: the processes made, and the counts of qubits and channels made. "A new process, qubit or channel
 -- takes the count of those made before it as its number; no number is used again."
-pub record Config : Type 0 where
-  pub processes : List Process
+pub record ConfigOf (F : Type 0) : Type 0 where
+  pub processes : List (ProcessOf F)
   pub qubits : ℕ
   pub channels : ℕ
 
@@ -43,20 +44,30 @@ pub record Line : Type 0 where
   pub c : ℕ
 
 -- The state of a run: the configuration, how many outcomes are used, the lines so far.
-pub record State : Type 0 where
-  pub config : Config
+pub record StateOf (F : Type 0) : Type 0 where
+  pub config : ConfigOf F
   pub used : ℕ
   pub lines : List Line
 
+-- those of program tables
+abbrev pub Process : Type 0
+Process = ProcessOf Frame
+
+abbrev pub Config : Type 0
+Config = ConfigOf Frame
+
+abbrev pub State : Type 0
+State = StateOf Frame
+
 -- a number that no process has stands for a process that has not started
-abbrev pub unmade : Process
+abbrev pub unmade : {F : Type 0} → ProcessOf F
 unmade = record { status = finished; frames = [] }
 
-unfoldable pub processAt : Config → ℕ → Process
+unfoldable pub processAt : {F : Type 0} → ConfigOf F → ℕ → ProcessOf F
 processAt c n = getD (c .processes) n unmade
 
 -- the configuration with process n's state changed
-unfoldable pub setProcess : Config → ℕ → Process → Config
+unfoldable pub setProcess : {F : Type 0} → ConfigOf F → ℕ → ProcessOf F → ConfigOf F
 setProcess c n pr = record { processes = set (c .processes) n pr; qubits = c .qubits; channels = c .channels }
 
 -- "CALL starts a frame with the arguments in its first slots, the others empty"; the arguments are listed first to last
@@ -65,13 +76,18 @@ started p m args =
     record { method = m; place = offsetOf p m; slots = take 16 (args ++ replicate 16 empty); pending = [] }
 
 -- "A run starts with process 0 at main's first instruction, its slots empty, nothing pending, nothing else made, no
--- line written and no outcome used"
-unfoldable pub startConfig : List ℕ → Config
-startConfig p =
-    record { processes = record { status = running; frames = started p 0 [] ∷ [] } ∷ []; qubits = 0; channels = 0 }
+-- line written and no outcome used": f is the frame of main
+unfoldable pub startConfigWith : {F : Type 0} → F → ConfigOf F
+startConfigWith f = record { processes = record { status = running; frames = f ∷ [] } ∷ []; qubits = 0; channels = 0 }
 
-unfoldable pub start : List ℕ → State
-start p = record { config = startConfig p; used = 0; lines = [] }
+unfoldable pub startWith : {F : Type 0} → F → StateOf F
+startWith f = record { config = startConfigWith f; used = 0; lines = [] }
+
+abbrev pub startConfig : List ℕ → Config
+startConfig p = startConfigWith (started p 0 [])
+
+abbrev pub start : List ℕ → State
+start p = startWith (started p 0 [])
 
 -- A frame with one part changed.
 abbrev pub atPlace : ℕ → Frame → Frame

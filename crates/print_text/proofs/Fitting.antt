@@ -8,10 +8,10 @@ use borrow.Author.Tests.{leb-true}
 use lib.ListN.{take, drop, length, length-append}
 use lib.Seq.{ext-getD, getD-take, length-take-le}
 use Rattle.lists.proofs.Tests.{cond-both, cond-each}
-use Rattle.machine.specs.State.{Line, State, start}
+use Rattle.machine.specs.State.{Line, State, start, startWith}
 use Rattle.machine.specs.Entry.{effectOf}
 use Rattle.machine.specs.Owner.{noLine}
-use Rattle.machine.specs.Run.{Result, allOver, noneAble, fits, afterEffect, runFrom, run}
+use Rattle.machine.specs.Run.{Result, allOver, noneAble, fits, afterEffect, runFrom, run, runFromIn, runIn}
 use Rattle.machine.specs.Answer.{traceWords, traceAfter}
 use Rattle.trace.specs.Trace.{linesOf}
 use Rattle.trace.proofs.LinesOf.{linesOf-length, linesOf-at}
@@ -29,7 +29,7 @@ taken p outcomes room s k n e =
 -- an entry whose lines do not fit is not taken
 from-fits : (p outcomes : List ℕ) (room : ℕ) (s : State) (k : ℕ) (schedule : List ℕ) → length (s .lines) ≤ room
     → length (runFrom p outcomes room s k schedule .state .lines) ≤ room
-unfolding runFrom
+unfolding runFromIn
 from-fits p outcomes room s k [] h = cond-both Fine (allOver s) h (cond-both Fine (noneAble p outcomes s) h h)
   where
     Fine : Result → Type 0
@@ -45,7 +45,7 @@ from-fits p outcomes room s k (n ∷ schedule) h =
     Fine r = length (r .state .lines) ≤ room
 
 pub lines-fit : (p outcomes : List ℕ) (room : ℕ) (schedule : List ℕ) → length (run p outcomes room schedule .state .lines) ≤ room
-unfolding run start
+unfolding runIn startWith
 lines-fit p outcomes room schedule = from-fits p outcomes room (start p) 0 schedule (omega arith)
 
 -- the trace after a run has room for its lines, and they are its first

@@ -11,8 +11,8 @@ use Rattle.lists.proofs.Tests.{cond-both}
 use Rattle.table.specs.Questions.{Verdict, accepted, refused, questions}
 use Rattle.machine.specs.State.{Process, Line, State, processAt, stopped}
 use Rattle.machine.specs.Act.{Act, actOf, faults}
-use Rattle.machine.specs.Entry.{effectOf, applied}
-use Rattle.machine.specs.Run.{Result, allOver, noneAble, fits, afterEffect, runFrom, run}
+use Rattle.machine.specs.Entry.{effectOf, applied, appliedIn, effectIn}
+use Rattle.machine.specs.Run.{Result, allOver, noneAble, fits, afterEffect, runFrom, run, runFromIn, runIn}
 use Rattle.machine.specs.Answer.{Answer, refusal, ran, resultAnswer, answerOf, linesIn, lineWords, traceWords, traceAfter}
 use Rattle.machine.specs.Answer as machine
 use Rattle.machine.proofs.Giving.{process-same, process-other}
@@ -32,7 +32,7 @@ lines-back (l ∷ ls) = ap {B = List Line} (λ ms. l ∷ ms) (lines-back ls)
 
 -- a run from any state ends in one of four ways
 ends-from : (p outcomes : List ℕ) (room : ℕ) (s : State) (k : ℕ) (schedule : List ℕ) → runFrom p outcomes room s k schedule .end ≤ 3
-unfolding runFrom
+unfolding runFromIn
 ends-from p outcomes room s k [] =
     cond-both (λ (r : Result). r .end ≤ 3) (allOver s) (omega arith)
     (cond-both (λ (r : Result). r .end ≤ 3) (noneAble p outcomes s) (omega arith) (omega arith))
@@ -43,14 +43,14 @@ ends-from p outcomes room s k (n ∷ schedule) =
     (ends-from p outcomes room (afterEffect s (effectOf p outcomes k s n)) (suc k) schedule) (omega arith)))
 
 pub four-ends : (p schedule outcomes trace : List ℕ) → run p outcomes (linesIn (length trace)) schedule .end ≤ 3
-unfolding run
+unfolding runIn
 four-ends p schedule outcomes trace = ends-from p outcomes (linesIn (length trace)) _ 0 schedule
 
 -- what a fault leaves: its own process stopped, any other as it was
 pub fault-alone : (p outcomes : List ℕ) (k : ℕ) (s : State) (n f m : ℕ) → actOf p outcomes s n ≡ faults f → n < length (s .config .processes)
     → (processAt (effectOf p outcomes k s n .config) n ≡ record { status = stopped f; frames = processAt (s .config) n .frames })
     × (m ≢ n → processAt (effectOf p outcomes k s n .config) m ≡ processAt (s .config) m)
-unfolding effectOf applied
+unfolding effectIn appliedIn
 fault-alone p outcomes k s n f m e l = (
   ap (λ (a : Act). processAt (applied p outcomes k s n a .config) n) e ∙ process-same (s .config) n halted l,
   λ ne. ap (λ (a : Act). processAt (applied p outcomes k s n a .config) m) e ∙ process-other (s .config) n m halted ne,

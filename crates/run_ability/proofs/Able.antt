@@ -18,8 +18,8 @@ use Rattle.table.specs.Table.{opAt}
 use Rattle.machine.specs.Value.{end, ref, sideNo}
 use Rattle.machine.specs.State.{Frame, Status, running, finished, stopped, Process, Config, State, processAt, unmade}
 use Rattle.machine.specs.Act.{Offer, sends, receives, Act, idle, stuck, faults, goes, ends, makes, forks, offers, atFrames, byStatus, actOf}
-use Rattle.machine.specs.Entry.{runs, Meeting, offered, meetsWith, meetingOf, isMeeting, moves, able}
-use Rattle.machine.specs.Run.{isOver, allOver, noneAble}
+use Rattle.machine.specs.Entry.{runs, Meeting, offered, meetsWith, meetingOf, isMeeting, moves, able, ableIn, movesIn}
+use Rattle.machine.specs.Run.{isOver, allOver, noneAble, noneAbleIn}
 use Rattle.machine.specs.Owner.{valuesOf, reaches, holder}
 use Rattle.machine.specs.Sound.{Made, FrameSound, ProcessSound, ConfigSound}
 use Rattle.machine.proofs.Reached.{Reached, stacked, busy-at}
@@ -202,7 +202,7 @@ module _ {p outcomes : List ℕ} {s : State} (reached : Reached p outcomes s) (r
     rank n (offers o) = cond (isMeeting (meetingOf p outcomes s n o)) 1 2
 
     rank-able : (n : ℕ) (a : Act) → eqb (rank n a) 1 ≡ moves p outcomes s n a
-    unfolding rank moves
+    unfolding rank movesIn
     rank-able n idle = refl
     rank-able n stuck = refl
     rank-able n (faults f) = refl
@@ -245,7 +245,7 @@ module _ {p outcomes : List ℕ} {s : State} (reached : Reached p outcomes s) (r
     ability-is n h = act-rank n (actOf p outcomes s n) (readinessOp p (partOf work n)) (act-within p outcomes s n) (not-stuck n) (stand-at n h)
 
     pub able-is : (n : ℕ) → n < 8 → able p outcomes s n ≡ eqb (abilityOp p work t n) 1
-    unfolding able
+    unfolding ableIn
     able-is n h = sym (rank-able n (actOf p outcomes s n)) ∙ ap (λ (r : ℕ). eqb r 1) (sym (ability-is n h))
 
     -- the scan
@@ -376,7 +376,7 @@ module _ {p outcomes : List ℕ} {s : State} (reached : Reached p outcomes s) (r
 
     -- the end that the code works out is the definitions'
     pub ending-is : endingOp p work t 8 ≡ ending p outcomes s
-    unfolding endingOp ending allOver noneAble processAt rank actOf
+    unfolding endingOp ending allOver noneAbleIn processAt rank actOf
     ending-is = first (someIs p work t 1 8) refl
       where
         few : length (config .processes) ≤ 8

@@ -15,7 +15,7 @@ use Rattle.lists.proofs.Any.{All-getD}
 use Rattle.machine.specs.Value.{qubit, channel, end, Value, empty, int, bool, ref, valueWord}
 use Rattle.machine.specs.State.{Frame, Process, Config, Line, State, processAt, setProcess, unmade, atPlace, withPending, lineOf, met, passed}
 use Rattle.machine.specs.Act.{sends, receives, offers, atFrame, atFrames, byStatus, actOf}
-use Rattle.machine.specs.Entry.{Effect, Meeting, runs, framesWithout, thingsOf, pushTop, handing, meeting}
+use Rattle.machine.specs.Entry.{Effect, Meeting, runs, framesWithout, thingsOf, pushTop, handing, meetIn, tableMachine}
 use Rattle.machine.specs.Run.{fits}
 use Rattle.machine.specs.Answer.{traceAfter}
 use Rattle.machine.specs.Sound.{ValueSound, FrameSound, ConfigSound}
@@ -105,7 +105,7 @@ module _ {p outcomes : List ℕ} {s : State} {t0 : List ℕ} {room : ℕ} (here 
     join = record { sender = a; receiver = b; channel = i; side = d; value = v; senderFrames = hs; receiverFrames = hs′ }
 
     abbrev effect : Effect
-    effect = meeting k s join
+    effect = meetIn (tableMachine p outcomes) k s join
 
     made-end : (us : List Value) → f .pending ≡ v ∷ ref (end i d) ∷ us → i < c .channels
     made-end us q = (subst (All (ValueSound c)) q (sender .busy .stack .sound .0 .pending)) .1 .0
@@ -139,15 +139,15 @@ module _ {p outcomes : List ℕ} {s : State} {t0 : List ℕ} {room : ℕ} (here 
       mb-sent = subst (λ (x : ℕ). b < x) (sym (count-set c a (runs (framesWithout (thingsOf (v ∷ [])) hs)))) (receiver .made)
 
       at-sender : processAt (effect .config) a ≡ runs (framesWithout (thingsOf (v ∷ [])) hs)
-      unfolding meeting
+      unfolding meetIn
       at-sender = process-other sent b a (runs (pushTop v hs′)) two ∙ process-same c a (runs (framesWithout (thingsOf (v ∷ [])) hs)) (sender .made)
 
       at-receiver : processAt (effect .config) b ≡ runs (pushTop v hs′)
-      unfolding meeting
+      unfolding meetIn
       at-receiver = process-same sent b (runs (pushTop v hs′)) mb-sent
 
       store-met : metWords store a b (valOf v) ≡ encode (effect .config) ++ rest
-      unfolding meeting pushTop
+      unfolding meetIn pushTop
       store-met =
           let r = sends-from outcomes s (sender .busy) i d v hs sending in
           let r′ = receives-from outcomes s (receiver .busy) i′ d′ hs′ receiving in
@@ -158,7 +158,7 @@ module _ {p outcomes : List ℕ} {s : State} {t0 : List ℕ} {room : ℕ} (here 
           ∙ ap₂ (λ (l m : List Frame). encode (setProcess (setProcess c a (runs (framesWithout (thingsOf (v ∷ [])) l))) b (runs (pushTop v m))) ++ rest) (sym (r .3)) (sym (r′ .2))
 
       lines-met : length (s .lines) + 2 ≤ room → metWritten lines (length (s .lines)) k a b (valOf (ref (end i d))) (valOf v) ≡ traceAfter (s .lines ++ effect .lines) t0
-      unfolding metWritten meeting
+      unfolding metWritten meetIn
       lines-met h =
           let r = sends-from outcomes s (sender .busy) i d v hs sending in
           ap₂ (λ (w : List ℕ) (j : ℕ). withLine w j (valueLine k a b (valOf v)))
@@ -170,11 +170,11 @@ module _ {p outcomes : List ℕ} {s : State} {t0 : List ℕ} {room : ℕ} (here 
           ∙ ap (λ (l : List Line). traceAfter l t0) (append-assoc (s .lines) (lineOf k a (met b i d) ∷ []) (map (lineOf k a) (handing b v)))
 
       lines-long : length (effect .lines) ≡ 2
-      unfolding meeting
+      unfolding meetIn
       lines-long = ap suc (handing-one a b v)
 
       pub exchange-law : exchangeOp lines store room (count here rest k n) a b (valOf (ref (end i d))) (valOf v) ≡ tries effect
-      unfolding exchangeOp fits meeting
+      unfolding exchangeOp fits meetIn
       exchange-law = go (ltb room (length (s .lines) + 2)) refl
         where
           two-more : length (s .lines) + 2 ≡ length (s .lines ++ effect .lines)

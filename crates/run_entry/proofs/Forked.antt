@@ -15,7 +15,7 @@ use Rattle.table.specs.Ops.{opOf, ops, opFork}
 use Rattle.machine.specs.Value.{Value, isEmpty}
 use Rattle.machine.specs.State.{Frame, Process, Config, Line, State, lineOf, forked, gave}
 use Rattle.machine.specs.Act.{Act, stuck, faults, forks, doings, doingOf, doFork, passedBy, atFrames, byStatus, actOf}
-use Rattle.machine.specs.Entry.{Effect, runs, thingsOf, forking, applied}
+use Rattle.machine.specs.Entry.{Effect, runs, thingsOf, forking, applied, appliedIn, forkingIn}
 use Rattle.machine.specs.Run.{fits}
 use Rattle.machine.specs.Answer.{traceAfter}
 use Rattle.machine.specs.Sound.{FrameSound}
@@ -76,7 +76,7 @@ module _ {p outcomes : List ℕ} {s : State} {t0 : List ℕ} {room : ℕ} (here 
   module _ (method : m < methods p) (args : ℕ) (enough : args ≤ length (f .pending)) (few : args ≤ 8) (free : length (c .processes) < 8)
       (after : All (FrameSound p c) (passedBy args f ∷ fs)) where
     abbrev effect : Effect
-    effect = forking p k s n m (given args) (passedBy args f ∷ fs)
+    effect = forking p outcomes k s n m (given args) (passedBy args f ∷ fs)
 
     given-count : length (given args) ≡ args
     given-count = length-reverse (take args (f .pending)) ∙ length-take-le args (f .pending) enough
@@ -96,7 +96,7 @@ module _ {p outcomes : List ℕ} {s : State} {t0 : List ℕ} {room : ℕ} (here 
     first = lineOf k n (forked (length (c .processes)) m args)
 
     new-lines : effect .lines ≡ first ∷ giftLines k n (length (c .processes)) (given args)
-    unfolding forking first
+    unfolding forkingIn first
     new-lines = ap {B = List Line} (λ (i : ℕ). lineOf k n (forked (length (c .processes)) m i) ∷ giftLines k n (length (c .processes)) (given args)) given-count
 
     lines-long : length (effect .lines) ≡ suc (length (thingsOf (given args)))
@@ -123,12 +123,12 @@ module _ {p outcomes : List ℕ} {s : State} {t0 : List ℕ} {room : ℕ} (here 
         ∙ ap (λ (l : List Line). s .lines ++ l) (sym new-lines))
 
     store-is : forkedWords p store n (length (c .processes)) m args ≡ encode (effect .config) ++ rest
-    unfolding forking
+    unfolding forkingIn
     store-is =
         forked-store (laid here rest k n) rest live free m method args enough few after
 
     start-law : startOp p lines store room (count here rest k n) n (length (c .processes)) m args ≡ tries effect
-    unfolding startOp forkDone fits forking
+    unfolding startOp forkDone fits forkingIn
     start-law =
         ap (λ (i : ℕ). cond (ltb room (length (s .lines) + 1 + i)) fullNow done) things
         ∙ go (ltb room (length (s .lines) + 1 + length (thingsOf (given args)))) refl
@@ -198,7 +198,7 @@ module _ {p outcomes : List ℕ} {s : State} {t0 : List ℕ} {room : ℕ} (here 
   -- what an entry at FORK leaves
   pub fork-law : opAt p (f .place) ≡ 14 → actOf p outcomes s n ≢ stuck
       → forkOp p outcomes lines store room (count here rest k n) n ≡ tries (applied p outcomes k s n (actOf p outcomes s n))
-  unfolding forkOp tryOp applied
+  unfolding forkOp tryOp appliedIn
   fork-law e going =
       ap (λ (i : ℕ). tryOp p outcomes lines store room (count here rest k n) n i (paramsOf p i)) reads-method
       ∙ enough (leb params (length (f .pending))) refl

@@ -16,7 +16,7 @@ use Rattle.table.specs.Reading.{takenAt}
 use Rattle.machine.specs.Value.{qubit, channel, end, Value, empty, int, bool, ref, isEmpty}
 use Rattle.machine.specs.State.{Frame, Status, running, finished, stopped, Process, Config, State, processAt}
 use Rattle.machine.specs.Act.{Offer, sends, receives, Act, idle, stuck, faults, goes, ends, makes, forks, offers, doSend, doRecv, doings, doingOf, atFrame, atFrames, byStatus, actOf}
-use Rattle.machine.specs.Entry.{Effect, Meeting, joins, offered, meetsWith, meetingOf, isMeeting, meeting, meetingIf, applied, effectOf, moves}
+use Rattle.machine.specs.Entry.{Effect, Meeting, joins, offered, meetsWith, meetingOf, isMeeting, meetIn, meetIfIn, applied, effectOf, moves, appliedIn, effectIn, movesIn, tableMachine}
 use Rattle.machine.specs.Owner.{valuesOf}
 use Rattle.machine.specs.Sound.{ProcessSound}
 use Rattle.machine.proofs.Reached.{Reached, busy-at, Running}
@@ -117,23 +117,23 @@ module _ {p outcomes : List ℕ} {s : State} {t0 : List ℕ} {room : ℕ} (here 
 
   -- the meeting of process n, which offers o, with process q, which offers r
   pair-law : (q : ℕ) (o r : Offer) (e : Meeting) (st : Readiness) → Offerer n o → Offerer q r → q < 8 → q ≢ n → Stands (offers o) st
-      → Stands (offers r) (readinessOp p (partOf store q)) → joins n o q r ≡ some e → Typed p (meeting k s e .config)
-      → pairOp p lines store room (count here rest k n) n st q ≡ tries (meeting k s e)
+      → Stands (offers r) (readinessOp p (partOf store q)) → joins n o q r ≡ some e → Typed p (meetIn (tableMachine p outcomes) k s e .config)
+      → pairOp p lines store room (count here rest k n) n st q ≡ tries (meetIn (tableMachine p outcomes) k s e)
   unfolding joins pairOp pairBy
   pair-law q (sends i d v hs) (sends i′ d′ v′ hs′) e st x y near two h h′ j after = absurd (Option·none-ne-some e j)
   pair-law q (sends i d v hs) (receives i′ d′ hs′) e st x y near two h h′ j after =
       let w = cond-some (eqb i i′ && Bool·beq d (not d′)) _ e j in
       ap (λ (a : Readiness). pairOp p lines store room (count here rest k n) n a q) h
       ∙ exchange-law here rest k n (x .live) (y .live) (λ z. two (sym z)) i i′ d d′ v hs hs′ (x .offer) (y .offer)
-      (subst (λ (m : Meeting). Typed p (meeting k s m .config)) (sym (w .1)) after)
-      ∙ ap (λ (m : Meeting). tries (meeting k s m)) (w .1)
+      (subst (λ (m : Meeting). Typed p (meetIn (tableMachine p outcomes) k s m .config)) (sym (w .1)) after)
+      ∙ ap (λ (m : Meeting). tries (meetIn (tableMachine p outcomes) k s m)) (w .1)
   pair-law q (receives i d hs) (sends i′ d′ v hs′) e st x y near two h h′ j after =
       let w = cond-some (eqb i i′ && Bool·beq d (not d′)) _ e j in
       ap₂ (λ (a b : Readiness). cond (eqb (a .kind) 2) (exchangeOp lines store room (count here rest k n) n q (a .end) (a .value))
       (exchangeOp lines store room (count here rest k n) q n (b .end) (b .value))) h h′
       ∙ exchange-law here rest k n (y .live) (x .live) two i′ i d′ d v hs′ hs (y .offer) (x .offer)
-      (subst (λ (m : Meeting). Typed p (meeting k s m .config)) (sym (w .1)) after)
-      ∙ ap (λ (m : Meeting). tries (meeting k s m)) (w .1)
+      (subst (λ (m : Meeting). Typed p (meetIn (tableMachine p outcomes) k s m .config)) (sym (w .1)) after)
+      ∙ ap (λ (m : Meeting). tries (meetIn (tableMachine p outcomes) k s m)) (w .1)
   pair-law q (receives i d hs) (receives i′ d′ hs′) e st x y near two h h′ j after = absurd (Option·none-ne-some e j)
 
   module _ (owned : own.Kept c (s .lines)) (t : List (List ℕ)) (holding : Holding t (s .lines)) where
@@ -145,17 +145,17 @@ module _ {p outcomes : List ℕ} {s : State} {t0 : List ℕ} {room : ℕ} (here 
 
     offer-law : (o : Offer) (st : Readiness) → actOf p outcomes s n ≡ offers o → Stands (offers o) st
         → offerOp p lines store room t (count here rest k n) n st ≡ went (offers o)
-    unfolding offerOp joinOp moves applied effectOf isMeeting meetingIf
+    unfolding offerOp joinOp movesIn appliedIn effectIn isMeeting meetIfIn
     offer-law o st does h =
         ap (joinOp p lines store room (count here rest k n) n st)
         (partner-law reached rest owned t holding n o st (within o does) h)
         ∙ go (isMeeting (meetingOf p outcomes s n o)) refl
       where
-        after : Typed p (meetingIf k s (meetingOf p outcomes s n o) .config)
+        after : Typed p (meetIfIn (tableMachine p outcomes) k s (meetingOf p outcomes s n o) .config)
         after = subst (λ (a : Act). Typed p (applied p outcomes k s n a .config)) does (effect-typed p (reached .kept) outcomes (reached .bytes) s (reached .kinds) (reached .typed) k n)
 
-        paired : (m : Option Meeting) → meetingOf p outcomes s n o ≡ m → isMeeting m ≡ true → Typed p (meetingIf k s m .config)
-            → pairOp p lines store room (count here rest k n) n st (partner o) ≡ tries (meetingIf k s m)
+        paired : (m : Option Meeting) → meetingOf p outcomes s n o ≡ m → isMeeting m ≡ true → Typed p (meetIfIn (tableMachine p outcomes) k s m .config)
+            → pairOp p lines store room (count here rest k n) n st (partner o) ≡ tries (meetIfIn (tableMachine p outcomes) k s m)
         paired none i b u = absurd (true≢false (sym b))
         paired (some e) i b u =
             let q = found-partner reached rest owned t holding n o (within o does) (ap isMeeting i) in
@@ -168,7 +168,7 @@ module _ {p outcomes : List ℕ} {s : State} {t0 : List ℕ} {room : ℕ} (here 
 
         go : (b : Bool) → isMeeting (meetingOf p outcomes s n o) ≡ b
             → joinOp p lines store room (count here rest k n) n st (cond b (partner o) 65535)
-            ≡ cond b (tries (meetingIf k s (meetingOf p outcomes s n o))) stay
+            ≡ cond b (tries (meetIfIn (tableMachine p outcomes) k s (meetingOf p outcomes s n o))) stay
         go true b =
             ap (λ (z : Bool). cond z stay (pairOp p lines store room (count here rest k n) n st (partner o)))
             (lt-leb 8 (partner o)
@@ -190,7 +190,7 @@ module _ {p outcomes : List ℕ} {s : State} {t0 : List ℕ} {room : ℕ} (here 
     module _ {f : Frame} {fs : List Frame} (live : Running p c n f fs) where
       stands-law : (a : Act) (st : Readiness) → actOf p outcomes s n ≡ a → Offering a → a ≢ stuck → Stands a st
           → standsOp p outcomes lines store room t (count here rest k n) n st ≡ went a
-      unfolding standsOp moves
+      unfolding standsOp movesIn
       stands-law idle st does o going h = absurd o
       stands-law stuck st does o going h = absurd (going refl)
       stands-law (faults m) st does o going h =

@@ -19,7 +19,7 @@ use Rattle.table.proofs.Before.{before-height}
 use Rattle.machine.specs.Value.{Thing, qubit, channel, end, Value}
 use Rattle.machine.specs.State.{Frame, Status, running, finished, stopped, Process, Config, State, processAt}
 use Rattle.machine.specs.Act.{Act, idle, stuck, faults, goes, ends, makes, forks, offers, atFrame, atFrames, byStatus, actOf}
-use Rattle.machine.specs.Entry.{Effect, runs, applied, effectOf, moves, able}
+use Rattle.machine.specs.Entry.{Effect, runs, applied, effectOf, moves, able, ableIn, appliedIn, effectIn, movesIn}
 use Rattle.machine.specs.Owner.{valuesOf}
 use Rattle.machine.specs.Answer.{traceAfter}
 use Rattle.machine.specs.Sound.{ProcessSound}
@@ -116,7 +116,7 @@ telling-small op t = ⊎-elim (λ h. ltb-true op 12 h) (λ h. absurd (true≢fal
 
 -- an act of an op other than SEND and RECV moves
 alone-moves : (p outcomes : List ℕ) (s : State) (n : ℕ) (a : Act) → Alone a → a ≢ stuck → moves p outcomes s n a ≡ true
-unfolding moves
+unfolding movesIn
 alone-moves p outcomes s n idle h g = absurd h
 alone-moves p outcomes s n stuck h g = absurd (g refl)
 alone-moves p outcomes s n (faults m) h g = refl
@@ -192,7 +192,7 @@ module _ {p outcomes : List ℕ} {s : State} {t0 : List ℕ} {room : ℕ} (here 
 
   -- a process that does not run
   over : (w : List ℕ) → partOf store n ≡ w → eqb (headOf w .status) 1 ≡ false → actOf p outcomes s n ≡ idle → Law
-  unfolding stepOp entryOp moves
+  unfolding stepOp entryOp movesIn
   over w e h i =
       other 1
       (ap (λ (b : Bool). cond b (actOp p (partOf store n) (headOf (partOf store n)) (opAt p (headOf (partOf store n) .place)) (argAt p (headOf (partOf store n) .place))) (afterStep 1 (partOf store n)))
@@ -231,7 +231,7 @@ module _ {p outcomes : List ℕ} {s : State} {t0 : List ℕ} {room : ℕ} (here 
 
     -- an op that stays within the process and writes no line
     quiet : (a : Act) → atFrame p outcomes s f fs ≡ a → ActTyped p (reached .kinds) (c .qubits) (length (c .processes)) a → Agrees a words (stepOp p words) → Law
-    unfolding moves applied effectOf able
+    unfolding movesIn appliedIn effectIn ableIn
     quiet idle i ty g = absurd g
     quiet stuck i ty g = absurd ty
     quiet (faults m) i ty g =
@@ -273,7 +273,7 @@ module _ {p outcomes : List ℕ} {s : State} {t0 : List ℕ} {room : ℕ} (here 
         → Concluded outcomes s (live .busy) (sound here rest k n .qubitCount) a
         (concludeOp p words code (c .qubits) (c .channels) outcomes (s .used))
         → singleOp p outcomes lines store room counted n code ≡ comes a
-    unfolding moves
+    unfolding movesIn
     loud code idle i ty wi al g = absurd g
     loud code stuck i ty wi al g = absurd ty
     loud code (faults m) i ty wi al g =

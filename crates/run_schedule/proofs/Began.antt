@@ -6,7 +6,7 @@ use native.Mathlib.Omega.{arith}
 use lib.ListN.{set, take, drop, length, length-set, replicate, replicate-append-replicate, take-append-drop}
 use lib.Seq.{length-take-le, set-append-left, drop-set-lt, drop-at}
 use Rattle.table.proofs.Accepted.{Kept}
-use Rattle.machine.specs.State.{Process, Config, started, startConfig, start}
+use Rattle.machine.specs.State.{Process, Config, started, startConfig, start, startConfigWith, startWith}
 use Rattle.machine.specs.Entry.{runs, joined}
 use Rattle.machine.specs.Run.{Result}
 use Rattle.machine.specs.Answer.{traceAfter}
@@ -54,12 +54,12 @@ main-process : List ℕ → Process
 main-process p = runs (started p 0 [] ∷ [])
 
 main-long : (p : List ℕ) → Kept p → length (processWords (main-process p)) ≡ 512
-unfolding main-process startConfig start
+unfolding main-process startConfigWith startWith
 main-long p kept =
     process-length p (startConfig p) (main-process p) (config-sound p kept [] (startConfig p) (start-typed p kept) .processes .0)
 
 pub begun-store : (p : List ℕ) → Kept p → (work : List ℕ) (n : ℕ) → n ≡ 8192 → n ≤ length work → startStore p work n ≡ encode (startConfig p) ++ drop n work
-unfolding startStore beganAt startConfig main-process joined partOf
+unfolding startStore beganAt startConfigWith main-process joined partOf
 begun-store p kept work n e h =
     ap (λ (w : List ℕ). beganAt p (set w 0 1) 0 0)
     (first-cleared work n h ∙ ap (λ (w : List ℕ). w ++ drop n work) (nothing-made n e))
@@ -74,7 +74,7 @@ module _ (p : List ℕ) (kept : Kept p) (work : List ℕ) (h : 8192 ≤ length w
   begun-is = e ∙ begun-store p kept work 8192 refl h
 
   rest-same : drop 8192 begun ≡ drop 8192 work
-  unfolding start
+  unfolding startWith
   rest-same =
       ap (drop 8192) begun-is
       ∙ drop-at (encode (startConfig p)) (drop 8192 work) 8192 (encode-length p (startConfig p) (config-sound p kept [] (startConfig p) (start-typed p kept)))

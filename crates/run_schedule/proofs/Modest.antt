@@ -18,7 +18,7 @@ use Rattle.table.proofs.Methods.{slotTypes-length}
 use Rattle.machine.specs.Value.{qubit, channel, end, Value, empty, int, bool, ref, isEmpty}
 use Rattle.machine.specs.State.{Frame, Status, running, finished, stopped, State, processAt, lineOf, gave}
 use Rattle.machine.specs.Act.{sends, receives, Act, idle, stuck, faults, goes, ends, makes, forks, offers, At, operand, asEnd, doSend, doRecv, doings, doingOf, sceneOf, atFrame, atFrames, byStatus, actOf}
-use Rattle.machine.specs.Entry.{Effect, Meeting, thingsOf, handing, meeting, meetingIf, meetingOf, forking, applied, effectOf}
+use Rattle.machine.specs.Entry.{Effect, Meeting, thingsOf, handing, meetIn, meetIfIn, meetingOf, forking, applied, effectOf, appliedIn, effectIn, forkingIn, tableMachine}
 use Rattle.machine.proofs.Reached.{Reached}
 use Rattle.machine.proofs.Acts.{ActTyped}
 use Rattle.machine.proofs.Standing.{act-typed}
@@ -113,8 +113,8 @@ abbrev Modest : Effect → Type 0
 Modest e = (e .used ≤ 1) × (length (e .lines) ≤ 17)
 
 module _ (p : List ℕ) (kept : Kept p) (outcomes : List ℕ) (s : State) (ks : List ℕ) (k n : ℕ) where
-  met-modest : (m : Option Meeting) → Modest (meetingIf k s m)
-  unfolding meetingIf meeting handing
+  met-modest : (m : Option Meeting) → Modest (meetIfIn (tableMachine p outcomes) k s m)
+  unfolding meetIfIn meetIn handing
   met-modest none = (omega arith, omega arith)
   met-modest (some e) = (omega arith, two (e .value))
     where
@@ -125,7 +125,7 @@ module _ (p : List ℕ) (kept : Kept p) (outcomes : List ℕ) (s : State) (ks : 
       two (ref t) = omega arith
 
   applied-modest : (a : Act) → Small a → ActTyped p ks (s .config .qubits) (length (s .config .processes)) a → Modest (applied p outcomes k s n a)
-  unfolding applied forking paramTypes
+  unfolding appliedIn forkingIn paramTypes
   applied-modest idle h t = (omega arith, omega arith)
   applied-modest stuck h t = absurd t
   applied-modest (faults m) h t = (omega arith, omega arith)
@@ -148,7 +148,7 @@ module _ (p : List ℕ) (kept : Kept p) (outcomes : List ℕ) (s : State) (ks : 
 
 pub modest : {p outcomes : List ℕ} {s : State} → Reached p outcomes s → (k n : ℕ)
     → (effectOf p outcomes k s n .used ≤ 1) × (length (effectOf p outcomes k s n .lines) ≤ 17)
-unfolding effectOf
+unfolding effectIn
 modest {p} {outcomes} {s} r k n =
     applied-modest p (r .kept) outcomes s (r .kinds) k n (actOf p outcomes s n) (act-small p outcomes s n)
     (act-typed p (r .kept) outcomes (r .bytes) s (r .kinds) (r .typed) n)

@@ -14,9 +14,9 @@ use Rattle.lists.specs.Lists.{All}
 use Rattle.lists.proofs.Tests.{decide, cond-each}
 use Rattle.table.specs.Table.{argAt}
 use Rattle.table.proofs.Accepted.{Kept}
-use Rattle.machine.specs.State.{Line, State, startConfig, start}
+use Rattle.machine.specs.State.{Line, State, startConfig, start, startWith}
 use Rattle.machine.specs.Act.{idle, ends}
-use Rattle.machine.specs.Entry.{Effect, nothing, applied, effectOf, moves, able}
+use Rattle.machine.specs.Entry.{Effect, nothing, applied, effectOf, moves, able, ableIn, appliedIn, effectIn, movesIn}
 use Rattle.machine.specs.Run.{fits, afterEffect, ended, runFrom, run}
 use Rattle.machine.specs.Answer.{traceWords, traceAfter}
 use Rattle.machine.specs.Sound.{ConfigSound}
@@ -88,7 +88,7 @@ module _ {p schedule outcomes t0 rest : List ℕ} {room : ℕ} (given : Inputs p
   -- the start
 
   pub ready-start : (work : List ℕ) → work ≡ encode (startConfig p) ++ rest → Ready 0 work t0 nobody 0 0 nothingKnown
-  unfolding nothingKnown stateAt start traceAfter traceWords
+  unfolding nothingKnown stateAt startWith traceAfter traceWords
   ready-start work e = record {
     runs = at-start p outcomes room schedule;
     inside = omega arith;
@@ -244,7 +244,7 @@ module _ {p schedule outcomes t0 rest : List ℕ} {room : ℕ} (given : Inputs p
       pub entered : namedEntryOp p outcomes trace₀ work₀ room count₀ named (d .code) (offerAt p work₀ t named (d .code)) ≡ comesTo
 
     pub unmade : 8 ≤ named → able p outcomes (at k) named ≡ false
-    unfolding able moves
+    unfolding ableIn movesIn
     unmade h = ap (moves p outcomes (at k) named) (unmade-idle p outcomes (at k) named (omega (arith, h, state-sound .processCount)))
 
     module _ {work trace : List ℕ} {t : List (List ℕ)} {lines used : ℕ} {known : Knowledge} (r : Ready k work trace t lines used known) where
@@ -265,7 +265,7 @@ module _ {p schedule outcomes t0 rest : List ℕ} {room : ℕ} (given : Inputs p
       step₀ = stepOp p (partOf work₀ named)
 
       pub near-law : named < 8 → Stepped (onPart work₀ named step₀) ⊎ Stopped t (onPart work₀ named step₀)
-      unfolding onPart namedEntryOp able moves effectOf applied
+      unfolding onPart namedEntryOp ableIn movesIn effectIn appliedIn
       near-law h =
           ⊎-elim
           (λ (x : Plain here rest k named owned t (r .table) h step₀).

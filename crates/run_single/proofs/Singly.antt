@@ -14,7 +14,7 @@ use Rattle.lists.proofs.Any.{All-getD}
 use Rattle.machine.specs.Value.{Thing, qubit, channel, end}
 use Rattle.machine.specs.State.{Frame, finished, stopped, Process, Config, Line, State, Event, processAt, setProcess, unmade, lineOf, finishes, stops}
 use Rattle.machine.specs.Act.{Act, faults, goes, ends, makes, actOf}
-use Rattle.machine.specs.Entry.{Effect, runs, counted, making, applied, effectOf}
+use Rattle.machine.specs.Entry.{Effect, runs, counted, making, applied, effectOf, appliedIn, effectIn}
 use Rattle.machine.specs.Run.{fits}
 use Rattle.machine.specs.Answer.{traceAfter}
 use Rattle.machine.specs.Sound.{FrameSound, ConfigSound}
@@ -137,7 +137,7 @@ module _ {p outcomes : List ℕ} {s : State} {t0 : List ℕ} {room : ℕ} (here 
     pub fault-as : (code m : ℕ) → 20 ≤ m → m ≤ 27
         → concludeOp p words code (config .qubits) (config .channels) outcomes (s .used) ≡ afterEvent (faultEvent m) (processWords (record { status = stopped m; frames = f ∷ fs }))
         → singleOp p outcomes trace work room count n code ≡ tried (applied p outcomes k s n (faults m))
-    unfolding applied countedWords
+    unfolding appliedIn countedWords
     fault-as code m low high conc =
         single-law (live .made) code (faultEvent m) halted (stops m) (applied p outcomes k s n (faults m))
         (ap (λ (w : List ℕ). concludeOp p w code (config .qubits) (config .channels) outcomes (s .used)) part-now
@@ -170,7 +170,7 @@ module _ {p outcomes : List ℕ} {s : State} {t0 : List ℕ} {room : ℕ} (here 
     pub ends-as : (code : ℕ)
         → concludeOp p words code (config .qubits) (config .channels) outcomes (s .used) ≡ afterEvent (eventOf 0 finishes) (processWords (record { status = finished; frames = [] }))
         → singleOp p outcomes trace work room count n code ≡ tried (applied p outcomes k s n ends)
-    unfolding applied countedWords
+    unfolding appliedIn countedWords
     ends-as code conc =
         single-law (live .made) code (eventOf 0 finishes) gone finishes (applied p outcomes k s n ends)
         (ap (λ (w : List ℕ). concludeOp p w code (config .qubits) (config .channels) outcomes (s .used)) part-now ∙ conc)
@@ -188,7 +188,7 @@ module _ {p outcomes : List ℕ} {s : State} {t0 : List ℕ} {room : ℕ} (here 
     -- the words of a process after its entry fill its part
     module _ (a : Act) (does : actOf p outcomes s n ≡ a) where
       after-typed : Typed p (applied p outcomes k s n a .config)
-      unfolding effectOf
+      unfolding effectIn
       after-typed =
           subst (λ (x : Act). Typed p (applied p outcomes k s n x .config)) does (effect-typed p (reached .kept) outcomes (reached .bytes) s (reached .kinds) (reached .typed) k n)
 
@@ -210,7 +210,7 @@ module _ {p outcomes : List ℕ} {s : State} {t0 : List ℕ} {room : ℕ} (here 
         → concludeOp p words code (config .qubits) (config .channels) outcomes (s .used) ≡ afterEvent (eventOf u ev) (processWords (runs gs))
         → ev .kind ≢ 1 → ev .kind ≢ 2 → u ≤ 1
         → singleOp p outcomes trace work room count n code ≡ tried (applied p outcomes k s n (goes gs (ev ∷ []) u))
-    unfolding applied countedWords
+    unfolding appliedIn countedWords
     line-law code gs ev u does conc one two few =
         single-law (live .made) code (eventOf u ev) (runs gs) ev (applied p outcomes k s n (goes gs (ev ∷ []) u))
         (ap (λ (w : List ℕ). concludeOp p w code (config .qubits) (config .channels) outcomes (s .used)) part-now ∙ conc)
@@ -226,7 +226,7 @@ module _ {p outcomes : List ℕ} {s : State} {t0 : List ℕ} {room : ℕ} (here 
         → concludeOp p words code (config .qubits) (config .channels) outcomes (s .used) ≡ afterEvent (eventOf 0 (making t)) (processWords (runs gs))
         → countedWords (encode (setProcess config n (runs gs)) ++ rest) (making t .kind) ≡ encode (counted t (setProcess config n (runs gs))) ++ rest
         → singleOp p outcomes trace work room count n code ≡ tried (applied p outcomes k s n (makes t gs))
-    unfolding applied
+    unfolding appliedIn
     making-law code t gs does conc words-counted =
         single-law (live .made) code (eventOf 0 (making t)) (runs gs) (making t) (applied p outcomes k s n (makes t gs))
         (ap (λ (w : List ℕ). concludeOp p w code (config .qubits) (config .channels) outcomes (s .used)) part-now ∙ conc)
