@@ -16,4 +16,4 @@ codeQuestions p schedule outcomes work =
     andThen (question4 p) (andThen (question5 p) (inputQuestions schedule outcomes work))
 
 abbrev pub outcomeKept : List ℕ → ℕ → Bool
-outcomeKept outcomes i = leb (getD outcomes i 0) 1
+outcomeKept outcomes i = leb (getD outcomes i 0) 2

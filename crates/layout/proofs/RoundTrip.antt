@@ -263,7 +263,7 @@ module _ (p : List ℕ) (c : Config) (h : ConfigSound p c) where
   decode-encode = λ i. record { processes = processes-back i; qubits = c .qubits; channels = c .channels }
 
 -- whatever configuration a run of an accepted table leaves, its 8,192 words give it back
-pub run-back : (p outcomes : List ℕ) (room : ℕ) (schedule : List ℕ) → Accepted p → All (λ o. o < 256) outcomes
+pub run-back : (p outcomes : List ℕ) (room : ℕ) (schedule : List ℕ) → Accepted p → All (λ o. o ≤ 2) outcomes
     → decode (encode (run p outcomes room schedule .state .config)) ≡ run p outcomes room schedule .state .config
 run-back p outcomes room schedule a b =
     decode-encode p (run p outcomes room schedule .state .config) (sound p outcomes room schedule a b .config)

@@ -50,7 +50,7 @@ Full ks q v t = T (not (isEmpty v)) × Fits ks q v t
 -- An instruction of this op stands ready: its argument and its rule of types are kept, and its operands are there.
 pub record Ready (op : Op) (ks : List ℕ) (a : At) : Type 0 where
   pub kept : Kept (a .program)
-  pub outcomes : All (λ o. o < 256) (a .outcomes)
+  pub outcomes : All (λ o. o ≤ 2) (a .outcomes)
   pub channels : length ks ≡ a .channels
   pub argument : T (op .argument (a .program) (a .frame .method) (a .argument))
   -- the types of the operands, and those that the instruction gives

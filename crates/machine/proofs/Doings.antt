@@ -167,7 +167,7 @@ meas-sound ks a r =
     by-outcome g n e (a .outcomes) refl (r .outcomes)
   where
     by-outcome : some (1 ∷ []) ≡ some (r .given) → (n : ℕ) → operand a 0 ≡ ref (qubit n)
-        → (os : List ℕ) → a .outcomes ≡ os → All (λ o. o < 256) os → TypedAt ks a (doMeas a)
+        → (os : List ℕ) → a .outcomes ≡ os → All (λ o. o ≤ 2) os → TypedAt ks a (doMeas a)
     by-outcome g n e [] q h = rw (e, q) (omega arith)
     by-outcome g n e (o ∷ os) q h =
         rw (e, q) (pushes-typed g (r .next refl) (refl, lt→ltb o 2147483648 (omega arith)))

@@ -1,6 +1,6 @@
 -- Applying a typed act keeps the configuration typed: giving away, making, forking and meeting, one by one, and then
 -- any entry.
-use Prim.Native.Nat.{ℕ, _<_}
+use Prim.Native.Nat.{ℕ, _≤_, _<_}
 use native.Mathlib.Omega.{arith}
 use mathlib.Core.Logic.{_≢_}
 use mathlib.Core.Bool.{Bool, true, cond, _&&_, not, Bool·beq}
@@ -193,7 +193,7 @@ meetingIf-typed p outcomes ks k s t (some e) g = meeting-typed p outcomes ks k s
 faults≢idle : (f : ℕ) → _≢_ {A = Act} (faults f) idle
 faults≢idle f e = let z : _≡_ {A = ℕ} 0 1 = cc in omega arith
 
-module _ (p : List ℕ) (k : Kept p) (outcomes : List ℕ) (bytes : All (λ o. o < 256) outcomes)
+module _ (p : List ℕ) (k : Kept p) (outcomes : List ℕ) (bytes : All (λ o. o ≤ 2) outcomes)
     (s : State) (ks : List ℕ) (t : ConfigTyped p ks (s .config)) where
   meetingOf-typed : (n : ℕ) (o : Offer) → OfferTyped p ks (s .config .qubits) o
       → Given (MeetingTyped p ks (s .config .qubits)) (meetingOf p outcomes s n o)

@@ -17,3 +17,4 @@ pub mod Sound
 pub mod Steps
 pub mod Partner
 pub mod Reached
+pub mod NoClick

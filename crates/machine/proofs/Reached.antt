@@ -1,5 +1,5 @@
 -- What is known of a state that a run comes to, and of a process and its frames in it.
-use Prim.Native.Nat.{ℕ, _<_}
+use Prim.Native.Nat.{ℕ, _≤_, _<_}
 use mathlib.Core.Path.{_≡_}
 use mathlib.Core.List.{List, _∷_}
 use lib.ListN.{length}
@@ -16,7 +16,7 @@ use Rattle.machine.proofs.Typing.{ConfigTyped}
 pub record Reached (p outcomes : List ℕ) (s : State) : Type 0 where
   pub kept : Kept p
   pub narrow : (i : ℕ) → argAt p i < 65536
-  pub bytes : All (λ o. o < 256) outcomes
+  pub bytes : All (λ o. o ≤ 2) outcomes
   pub kinds : List ℕ
   pub typed : ConfigTyped p kinds (s .config)
 

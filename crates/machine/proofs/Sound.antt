@@ -1,6 +1,6 @@
 -- Soundness: in every run of a table that passes questions 1 to 5, no process is ever stuck, and everything stays
 -- within the limits. The typing of Typing.antt holds at the start, is kept by every entry, and implies this.
-use Prim.Native.Nat.{ℕ, suc, _<_}
+use Prim.Native.Nat.{ℕ, suc, _≤_, _<_}
 use native.Mathlib.Omega.{arith}
 use mathlib.Core.Path.{_≡_, refl, ap, _∙_}
 use mathlib.Core.List.{List, [], _∷_}
@@ -41,7 +41,7 @@ start-typed p k =
       processes = (record { stack = (main, tt); depth = omega arith }, tt);
     }
 
-module _ (p : List ℕ) (k : Kept p) (outcomes : List ℕ) (bytes : All (λ o. o < 256) outcomes) (room : ℕ) where
+module _ (p : List ℕ) (k : Kept p) (outcomes : List ℕ) (bytes : All (λ o. o ≤ 2) outcomes) (room : ℕ) where
   abbrev Leaves : Result → Type 0
   Leaves r = Typed p (r .state .config)
 
@@ -119,7 +119,7 @@ module _ (p : List ℕ) (k : Kept p) (ks : List ℕ) (c : Config) (t : ConfigTyp
   }
 
 pub sound : (p outcomes : List ℕ) (room : ℕ) (schedule : List ℕ)
-    → Accepted p → All (λ o. o < 256) outcomes
+    → Accepted p → All (λ o. o ≤ 2) outcomes
     → Sound p outcomes (run p outcomes room schedule .state)
 sound p outcomes room schedule a bytes =
     let k = kept p a in

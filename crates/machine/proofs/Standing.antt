@@ -76,7 +76,7 @@ module _ (p : List ℕ) (k : Kept p) {R : Value → ℕ → Type 0} (f : Frame) 
 
 -- What a process would do
 
-module _ (p : List ℕ) (k : Kept p) (outcomes : List ℕ) (bytes : All (λ o. o < 256) outcomes)
+module _ (p : List ℕ) (k : Kept p) (outcomes : List ℕ) (bytes : All (λ o. o ≤ 2) outcomes)
     (s : State) (ks : List ℕ) (t : ConfigTyped p ks (s .config)) where
   abbrev Fitting : Value → ℕ → Type 0
   Fitting = Fits ks (s .config .qubits)
@@ -95,7 +95,7 @@ module _ (p : List ℕ) (k : Kept p) (outcomes : List ℕ) (bytes : All (λ o. o
       let owner = inside-owner p k (top .place) in
       record {
         kept = k;
-        outcomes = All-drop (λ o. o < 256) (s .used) outcomes bytes;
+        outcomes = All-drop (λ o. o ≤ 2) (s .used) outcomes bytes;
         channels = t .channels;
         argument = rw owner at (k .argument i (inside-bound p k (top .place)));
         taken = take (takenAt p i) (before p i);

@@ -59,7 +59,7 @@ unfoldable pub ending : List ℕ → List ℕ → State → ℕ
 ending p outcomes s = cond (allOver s) 1 (cond (noneAble p outcomes s) 2 0)
 
 module _ (p outcomes schedule : List ℕ) where
-  pub at-typed : (k : Kept p) → All (λ o. o < 256) outcomes → (i : ℕ) → Typed p (stateAt p outcomes schedule i .config)
+  pub at-typed : (k : Kept p) → All (λ o. o ≤ 2) outcomes → (i : ℕ) → Typed p (stateAt p outcomes schedule i .config)
   unfolding stateAt startWith afterEffect
   at-typed k bytes zero = ([], start-typed p k)
   at-typed k bytes (suc i) =

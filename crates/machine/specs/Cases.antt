@@ -180,5 +180,5 @@ pub record Cases : Type 0 where
   pub p10-line : lastLine givenDuringCall (replicate 11 0) [] 4 ≡ 10 ∷ 0 ∷ 10 ∷ 20 ∷ 65535 ∷ 65535 ∷ []
   -- P11 main forks a child with end 1, the child returns, main stands at SEND: end 2
   pub p11 : answer sendToGone (replicate 8 0 ++ (1 ∷ 0 ∷ 0 ∷ 0 ∷ 0 ∷ [])) [] ≡ ran 2 11 4 0
-  -- P12 outcome byte 2: 6
-  pub p12 : answer workedTable workedSchedule (2 ∷ []) ≡ refusal 6 0
+  -- P12 outcome byte 2: 6; by Paper 3 "Question 6 and case P12 move to byte 3"
+  pub p12 : answer workedTable workedSchedule (3 ∷ []) ≡ refusal 6 0

@@ -7,3 +7,4 @@ pub mod Owner
 pub mod Sound
 pub mod Answer
 pub mod Cases
+pub mod NoClick

@@ -315,7 +315,7 @@ module _ {p outcomes : List ℕ} {s : State} {t0 : List ℕ} {room : ℕ} (here 
         (λ z. absurd (omega (arith, z, less))) (λ z. absurd (omega (arith, z, less))) (omega (arith, less))
         (loud (100 + op) (atFrame p outcomes s f fs) refl typed-act within-act
         (frame-alone p outcomes s f fs (λ z. absurd (omega (arith, z, e, less))) (λ z. absurd (omega (arith, z, e, less))))
-        (concluded-op outcomes s (live .busy) (sound here rest k n .qubitCount) op e h high)
+        (concluded-op outcomes s (live .busy) (sound here rest k n .qubitCount) (here .reached .bytes) op e h high)
         ∙ ap comes (sym act-here))
 
     at-work : Law

@@ -5,6 +5,7 @@ use mathlib.Core.Path.{_≡_, refl, sym, _∙_, ap, ap₂, subst, subst₂}
 use mathlib.Core.Logic.{⊎-elim}
 use mathlib.Core.Bool.{Bool, true, false, cond, _||_}
 use mathlib.Core.List.{List, [], _∷_}
+use mathlib.Core.Option.{Option, none, some}
 use native.Mathlib.Nat.{mod-eq-of-lt, add-mod-right, le-of-suc-le-suc, not-suc-le-zero}
 use native.Mathlib.Omega.{arith}
 use lib.IntN.{pos}
@@ -13,6 +14,7 @@ use lib.Dec.{eqb, leb, ltb}
 use borrow.Author.Tests.{ltb-true, ltb-false}
 use Rattle.lists.specs.Lists.{All}
 use Rattle.lists.proofs.Tests.{decide}
+use Rattle.lists.proofs.Any.{All-getD}
 use Rattle.table.specs.Table.{opAt}
 use Rattle.table.specs.Ops.{opOf, ops, opNewQ, opNewC, opGate, opMeas, gateQubits}
 use Rattle.table.specs.Reading.{takenAt}
@@ -32,7 +34,7 @@ use Rattle.run_ops.specs.OpsCode.{intVal, pushOn, onTop, dropTop, emptyTwo}
 use Rattle.run_ops.proofs.Places.{headIn, push-words, drop-words, drop-to-words, top-words}
 use Rattle.run_ops.proofs.Meaning.{Height, w, hd, a, scene, act, act-zero, act-one, act-two, act-short, taken-by, tag-test, read-top, read-second}
 use Rattle.run_events.specs.declared.event.EventResult.{EventResult}
-use Rattle.run_events.specs.EventsCode.{AfterEvent, afterEvent, faultEvent, lineEvent, measuredEvent, qubitAt, newqOp, newcOp, dropTwo, gateOne, gateTwo, gateOp, measOp}
+use Rattle.run_events.specs.EventsCode.{AfterEvent, afterEvent, faultEvent, lineEvent, measuredEvent, qubitAt, newqOp, newcOp, dropTwo, gateOne, gateTwo, gateOp, clipped, nextIn, measuredAs, measOp}
 
 -- the answer of an op that does not fault: the outcomes used, and what its line says
 abbrev pub eventOf : ℕ → Event → EventResult
@@ -50,6 +52,14 @@ EventAgrees ends w d = ⊥
 EventAgrees (makes t fs) w d = d ≡ afterEvent (eventOf 0 (making t)) (processWords (runs fs))
 EventAgrees (forks m args fs) w d = ⊥
 EventAgrees (offers o) w d = ⊥
+
+-- an outcome that question 6 lets pass is the routine's
+clipped-same : (o : ℕ) → o ≤ 2 → clipped o ≡ o
+unfolding clipped
+clipped-same zero h = refl
+clipped-same (suc zero) h = refl
+clipped-same (suc (suc zero)) h = refl
+clipped-same (suc (suc (suc o))) h = absurd (omega (arith, h))
 
 -- the outcomes that are left
 drop-some : (os : List ℕ) (n : ℕ) → n < length os → drop n os ≡ getD os n 0 ∷ drop (suc n) os
@@ -311,60 +321,65 @@ module _ {p : List ℕ} (outcomes : List ℕ) (s : State) {f : Frame} {fs : List
 
   -- MEAS
 
-  -- with a qubit, and the outcomes that are left
-  with-outcomes : (n : ℕ) (us : List Value) → f .pending ≡ ref (qubit n) ∷ us
-      → Good
-      (withOutcome (drop (s .used) outcomes) (λ o.
-      goes (push (int (pos o)) (atPlace (suc (f .place)) (withPending us f)) ∷ fs) (measured n o ∷ []) 1))
-      (cond (ltb (s .used) (length outcomes))
-      (afterEvent (measuredEvent (n % 65536) (getD outcomes (s .used) 0)) (onTop words top (intVal (getD outcomes (s .used) 0))))
-      (afterEvent (faultEvent 24) words))
-  unfolding valOf tagOf numberOf valueWords word32
-  with-outcomes n us q = ⊎-elim some none (decide (ltb (s .used) (length outcomes)))
-    where
-      answer : Bool → AfterEvent
-      answer b =
-          cond b
-          (afterEvent (measuredEvent (n % 65536) (getD outcomes (s .used) 0)) (onTop words top (intVal (getD outcomes (s .used) 0))))
-          (afterEvent (faultEvent 24) words)
+  -- what a measurement of qubit n leaves, by the next outcome
+  outcome-words : ℕ → Option ℕ → AfterEvent
+  outcome-words n none = afterEvent (faultEvent 24) words
+  outcome-words n (some o) = afterEvent (measuredEvent n o) (onTop words top (intVal o))
 
-      onward : List ℕ → Act
-      onward os =
-          withOutcome os (λ o. goes (push (int (pos o)) (atPlace (suc (f .place)) (withPending us f)) ∷ fs) (measured n o ∷ []) 1)
+  measured-words : (o : Option ℕ) → measuredAs words top o ≡ outcome-words (qubitAt words top 1) o
+  unfolding measuredAs outcome-words
+  measured-words none = refl
+  measured-words (some o) = refl
 
-      some : ltb (s .used) (length outcomes) ≡ true → Good (onward (drop (s .used) outcomes)) (answer (ltb (s .used) (length outcomes)))
-      some t =
-          by (ap onward (drop-some outcomes (s .used) (ltb-true (s .used) (length outcomes) t))) (ap answer t)
-          (λ h. ap₂ (λ (m : ℕ) (l : List ℕ). afterEvent (measuredEvent m (getD outcomes (s .used) 0)) l)
-          (fits-line n (pending-sound (ref (qubit n) ∷ us) q .0))
-          (top-words (busy .stack) (ref (qubit n)) (int (pos (getD outcomes (s .used) 0))) us q))
+  module _ (bytes : All (λ o. o ≤ 2) outcomes) where
+    -- with a qubit, and the outcomes that are left
+    with-outcomes : (n : ℕ) (us : List Value) → f .pending ≡ ref (qubit n) ∷ us
+        → Good
+        (withOutcome (drop (s .used) outcomes) (λ o.
+        goes (push (int (pos o)) (atPlace (suc (f .place)) (withPending us f)) ∷ fs) (measured n o ∷ []) 1))
+        (outcome-words (n % 65536) (nextIn outcomes (s .used)))
+    unfolding valOf tagOf numberOf valueWords word32 outcome-words nextIn
+    with-outcomes n us q = ⊎-elim one-left none-left (decide (ltb (s .used) (length outcomes)))
+      where
+        next : ℕ
+        next = getD outcomes (s .used) 0
 
-      none : ltb (s .used) (length outcomes) ≡ false → Good (onward (drop (s .used) outcomes)) (answer (ltb (s .used) (length outcomes)))
-      none t =
-          by (ap onward (drop-none outcomes (s .used) (ltb-false (s .used) (length outcomes) t))) (ap answer t) (λ h. refl)
+        answer : Bool → AfterEvent
+        answer b = outcome-words (n % 65536) (cond b (some (clipped next)) none)
 
-  on-measured : (u : Value) (us : List Value) → f .pending ≡ u ∷ us
-      → Good (cond (isEmpty u || false) (faults 20) (doMeas (stage 1 (u ∷ us))))
-      (cond (isEmpty u) (afterEvent (faultEvent 20) words)
-      (cond (ltb (s .used) (length outcomes))
-      (afterEvent (measuredEvent (valOf u .number % 65536) (getD outcomes (s .used) 0)) (onTop words top (intVal (getD outcomes (s .used) 0))))
-      (afterEvent (faultEvent 24) words)))
-  unfolding doMeas valOf numberOf valueWords
-  on-measured empty us q h = refl
-  on-measured (int z) us q h = tt
-  on-measured (bool b) us q h = tt
-  on-measured (ref (qubit n)) us q h = with-outcomes n us q h
-  on-measured (ref (channel n)) us q h = tt
-  on-measured (ref (end n r)) us q h = tt
+        onward : List ℕ → Act
+        onward os =
+            withOutcome os (λ o. goes (push (int (pos o)) (atPlace (suc (f .place)) (withPending us f)) ∷ fs) (measured n o ∷ []) 1)
 
-  pub meas-event : opAt p (f .place) ≡ 11 → Good does (measOp words top outcomes (s .used))
-  unfolding measOp doingOf doings opOf ops opMeas
-  meas-event e =
-      one-op 11 (measOp words top outcomes (s .used)) e (taken-by outcomes s busy 11 e)
-      (λ u us q.
-      as-left (cond (isEmpty u || false) (faults 20) (doMeas (stage 1 (u ∷ us))))
-      (read-one u us
-      (λ n. cond (ltb (s .used) (length outcomes))
-      (afterEvent (measuredEvent n (getD outcomes (s .used) 0)) (onTop words top (intVal (getD outcomes (s .used) 0))))
-      (afterEvent (faultEvent 24) words)) q)
-      (on-measured u us q))
+        one-left : ltb (s .used) (length outcomes) ≡ true → Good (onward (drop (s .used) outcomes)) (answer (ltb (s .used) (length outcomes)))
+        one-left t =
+            by (ap onward (drop-some outcomes (s .used) (ltb-true (s .used) (length outcomes) t)))
+            (ap answer t ∙ ap (λ (o : ℕ). outcome-words (n % 65536) (some o)) (clipped-same next (All-getD (λ o. o ≤ 2) outcomes (s .used) 0 bytes (omega arith))))
+            (λ h. ap₂ (λ (m : ℕ) (l : List ℕ). afterEvent (measuredEvent m next) l)
+            (fits-line n (pending-sound (ref (qubit n) ∷ us) q .0))
+            (top-words (busy .stack) (ref (qubit n)) (int (pos next)) us q))
+
+        none-left : ltb (s .used) (length outcomes) ≡ false → Good (onward (drop (s .used) outcomes)) (answer (ltb (s .used) (length outcomes)))
+        none-left t =
+            by (ap onward (drop-none outcomes (s .used) (ltb-false (s .used) (length outcomes) t))) (ap answer t) (λ h. refl)
+
+    on-measured : (u : Value) (us : List Value) → f .pending ≡ u ∷ us
+        → Good (cond (isEmpty u || false) (faults 20) (doMeas (stage 1 (u ∷ us))))
+        (cond (isEmpty u) (afterEvent (faultEvent 20) words) (outcome-words (valOf u .number % 65536) (nextIn outcomes (s .used))))
+    unfolding doMeas valOf numberOf valueWords
+    on-measured empty us q h = refl
+    on-measured (int z) us q h = tt
+    on-measured (bool b) us q h = tt
+    on-measured (ref (qubit n)) us q h = with-outcomes n us q h
+    on-measured (ref (channel n)) us q h = tt
+    on-measured (ref (end n r)) us q h = tt
+
+    pub meas-event : opAt p (f .place) ≡ 11 → Good does (measOp words top outcomes (s .used))
+    unfolding measOp doingOf doings opOf ops opMeas
+    meas-event e =
+        one-op 11 (measOp words top outcomes (s .used)) e (taken-by outcomes s busy 11 e)
+        (λ u us q.
+        as-left (cond (isEmpty u || false) (faults 20) (doMeas (stage 1 (u ∷ us))))
+        (ap (cond (eqb (valueAt words (topAt top 1) .tag) 0) (afterEvent (faultEvent 20) words)) (measured-words (nextIn outcomes (s .used)))
+        ∙ read-one u us (λ n. outcome-words n (nextIn outcomes (s .used))) q)
+        (on-measured u us q))

@@ -4,9 +4,11 @@ use Prim.Native.Nat.{ℕ, zero, suc, _+_, _≤_, _<_}
 use mathlib.Core.Path.{_≡_, refl, sym, _∙_, ap, subst}
 use mathlib.Core.Bool.{Bool, true, false, true≢false}
 use mathlib.Core.List.{List, [], _∷_}
+use mathlib.Core.Option.{Option, none, some}
 use native.Mathlib.Omega.{arith}
 use lib.ListN.{getD, length}
 use lib.Dec.{eqb, ltb, leb}
+use Rattle.lists.specs.Lists.{All}
 use Rattle.lists.proofs.Tests.{cond-both}
 use Rattle.table.specs.Table.{opAt, argAt}
 use Rattle.machine.specs.State.{Frame, State, finished, stopped, finishes}
@@ -20,7 +22,7 @@ use Rattle.run_store.specs.StoreCode.{valueAt, headOf, topAt}
 use Rattle.run_ops.specs.OpsCode.{emptyTwo}
 use Rattle.run_ops.proofs.Places.{head-is}
 use Rattle.run_ops.proofs.Meaning.{Height, w, hd, act}
-use Rattle.run_events.specs.EventsCode.{AfterEvent, afterEvent, faultEvent, lineEvent, qubitAt, newqOp, newcOp, gateOne, gateTwo, gateOp, measOp}
+use Rattle.run_events.specs.EventsCode.{AfterEvent, afterEvent, faultEvent, lineEvent, qubitAt, newqOp, newcOp, gateOne, gateTwo, gateOp, nextIn, measuredAs, measOp}
 use Rattle.run_events.specs.ConcludeCode.{performOp, withStatus, concludeOp}
 use Rattle.run_events.proofs.Answers.{eventOf, EventAgrees, newq-event, newc-event, gate-event, meas-event}
 use Rattle.run_events.proofs.Ended.{stopped-words, finished-words}
@@ -51,11 +53,15 @@ gate-apart w h a =
     (cond-both Apart (emptyTwo w h) (λ z. absurd (omega arith))
     (cond-both Apart (eqb (qubitAt w h 2) (qubitAt w h 1)) (λ z. absurd (omega arith)) (λ z. (λ e. omega arith, λ e. omega arith))))
 
+measured-apart : (w : List ℕ) (h : Head) (o : Option ℕ) → Apart (measuredAs w h o)
+unfolding measuredAs
+measured-apart w h none = λ z. absurd (omega arith)
+measured-apart w h (some o) = λ z. (λ e. omega arith, λ e. omega arith)
+
 meas-apart : (w : List ℕ) (h : Head) (os : List ℕ) (u : ℕ) → Apart (measOp w h os u)
 unfolding measOp
 meas-apart w h os u =
-    cond-both Apart (eqb (valueAt w (topAt h 1) .tag) 0) (λ z. absurd (omega arith))
-    (cond-both Apart (ltb u (length os)) (λ z. (λ e. omega arith, λ e. omega arith)) (λ z. absurd (omega arith)))
+    cond-both Apart (eqb (valueAt w (topAt h 1) .tag) 0) (λ z. absurd (omega arith)) (measured-apart w h (nextIn os u))
 
 module _ {p : List ℕ} (outcomes : List ℕ) (s : State) {f : Frame} {fs : List Frame} (busy : AtWork p (s .config) f fs)
     (few : s .config .qubits ≤ 32) where
@@ -123,28 +129,28 @@ module _ {p : List ℕ} (outcomes : List ℕ) (s : State) {f : Frame} {fs : List
   by-head answer a t =
       subst (λ (h : Head). Concluded does (withStatus (answer h))) (sym (head-is (busy .stack))) (settles does (answer top) a t)
 
-  pub concluded-op : (k : ℕ) → opAt p (f .place) ≡ k → isTelling k ≡ true → Height (atFrame p outcomes s f fs)
+  pub concluded-op : All (λ o. o ≤ 2) outcomes → (k : ℕ) → opAt p (f .place) ≡ k → isTelling k ≡ true → Height (atFrame p outcomes s f fs)
       → Concluded (atFrame p outcomes s f fs)
       (concludeOp p (processWords (runs (f ∷ fs))) (100 + k) (s .config .qubits) (s .config .channels) outcomes (s .used))
   unfolding concludeOp performOp
-  concluded-op zero e t h = absurd (true≢false (sym t))
-  concluded-op (suc zero) e t h = absurd (true≢false (sym t))
-  concluded-op (suc (suc zero)) e t h = absurd (true≢false (sym t))
-  concluded-op (suc (suc (suc zero))) e t h = absurd (true≢false (sym t))
-  concluded-op (suc (suc (suc (suc zero)))) e t h = absurd (true≢false (sym t))
-  concluded-op (suc (suc (suc (suc (suc zero))))) e t h = absurd (true≢false (sym t))
-  concluded-op (suc (suc (suc (suc (suc (suc zero)))))) e t h = absurd (true≢false (sym t))
-  concluded-op (suc (suc (suc (suc (suc (suc (suc zero))))))) e t h =
+  concluded-op bytes zero e t h = absurd (true≢false (sym t))
+  concluded-op bytes (suc zero) e t h = absurd (true≢false (sym t))
+  concluded-op bytes (suc (suc zero)) e t h = absurd (true≢false (sym t))
+  concluded-op bytes (suc (suc (suc zero))) e t h = absurd (true≢false (sym t))
+  concluded-op bytes (suc (suc (suc (suc zero)))) e t h = absurd (true≢false (sym t))
+  concluded-op bytes (suc (suc (suc (suc (suc zero))))) e t h = absurd (true≢false (sym t))
+  concluded-op bytes (suc (suc (suc (suc (suc (suc zero)))))) e t h = absurd (true≢false (sym t))
+  concluded-op bytes (suc (suc (suc (suc (suc (suc (suc zero))))))) e t h =
       by-head (λ g. newqOp words g (s .config .qubits)) (newq-apart words top (s .config .qubits))
       (newq-event outcomes s busy few e h)
-  concluded-op (suc (suc (suc (suc (suc (suc (suc (suc zero)))))))) e t h =
+  concluded-op bytes (suc (suc (suc (suc (suc (suc (suc (suc zero)))))))) e t h =
       by-head (λ g. newcOp words g (s .config .channels)) (newc-apart words top (s .config .channels))
       (newc-event outcomes s busy few e h)
-  concluded-op (suc (suc (suc (suc (suc (suc (suc (suc (suc zero))))))))) e t h = absurd (true≢false (sym t))
-  concluded-op (suc (suc (suc (suc (suc (suc (suc (suc (suc (suc zero)))))))))) e t h =
+  concluded-op bytes (suc (suc (suc (suc (suc (suc (suc (suc (suc zero))))))))) e t h = absurd (true≢false (sym t))
+  concluded-op bytes (suc (suc (suc (suc (suc (suc (suc (suc (suc (suc zero)))))))))) e t h =
       by-head (λ g. gateOp words g (argAt p (g .place))) (gate-apart words top (argAt p (f .place)))
       (gate-event outcomes s busy few e h)
-  concluded-op (suc (suc (suc (suc (suc (suc (suc (suc (suc (suc (suc zero))))))))))) e t h =
+  concluded-op bytes (suc (suc (suc (suc (suc (suc (suc (suc (suc (suc (suc zero))))))))))) e t h =
       by-head (λ g. measOp words g outcomes (s .used)) (meas-apart words top outcomes (s .used))
-      (meas-event outcomes s busy few e h)
-  concluded-op (suc (suc (suc (suc (suc (suc (suc (suc (suc (suc (suc (suc k)))))))))))) e t h = absurd (true≢false (sym t))
+      (meas-event outcomes s busy few bytes e h)
+  concluded-op bytes (suc (suc (suc (suc (suc (suc (suc (suc (suc (suc (suc (suc k)))))))))))) e t h = absurd (true≢false (sym t))

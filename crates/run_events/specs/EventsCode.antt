@@ -3,6 +3,7 @@
 use Prim.Native.Nat.{ℕ, _%_}
 use mathlib.Core.Bool.{cond}
 use mathlib.Core.List.{List}
+use mathlib.Core.Option.{Option, none, some}
 use lib.ListN.{getD, length}
 use lib.Dec.{eqb, ltb}
 use Rattle.table.specs.Ops.{oneQubit}
@@ -64,10 +65,17 @@ gateTwo w h a =
 unfoldable pub gateOp : List ℕ → Head → ℕ → AfterEvent
 gateOp w h a = cond (oneQubit a) (gateOne w h a) (gateTwo w h a)
 
+-- a byte as an outcome, and the outcome after the first `used`, if one is left; question 6 leaves no byte above 2
+unfoldable pub clipped : ℕ → ℕ
+clipped o = cond (eqb o 0) 0 (cond (eqb o 1) 1 2)
+
+unfoldable pub nextIn : List ℕ → ℕ → Option ℕ
+nextIn outcomes used = cond (ltb used (length outcomes)) (some (clipped (getD outcomes used 0))) none
+
+unfoldable pub measuredAs : List ℕ → Head → Option ℕ → AfterEvent
+measuredAs w h none = afterEvent (faultEvent 24) w
+measuredAs w h (some o) = afterEvent (measuredEvent (qubitAt w h 1) o) (onTop w h (intVal o))
+
 unfoldable pub measOp : List ℕ → Head → List ℕ → ℕ → AfterEvent
 measOp w h outcomes used =
-    cond (eqb (valueAt w (topAt h 1) .tag) 0)
-    (afterEvent (faultEvent 20) w)
-    (cond (ltb used (length outcomes))
-    (afterEvent (measuredEvent (qubitAt w h 1) (getD outcomes used 0)) (onTop w h (intVal (getD outcomes used 0))))
-    (afterEvent (faultEvent 24) w))
+    cond (eqb (valueAt w (topAt h 1) .tag) 0) (afterEvent (faultEvent 20) w) (measuredAs w h (nextIn outcomes used))

@@ -1,3 +1,4 @@
+pub mod Outcome
 pub mod EventsCode
 pub mod EndsCode
 pub mod ConcludeCode

@@ -6,3 +6,4 @@ pub mod event;
 pub mod gates;
 pub mod made;
 pub mod measured;
+pub mod outcome;

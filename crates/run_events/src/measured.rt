@@ -1,17 +1,49 @@
 // MEAS.
 ghost use mathlib.Core.Path.{_≡_};
-ghost use Rattle.run_events.specs.EventsCode.{afterEvent, measOp};
+ghost use mathlib.Core.Option.{some};
+ghost use Rattle.run_events.specs.EventsCode.{afterEvent, nextIn, measuredAs, measOp};
 use super::event::EventResult;
 use super::event::fault;
 use super::event::measured;
 use super::gates::qubit_no;
+use super::outcome::Outcome;
+use super::outcome::next_outcome;
 use run_ops::moves::replace;
 use run_store::head::Head;
 use run_store::references::QubitNo;
 use run_store::values::Val;
 use run_store::values::value;
 
-// "qubit off, next outcome on as int"; "24 no outcome left". `used` outcomes are used.
+// "qubit off, next outcome on as int"
+fn measure(w: &mut [u32], h: Head, outcome: u8) -> EventResult
+    ensures { λ r. ⌜ afterEvent r (now (w .exit)) ≡ measuredAs (now (w .entry)) h (some outcome) ⌝ }
+{
+    let q = qubit_no(w, h, 1);
+    replace(
+        w,
+        h,
+        Val {
+            tag: 1,
+            number: outcome as u32,
+        },
+    );
+    measured(q.0, outcome)
+}
+
+// "24 no outcome left", the first `used` being used.
+fn measure_next(w: &mut [u32], h: Head, outcomes: &[u8], used: usize) -> EventResult
+    ensures { λ r. ⌜ afterEvent r (now (w .exit)) ≡ measuredAs (now (w .entry)) h (nextIn (now (outcomes .entry)) used) ⌝ }
+{
+    let o = next_outcome(outcomes, used);
+    match o {
+        Outcome::Zero => measure(w, h, 0),
+        Outcome::One => measure(w, h, 1),
+        Outcome::NoClick => measure(w, h, 2),
+        Outcome::NoneLeft => fault(24),
+    }
+}
+
+// "20 .. (before all others ..)".
 pub fn op_meas(w: &mut [u32], h: Head, outcomes: &[u8], used: usize) -> EventResult
     ensures { λ r. ⌜ afterEvent r (now (w .exit)) ≡ measOp (now (w .entry)) h (now (outcomes .entry)) used ⌝ }
 {
@@ -19,18 +51,5 @@ pub fn op_meas(w: &mut [u32], h: Head, outcomes: &[u8], used: usize) -> EventRes
     if v.tag == 0 {
         return fault(20);
     }
-    if used < outcomes.len() {
-        let o = outcomes[used];
-        let q = qubit_no(w, h, 1);
-        replace(
-            w,
-            h,
-            Val {
-                tag: 1,
-                number: o as u32,
-            },
-        );
-        return measured(q.0, o);
-    }
-    fault(24)
+    measure_next(w, h, outcomes, used)
 }

@@ -55,11 +55,11 @@ module _ (p schedule outcomes : List ℕ) (words : ℕ) (ok : questions p schedu
   unfolding questions
   inputs = and-second (tableQuestions p) _ ok
 
-  pub outcomes-small : All (λ o. o < 256) outcomes
+  pub outcomes-small : All (λ o. o ≤ 2) outcomes
   unfolding question6
   outcomes-small =
-      all-from (λ o. o < 256) outcomes (λ i l.
-      omega (arith, leb-true (getD outcomes i 0) 1 (none-first 6 (λ j. leb (getD outcomes j 0) 1) (length outcomes) (and-first (question6 outcomes) _ inputs) i l)))
+      all-from (λ o. o ≤ 2) outcomes (λ i l.
+      omega (arith, leb-true (getD outcomes i 0) 2 (none-first 6 (λ j. leb (getD outcomes j 0) 2) (length outcomes) (and-first (question6 outcomes) _ inputs) i l)))
 
   pub schedule-short : length schedule ≤ 65535
   unfolding question7

@@ -51,7 +51,7 @@ use Rattle.run_schedule.proofs.Modest.{modest}
 pub record Inputs (p schedule outcomes t0 rest : List ℕ) (room : ℕ) : Type 0 where
   pub kept : Kept p
   pub narrow : (i : ℕ) → argAt p i < 65536
-  pub bytes : All (λ o. o < 256) outcomes
+  pub bytes : All (λ o. o ≤ 2) outcomes
   pub short : length schedule ≤ 65535
   pub holds : 6 * room ≤ length t0
 

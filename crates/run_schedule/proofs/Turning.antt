@@ -37,21 +37,17 @@ pub record Going (p schedule outcomes : List ℕ) (room : ℕ) (rest t0 work tra
   pub given : Inputs p schedule outcomes t0 rest room
   pub stands : Burst-good given trace t lines used (stopsAt b work)
 
--- words of 16 bits, and bytes
+-- words of 16 bits
 narrow-words : (p : List ℕ) → ((i : ℕ) → getD p i 0 < 65536) → (i : ℕ) → argAt p i < 65536
 unfolding argAt word
 narrow-words p h i = h (3 + 20 * methods p + 2 * i)
 
-all-bytes : (xs : List ℕ) → ((i : ℕ) → getD xs i 0 < 256) → All (λ x. x < 256) xs
-all-bytes [] h = tt
-all-bytes (x ∷ xs) h = (h 0, all-bytes xs (λ i. h (suc i)))
-
-pub inputs : (p schedule outcomes t0 : List ℕ) {rest : List ℕ} {room : ℕ} → Kept p → ((i : ℕ) → getD p i 0 < 65536) → ((i : ℕ) → getD outcomes i 0 < 256)
+pub inputs : (p schedule outcomes t0 : List ℕ) {rest : List ℕ} {room : ℕ} → Kept p → ((i : ℕ) → getD p i 0 < 65536) → All (λ o. o ≤ 2) outcomes
     → length schedule ≤ 65535 → room ≡ length t0 / 6 → Inputs p schedule outcomes t0 rest room
 inputs p schedule outcomes t0 kept words bytes short room = record {
   kept = kept;
   narrow = narrow-words p words;
-  bytes = all-bytes outcomes bytes;
+  bytes = bytes;
   short = short;
   holds = omega (arith, room);
 }

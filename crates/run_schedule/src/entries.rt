@@ -3,6 +3,7 @@ ghost use mathlib.Core.Path.{_≡_};
 ghost use Prim.Native.Nat.{_+_, _*_, _/_, _<_, _≤_};
 ghost use mathlib.Core.List.{_++_};
 ghost use lib.ListN.{length, drop};
+ghost use Rattle.lists.specs.Lists.{All};
 ghost use Rattle.table.specs.Table.{methods};
 ghost use Rattle.table.proofs.Accepted.{Kept};
 ghost use Rattle.machine.specs.State.{startConfig};
@@ -36,7 +37,7 @@ pub fn run_entries(
     room: usize,
 ) -> RunSummary
     requires { ⌜ (start ≡ 2 + 20 * methods (now p)) × (8192 ≤ length (now work)) × (length (now schedule) ≤ 65535) × (room ≡ length (now trace) / 6)
-        × Kept (now p) × (now work ≡ encode (startConfig (now p)) ++ drop 8192 (now work)) ⌝ }
+        × Kept (now p) × (now work ≡ encode (startConfig (now p)) ++ drop 8192 (now work)) × All (λ o. o ≤ 2) (now outcomes) ⌝ }
     ensures { λ r. ⌜ afterRun r (now (trace .exit)) (now (work .exit)) ≡ runLeaves (run (now (p .entry)) (now (outcomes .entry)) room (now (schedule .entry))) (now (trace .entry)) (now (work .entry)) ⌝ }
 {
     let mut t = no_holders();

@@ -80,9 +80,12 @@ question4 p = firstOf 4 (instructionKept p) (instructions p)
 unfoldable pub question5 : List ℕ → Verdict
 question5 p = firstOf 5 (reads p) (instructions p)
 
--- "Is each outcome byte 0 or 1? 6 (its index)"
+-- "Is each outcome byte 0 or 1? 6 (its index)", and by Paper 3 "Outcome byte 2 is now allowed and means no click"
+abbrev pub isOutcome : ℕ → Bool
+isOutcome o = leb o 2
+
 unfoldable pub question6 : List ℕ → Verdict
-question6 outcomes = firstOf 6 (λ i. leb (getD outcomes i 0) 1) (length outcomes)
+question6 outcomes = firstOf 6 (λ i. isOutcome (getD outcomes i 0)) (length outcomes)
 
 -- "Has the schedule at most 65,535 bytes? 7 (0)"
 unfoldable pub question7 : List ℕ → Verdict

@@ -1,5 +1,5 @@
-//! The library's run beside what document 01 and docs/LAYOUT.md say word by
-//! word: no model stands between.
+//! The library's run beside what documents 01 and 02 and docs/LAYOUT.md say word
+//! by word: no model stands between.
 
 use data::program::{op::*, table, Method};
 use lanq::{decode, run_in, Answer, End, Question, Refusal, WORK_WORDS};
@@ -32,11 +32,15 @@ const SCHEDULE: [u8; 18] = [0, 0, 0, 0, 0, 0, 0, 0, 0, 0, 0, 1, 0, 0, 0, 1, 1, 0
 /// End, entries, lines and outcomes.
 type Counts = (u16, usize, usize, usize);
 
-/// The counts of a run, with its lines and its store.
+/// The counts of a run without outcomes, with its lines and its store.
 fn ran(program: &[u16], schedule: &[u8]) -> (Counts, Vec<[u16; 6]>, Vec<u32>) {
+    ran_with(program, schedule, &[])
+}
+
+fn ran_with(program: &[u16], schedule: &[u8], outcomes: &[u8]) -> (Counts, Vec<[u16; 6]>, Vec<u32>) {
     let mut trace = vec![7; 6 * 100];
     let mut work = vec![7; WORK_WORDS];
-    let answer = run_in(program, schedule, &[], &mut trace, &mut work).expect("it runs");
+    let answer = run_in(program, schedule, outcomes, &mut trace, &mut work).expect("it runs");
     let Answer { end, entries, lines, outcomes } = answer;
     let written = trace.chunks_exact(6).take(lines);
     let written = written.map(|six| six.try_into().expect("six words")).collect();
@@ -102,7 +106,8 @@ fn p4_p12_refusals_keep_every_word() {
         assert_eq!(work, vec![9; WORK_WORDS]);
     };
     refused(short, &[], Question::Sizes, 0);
-    refused(&whole, &[0, 1, 2, 3], Question::Outcomes, 2);
+    // Paper 3: P12 has moved to byte 3.
+    refused(&whole, &[0, 1, 2, 3], Question::Outcomes, 3);
     refused(&[], &[], Question::Sizes, 0);
 }
 
@@ -177,6 +182,22 @@ fn p11_the_partner_is_gone() {
         assert_eq!(ran(&program, &schedule[..used]).0, (2, 11, 4, 0));
     }
     assert_eq!(ran(&program, &schedule[..10]).0, (0, 10, 3, 0));
+}
+
+/// Paper 3: "MEAS pushes 2 and the line says 2", and "A run without any 2 gives
+/// what it gave before".
+#[test]
+fn no_click() {
+    let code =
+        [(NEWQ, 0), (PUT, 0), (MEAS, 0), (PUT, 1), (DROP, 0), (GET, 0), (MEAS, 0), (PUT, 2), (DROP, 0), (RET, 0)];
+    let program = table(&[method(0, &[], &[3, 1, 1], &code)]);
+    for outcomes in [[0, 1], [1, 1], [2, 1], [0, 2], [2, 2]] {
+        let (answer, lines, work) = ran_with(&program, &[0; 9], &outcomes);
+        let [first, second] = outcomes.map(u16::from);
+        assert_eq!(lines, [[0, 0, 1, 0, U, U], [2, 0, 4, 0, first, U], [6, 0, 4, 0, second, U]]);
+        assert_eq!(answer, (0, 9, 3, 2));
+        assert_eq!(work[578..582], [1, u32::from(first), 1, u32::from(second)]);
+    }
 }
 
 /// The longest schedule, to its last entry.

@@ -29,6 +29,11 @@ fn printed(file: &[u8]) -> String {
     String::from_utf8(output.stdout).unwrap()
 }
 
+/// Whether the text has a measurement without a click.
+fn has_no_click(text: &str) -> bool {
+    text.lines().any(|line| line.split(' ').nth(2) == Some("4") && line.ends_with(" 2 -"))
+}
+
 /// The refusal's number or, for a run, nothing; and the kinds of its lines.
 fn met(text: &str) -> (Option<u32>, Vec<u32>) {
     let refused = text.strip_prefix("refused ").map(|rest| rest.split(' ').next().unwrap().parse().unwrap());
@@ -40,12 +45,14 @@ fn met(text: &str) -> (Option<u32>, Vec<u32>) {
 fn prints_what_the_model_prints() {
     let mut refusals = [0; 10];
     let mut kinds = [0; 11];
+    let mut no_clicks = 0;
     let mut compare = |bytes: &[u8]| {
         let text = model::print::print(bytes);
         assert_eq!(printed(bytes), text, "{bytes:?}");
         let (refused, lines) = met(&text);
         refusals[refused.unwrap_or(0) as usize] += 1;
         lines.iter().for_each(|kind| kinds[*kind as usize] += 1);
+        no_clicks += usize::from(has_no_click(&text));
     };
     for seed in 0..600 {
         compare(&file(seed));
@@ -63,4 +70,5 @@ fn prints_what_the_model_prints() {
     for (kind, count) in kinds.iter().enumerate().skip(1) {
         assert!(*count > 0, "no file printed a line of kind {kind}");
     }
+    assert!(no_clicks > 10, "{no_clicks} files printed a measurement without a click");
 }

@@ -4,7 +4,8 @@
 //! Nothing here says what the machine does. A type has the numbers that
 //! document 01 gives to its cases, and words for them; how a run comes about is
 //! told by the model and, apart from it, by the proved library. "01" in a
-//! comment means that document; words in quotation marks are taken from it.
+//! comment means that document, "Paper 3" the third paper of document 02; words
+//! in quotation marks are taken from them.
 //!
 //! - [`refusal`]: the questions, and a refusal
 //! - [`run`]: ends, the answer of a run, and a run with all it leaves

@@ -87,6 +87,7 @@ pub enum Event {
         qubit: u16,
         second: Option<u16>,
     },
+    /// The outcome is 0, 1 or, by Paper 3, 2 for no click.
     Measured {
         qubit: u16,
         outcome: u8,

@@ -70,7 +70,7 @@ impl fmt::Display for Question {
                  none after DROP, CLEAR, RET, FORK, SEND, JUMP and JFALSE and none before a jump's target, \
                  and does the method close on RET or JUMP?"
             }
-            Question::Outcomes => "Is each outcome 0 or 1?",
+            Question::Outcomes => "Is each outcome 0, 1 or 2?",
             Question::Schedule => "Has the schedule at most 65,535 entries?",
             Question::WorkStore => "Has the work store at least 8,192 words?",
             Question::File => "Is the file built as docs/LAYOUT.md says?",

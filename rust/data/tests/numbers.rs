@@ -29,7 +29,8 @@ fn numbers_are_those_of_01() {
     assert!(Gate::ALL.iter().all(|gate| gate.takes_two() == (gate.number() > 5)));
 }
 
-/// The lines of the run that 01 gives whole, and two more kinds.
+/// The lines of the run that 01 gives whole, and two more kinds; of the
+/// measurements one without a click.
 #[test]
 fn lines_and_what_they_tell() {
     let u = 65_535;
@@ -39,6 +40,7 @@ fn lines_and_what_they_tell() {
         ([9, 2, 3, 6, 4, 1], Event::Gate { gate: Gate::Cx, qubit: 4, second: Some(1) }, "9 2 3 6 4 1"),
         ([15, 1, 3, 4, 0, u], Event::Gate { gate: Gate::H, qubit: 0, second: None }, "15 1 3 4 0 -"),
         ([9, 2, 4, 31, 1, u], Event::Measured { qubit: 31, outcome: 1 }, "9 2 4 31 1 -"),
+        ([9, 2, 4, 31, 2, u], Event::Measured { qubit: 31, outcome: 2 }, "9 2 4 31 2 -"),
         ([10, 0, 5, 1, 1, 1], Event::Forked { child: 1, method: 1, arguments: 1 }, "10 0 5 1 1 1"),
         ([10, 0, 6, 1, 6, 0], Event::Gave { to: 1, thing: Thing::End(0, Side::One) }, "10 0 6 1 6 0"),
         ([14, 0, 7, 1, 0, 0], Event::Met { receiver: 1, channel: 0, side: Side::Zero }, "14 0 7 1 0 0"),

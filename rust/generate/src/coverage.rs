@@ -143,6 +143,9 @@ impl Coverage {
     fn lines(&mut self, lines: &[Line], before: &Machine, process: usize) {
         for line in lines {
             self.add(Mark::Kind(line.kind));
+            if line.kind == 4 {
+                self.add(Mark::Measured(line.b));
+            }
         }
         match lines {
             [met, ..] if met.kind == 7 => self.add(Mark::Met {

@@ -149,7 +149,7 @@ fn outcomes(outcomes: &mut Vec<u8>, random: &mut Random) {
         outcomes.push(0);
     }
     let index = random.below(outcomes.len());
-    outcomes[index] = random.pick(&[2, 3, 128, 255]);
+    outcomes[index] = random.pick(&[3, 4, 128, 255]);
 }
 
 /// Question 7, and the longest schedule that passes.

@@ -71,8 +71,7 @@ fn methods(random: &mut Random) -> (Vec<Method>, usize) {
 /// Finds a schedule and lengths for a table that passes the questions.
 fn run_case(words: &[u16], most: usize, random: &mut Random) -> Case {
     let program = check(words, &[], &[], WORK_WORDS).expect("generated tables pass");
-    let count = random.pick(&[0, 1, 3, 8, 30, 30, 30]);
-    let outcomes: Vec<u8> = (0..count).map(|_| random.below(2) as u8).collect();
+    let outcomes = outcomes(random);
     let schedule = schedule::schedule(&program, &outcomes, most, random);
     let trace_len = trace_len(&program, &schedule, &outcomes, random);
     Case {
@@ -82,6 +81,13 @@ fn run_case(words: &[u16], most: usize, random: &mut Random) -> Case {
         trace_len,
         work_len: random.pick(&[WORK_WORDS, WORK_WORDS, WORK_WORDS + 1, 10_000]),
     }
+}
+
+/// An outcome list; in every second one detectors miss at times.
+fn outcomes(random: &mut Random) -> Vec<u8> {
+    let count = random.pick(&[0, 1, 3, 8, 30, 30, 30]);
+    let values = random.pick(&[2, 3]);
+    (0..count).map(|_| random.below(values) as u8).collect()
 }
 
 /// Words for the trace: ample, just enough, just too few, or nearly none.

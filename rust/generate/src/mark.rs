@@ -33,6 +33,8 @@ pub enum Mark {
         op: u16,
     },
     Kind(u16),
+    /// A measurement, by its outcome.
+    Measured(u16),
     /// A meeting, by carried type, the sender's side, and who was named.
     Met {
         carried: u16,
@@ -90,6 +92,7 @@ pub fn all_marks() -> Vec<Mark> {
     marks.extend(meeting_marks());
     marks.extend(giving_marks());
     marks.extend((1..=10).map(Mark::Kind));
+    marks.extend((0..=2).map(Mark::Measured));
     marks.extend((0..=3).map(Mark::End));
     marks.extend((0..=2).map(Mark::EndAfterLast));
     marks.extend([

@@ -11,7 +11,8 @@ use crate::trace::lines;
 /// arguments.
 const LINES_OF_AN_ENTRY: usize = 9;
 
-/// Puts the questions about a program, a schedule and an outcome list.
+/// Puts the questions about a program, a schedule and an outcome list. An
+/// outcome is 0 or 1, or 2 where the detector has missed.
 ///
 /// ```
 /// use lanq::op::{GATE, NEWQ, RET};
@@ -22,10 +23,10 @@ const LINES_OF_AN_ENTRY: usize = 9;
 /// let program = Program::from_methods(&[Method { code, ..Method::default() }]);
 /// assert_eq!(lanq::check(&program, &[], &[]), Err(Refusal::new(Question::Types, 0)));
 ///
-/// // With a qubit it is right, but outcomes are 0 or 1.
+/// // With a qubit it is right, but outcomes are 0, 1 or, for no click, 2.
 /// let code = vec![(NEWQ, 0), (GATE, 1), (RET, 0)];
 /// let program = Program::from_methods(&[Method { code, ..Method::default() }]);
-/// assert_eq!(lanq::check(&program, &[0, 0], &[1, 0]), Ok(()));
+/// assert_eq!(lanq::check(&program, &[0, 0], &[1, 0, 2]), Ok(()));
 /// assert_eq!(lanq::check(&program, &[0, 0], &[1, 7]), Err(Refusal::new(Question::Outcomes, 1)));
 /// ```
 pub fn check(program: &Program, schedule: &[u8], outcomes: &[u8]) -> Result<(), Refusal> {

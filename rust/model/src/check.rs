@@ -12,8 +12,9 @@ use crate::typing;
 
 /// "Has the schedule at most 65,535 bytes?"
 pub const MOST_ENTRIES: usize = 65_535;
-/// "Is each outcome byte 0 or 1?"
-pub const HIGHEST_OUTCOME: u8 = 1;
+/// "Is each outcome byte 0 or 1?" Paper 3: "Outcome byte 2 is now allowed and
+/// means no click".
+pub const HIGHEST_OUTCOME: u8 = 2;
 
 /// Puts all eight questions in their order. `work_len` counts words.
 pub fn check(program: &[u16], schedule: &[u8], outcomes: &[u8], work_len: usize) -> Result<Program, Refusal> {
@@ -151,7 +152,8 @@ fn question_5_types(program: &Program) -> Result<(), Refusal> {
     }
 }
 
-/// "Is each outcome byte 0 or 1? 6 (its index)"
+/// "Is each outcome byte 0 or 1? 6 (its index)" Paper 3: "Question 6 and case
+/// P12 move to byte 3."
 fn question_6_outcomes(outcomes: &[u8]) -> Result<(), Refusal> {
     let wrong = outcomes.iter().position(|byte| *byte > HIGHEST_OUTCOME);
     match wrong {

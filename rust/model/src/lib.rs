@@ -1,8 +1,9 @@
-//! A model of the LanQ process machine, written from document 01 alone.
+//! A model of the LanQ process machine, written from documents 01 and 02 alone.
 //!
 //! It favours reading over speed: every part stands for a sentence of 01 and
 //! names it, in the order in which 01 brings them. "01" in a comment means
-//! that document; words in quotation marks are taken from it.
+//! that document, "Paper 3" the third paper of document 02; words in quotation
+//! marks are taken from them.
 //!
 //! - [`table`]: the program table, its types and ops
 //! - [`check`]: the eight questions put to a program and its inputs

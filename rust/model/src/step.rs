@@ -240,7 +240,8 @@ impl<'a> Step<'a> {
         Ok(())
     }
 
-    /// "qubit off, next outcome on as int"
+    /// "qubit off, next outcome on as int". No click is an outcome like the
+    /// others: "MEAS pushes 2 and the line says 2".
     fn measure(&mut self) -> Result<(), Fault> {
         let qubit = self.pop_qubit()?;
         let outcome = self.next_outcome()?;
@@ -249,6 +250,8 @@ impl<'a> Step<'a> {
         Ok(())
     }
 
+    /// "The next-outcome routine promises 0, 1 or 2": question 6 has let no
+    /// other byte pass.
     fn next_outcome(&mut self) -> Result<u8, Fault> {
         let next = self.entry.outcomes.get(self.outcomes_used);
         let outcome = *next.ok_or(Fault::Outcomes)?;

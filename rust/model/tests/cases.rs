@@ -244,9 +244,10 @@ fn p11_partner_gone_is_end_2() {
     assert_eq!(answer(&run_all(&methods, &schedule[..10], &[])), (0, 10, 3, 0));
 }
 
+/// Paper 3: "Question 6 and case P12 move to byte 3."
 #[test]
-fn p12_outcome_byte_2_is_6() {
+fn p12_outcome_byte_3_is_6() {
     let words = table(&worked_methods());
     let refused = check(&words, &[0], &[0, 1, 2, 3], WORK_WORDS);
-    assert_eq!(refused, Err(Refusal::new(Question::Outcomes, 2)));
+    assert_eq!(refused, Err(Refusal::new(Question::Outcomes, 3)));
 }

@@ -97,6 +97,46 @@ fn measurements_use_the_outcomes_in_order() {
     assert_eq!(pending_after(&[QBIT], &code, &[0, 1]), [Value::Int(-1)]);
 }
 
+/// Paper 3: "MEAS pushes 2 and the line says 2".
+#[test]
+fn no_click_is_the_int_2() {
+    let code = [(NEWQ, 0), (PUT, 0), (MEAS, 0), (GET, 0), (MEAS, 0), (SUB, 0), (PUT, 1), (DROP, 0), (RET, 0)];
+    let methods = [main_method(&[QBIT, INT_TYPE], &code)];
+    for (outcomes, difference) in [([2, 0], 2), ([0, 2], -2), ([1, 2], -1), ([2, 2], 0)] {
+        let run = run_all(&methods, &[0; 8], &outcomes);
+        let [first, second] = outcomes.map(u16::from);
+        assert_eq!(lines(&run), [[0, 0, 1, 0, U, U], [2, 0, 4, 0, first, U], [4, 0, 4, 0, second, U]]);
+        assert_eq!(run.configuration.processes[0].frames[0].slots[1], Value::Int(difference));
+        // A miss is used up like a click.
+        assert_eq!(answer(&run), (0, 8, 3, 2));
+    }
+}
+
+/// A miss is no fault, and the qubit can be measured again; 24 still comes
+/// where the list is used up.
+#[test]
+fn no_click_leaves_the_process_running() {
+    let code = [(NEWQ, 0), (PUT, 0), (DROP, 0), (GET, 0), (MEAS, 0), (INT, 2), (EQ, 0), (JFALSE, 0), (JUMP, 3)];
+    let run = run_all(&[main_method(&[QBIT], &code)], &[0; 60], &[2, 2, 1, 2]);
+    let measured: Vec<[u16; 6]> = lines(&run).into_iter().filter(|line| line[2] == 4).collect();
+    // The 1 sends main back to its NEWQ, and the last miss falls on qubit 1.
+    assert_eq!(measured, [[4, 0, 4, 0, 2, U], [10, 0, 4, 0, 2, U], [16, 0, 4, 0, 1, U], [24, 0, 4, 1, 2, U]]);
+    assert_eq!(lines(&run).last(), Some(&[30, 0, 10, 24, U, U]));
+    assert_eq!(answer(&run), (1, 31, 7, 4));
+}
+
+/// "A run without any 2 gives what it gave before", also where the list goes
+/// on with a 2 that no MEAS comes to.
+#[test]
+fn a_2_that_is_not_used_changes_nothing() {
+    let code = [(NEWQ, 0), (MEAS, 0), (DROP, 0), (JUMP, 0)];
+    let methods = [main_method(&[], &code)];
+    let before = run_all(&methods, &[0; 8], &[1, 0]);
+    assert_eq!(lines(&before)[1], [1, 0, 4, 0, 1, U]);
+    assert_eq!(lines(&before)[3], [5, 0, 4, 1, 0, U]);
+    assert_eq!(run_all(&methods, &[0; 8], &[1, 0, 2]), before);
+}
+
 #[test]
 fn jumps() {
     // On false the qubit is left out; the jump back makes it a loop.

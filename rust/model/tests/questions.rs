@@ -429,8 +429,10 @@ fn inputs(schedule: &[u8], outcomes: &[u8], work_len: usize) -> (u16, usize) {
 #[test]
 fn question_6_outcomes() {
     assert_eq!(inputs(&[], &[0, 1, 1, 0], WORK_WORDS), (0, 0));
-    assert_eq!(inputs(&[], &[2], WORK_WORDS), (6, 0));
-    assert_eq!(inputs(&[], &[0, 1, 255, 2], WORK_WORDS), (6, 2));
+    // Paper 3: no click.
+    assert_eq!(inputs(&[], &[2, 0, 2], WORK_WORDS), (0, 0));
+    assert_eq!(inputs(&[], &[3], WORK_WORDS), (6, 0));
+    assert_eq!(inputs(&[], &[0, 2, 255, 3], WORK_WORDS), (6, 2));
     let mut many = vec![1; 70_000];
     many[69_999] = 3;
     assert_eq!(inputs(&[], &many, WORK_WORDS), (6, 69_999));
@@ -454,10 +456,10 @@ fn question_8_work_store() {
 #[test]
 fn the_first_no_decides() {
     let long = vec![0; 65_536];
-    assert_eq!(inputs(&long, &[0, 2], 0), (6, 1));
+    assert_eq!(inputs(&long, &[0, 3], 0), (6, 1));
     assert_eq!(inputs(&long, &[0], 0), (7, 0));
     let mut words = good();
-    let number = |words: &[u16]| check(words, &long, &[2], 0).unwrap_err().number();
+    let number = |words: &[u16]| check(words, &long, &[3], 0).unwrap_err().number();
     words[instruction_place(3, 3)] = CLEAR;
     words[instruction_place(3, 3) + 1] = 0;
     assert_eq!(number(&words), 5);

@@ -1,20 +1,22 @@
 //! The comparison is shown to work: machines that are wrong in one rule each,
-//! and every one of them is told apart from the library on the inputs that the
-//! gate compares.
+//! and every one of them is told apart from the model on the inputs on which
+//! the gate compares the library with it.
 //!
 //!     cargo test --offline -p compare --test wrong -- --nocapture
 
 mod answers;
+mod before;
 mod entries;
 mod faults;
 mod giving;
 mod meetings;
+mod no_click;
 mod ops;
 mod questions;
 mod rules;
 
 use compare::inputs::{input, shortest};
-use compare::left::{by_library, difference, Buffers};
+use compare::left::{by_library, by_model, difference, Buffers, Left};
 use generate::{Case, Random};
 use rules::{left, Rules, RIGHT};
 
@@ -29,12 +31,19 @@ fn all() -> Vec<Wrong> {
     all.extend(faults::WRONG);
     all.extend(giving::WRONG);
     all.extend(ops::WRONG);
+    all.extend(no_click::WRONG);
     all.extend(answers::WRONG);
     all
 }
 
 /// As many as the gate compares.
 const INPUTS: u64 = 20_000;
+
+/// What the model leaves.
+fn right(case: &Case, buffers: Buffers) -> Left {
+    let ran = model::check_and_run(&case.program, &case.schedule, &case.outcomes, case.trace_len, case.work_len);
+    by_model(&ran, buffers)
+}
 
 #[test]
 fn every_wrong_machine_is_told_apart() {
@@ -46,9 +55,9 @@ fn every_wrong_machine_is_told_apart() {
         }
         let case = input(number);
         let buffers = Buffers::dirty(&case, &mut Random::new(number));
-        let library = by_library(&case, buffers.clone());
+        let right = right(&case, buffers.clone());
         hidden.retain(|(name, rules)| {
-            let told = difference(&library, &left(rules, &case, buffers.clone()));
+            let told = difference(&left(rules, &case, buffers.clone()), &right);
             if let Some(difference) = &told {
                 let difference: String = difference.chars().take(90).collect();
                 println!("input {number:5}: {name}: {difference}");
@@ -62,10 +71,10 @@ fn every_wrong_machine_is_told_apart() {
     assert!(count >= 20);
 }
 
-/// How the library and a machine of these rules differ on a case.
+/// How the model and a machine of these rules differ on a case.
 fn told(rules: &Rules, case: &Case) -> Option<String> {
     let buffers = Buffers::dirty(case, &mut Random::new(1));
-    difference(&by_library(case, buffers.clone()), &left(rules, case, buffers))
+    difference(&left(rules, case, buffers.clone()), &right(case, buffers))
 }
 
 /// The rules themselves add no difference.
@@ -85,4 +94,27 @@ fn a_difference_is_shown_small() {
     let small = shortest(&case, |case| told(&rules, case).is_some());
     let without_last = Case { schedule: small.schedule[..small.schedule.len() - 1].to_vec(), ..small.clone() };
     assert!(told(&rules, &small).is_some() && told(&rules, &without_last).is_none());
+}
+
+/// On inputs that a paper does not touch, the library is the machine that was
+/// before it; the model is another one on some that it does touch.
+#[test]
+fn what_a_paper_does_not_touch_is_as_it_was() {
+    for before in before::ALL {
+        let (mut untouched, mut changed) = (0, 0);
+        for number in 0..4_000 {
+            let case = input(number);
+            if (before.touches)(&case) {
+                changed += usize::from(told(&before.rules, &case).is_some());
+                continue;
+            }
+            let buffers = Buffers::dirty(&case, &mut Random::new(number));
+            let old = left(&before.rules, &case, buffers.clone());
+            let difference = difference(&by_library(&case, buffers), &old);
+            assert_eq!(difference, None, "before paper {}, input {number}", before.paper);
+            untouched += 1;
+        }
+        println!("paper {}: {untouched} inputs as they were, {changed} changed", before.paper);
+        assert!(untouched > 500 && changed > 50, "paper {}: {untouched}, {changed}", before.paper);
+    }
 }

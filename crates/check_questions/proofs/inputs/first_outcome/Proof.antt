@@ -1,4 +1,4 @@
--- `first_outcome` finds the first outcome byte above 1: every byte below `i` is 0 or 1.
+-- `first_outcome` finds the first outcome byte above 2: every byte before index `i` is 0, 1 or 2.
 use Prim.Native.Nat.{_≤_, _-_}
 use mathlib.Core.Path.{_≡_, sym}
 use lib.ListN.{length}
@@ -26,7 +26,7 @@ shared-slice-read-if1 c = search needs
 returns : tie.Need-returns Inv-loop μ-loop
 returns c =
     let loop = c .before .before .before .loop in
-    sym (first-halts _ _ _ (loop .inv .1) (loop .inv .0) (λ h. lt-leb _ 1 (c .if1 .taken)))
+    sym (first-halts _ _ _ (loop .inv .1) (loop .inv .0) (λ h. lt-leb _ 2 (c .if1 .taken)))
 
 add-i : tie.Need-add-i Inv-loop μ-loop
 add-i c = search needs
@@ -37,7 +37,7 @@ loop-less c = search needs
 loop-again : tie.Need-loop-again Inv-loop μ-loop
 loop-again c =
     let loop = c .before .before .before .loop in
-    (search needs, first-goes-on _ _ (loop .inv .1) (le-leb _ 1 (c .if1 .left)))
+    (search needs, first-goes-on _ _ (loop .inv .1) (le-leb _ 2 (c .if1 .left)))
 
 returns-2 : tie.Need-returns-2 Inv-loop μ-loop
 returns-2 c =

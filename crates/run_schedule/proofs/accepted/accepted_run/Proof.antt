@@ -1,5 +1,5 @@
 -- `accepted_run` begins the store anew and runs; what the questions ask for makes the entries' premises.
-use Rattle.run_schedule.proofs.Accepting.{table-kept, schedule-short, store-long}
+use Rattle.run_schedule.proofs.Accepting.{table-kept, outcomes-small, schedule-short, store-long}
 use Rattle.run_schedule.proofs.Began.{starts-from, leaves-same}
 use Rattle.table.specs.Table.{methods}
 use Rattle.table.proofs.Accepted.{kept}
@@ -26,7 +26,7 @@ add-run-entries c = search needs
 
 run-entries-requires : tie.Need-run-entries-requires
 unfolding methods
-run-entries-requires c κs = let ok = c .before .before .before .before .before .before .before .before .before .before .before .before .pre in let long = store-long (c .before .before .before .before .before .before .before .before .before .before .before .before .args .program .now) (c .before .before .before .before .before .before .before .before .before .before .before .before .args .schedule .now) (c .before .before .before .before .before .before .before .before .before .before .before .before .args .outcomes .now) (length (c .before .before .before .before .before .before .before .before .before .before .before .before .args .work .now)) ok in let table = kept (c .before .before .before .before .before .before .before .before .before .before .before .before .args .program .now) (table-kept (c .before .before .before .before .before .before .before .before .before .before .before .before .args .program .now) (c .before .before .before .before .before .before .before .before .before .before .before .before .args .schedule .now) (c .before .before .before .before .before .before .before .before .before .before .before .before .args .outcomes .now) (length (c .before .before .before .before .before .before .before .before .before .before .before .before .args .work .now)) ok) in (ap (λ (m : ℕ). 2 + 20 * m) (c .before .before .word-at .ensures .0), omega (arith, long, c .before .before .before .before .before .begin-run .kept .1 .0), schedule-short (c .before .before .before .before .before .before .before .before .before .before .before .before .args .program .now) (c .before .before .before .before .before .before .before .before .before .before .before .before .args .schedule .now) (c .before .before .before .before .before .before .before .before .before .before .before .before .args .outcomes .now) (length (c .before .before .before .before .before .before .before .before .before .before .before .before .args .work .now)) ok, refl, table, starts-from (c .before .before .before .before .before .before .before .before .before .before .before .before .args .program .now) table (c .before .before .before .before .before .before .before .before .before .before .before .before .args .work .now) long (c .before .before .before .before .before .begin-run .ensures))
+run-entries-requires c κs = let ok = c .before .before .before .before .before .before .before .before .before .before .before .before .pre in let long = store-long (c .before .before .before .before .before .before .before .before .before .before .before .before .args .program .now) (c .before .before .before .before .before .before .before .before .before .before .before .before .args .schedule .now) (c .before .before .before .before .before .before .before .before .before .before .before .before .args .outcomes .now) (length (c .before .before .before .before .before .before .before .before .before .before .before .before .args .work .now)) ok in let table = kept (c .before .before .before .before .before .before .before .before .before .before .before .before .args .program .now) (table-kept (c .before .before .before .before .before .before .before .before .before .before .before .before .args .program .now) (c .before .before .before .before .before .before .before .before .before .before .before .before .args .schedule .now) (c .before .before .before .before .before .before .before .before .before .before .before .before .args .outcomes .now) (length (c .before .before .before .before .before .before .before .before .before .before .before .before .args .work .now)) ok) in (ap (λ (m : ℕ). 2 + 20 * m) (c .before .before .word-at .ensures .0), omega (arith, long, c .before .before .before .before .before .begin-run .kept .1 .0), schedule-short (c .before .before .before .before .before .before .before .before .before .before .before .before .args .program .now) (c .before .before .before .before .before .before .before .before .before .before .before .before .args .schedule .now) (c .before .before .before .before .before .before .before .before .before .before .before .before .args .outcomes .now) (length (c .before .before .before .before .before .before .before .before .before .before .before .before .args .work .now)) ok, refl, table, starts-from (c .before .before .before .before .before .before .before .before .before .before .before .before .args .program .now) table (c .before .before .before .before .before .before .before .before .before .before .before .before .args .work .now) long (c .before .before .before .before .before .begin-run .ensures), outcomes-small (c .before .before .before .before .before .before .before .before .before .before .before .before .args .program .now) (c .before .before .before .before .before .before .before .before .before .before .before .before .args .schedule .now) (c .before .before .before .before .before .before .before .before .before .before .before .before .args .outcomes .now) (length (c .before .before .before .before .before .before .before .before .before .before .before .before .args .work .now)) ok)
 
 same-length : tie.Need-same-length
 same-length c = search needs
