@@ -39,8 +39,10 @@ int main(void) {
   printf("end %llu %llu %llu %llu\n", (unsigned long long)run.end, (unsigned long long)run.entries,
          (unsigned long long)run.lines, (unsigned long long)run.outcomes);
   printf("processes %u, qubits %u, channels %u\n", work[0], work[1], work[2]);
-  printf("qubit 0 is held by %u, at first by %u\n", lanq_holder(trace, 6 * run.lines, run.lines, 0),
-         lanq_holder(trace, 6 * run.lines, 1, 0));
+  LanqHolder last = lanq_holder(trace, 6 * run.lines, run.lines, 0);
+  LanqHolder first = lanq_holder(trace, 6 * run.lines, 1, 0);
+  printf("qubit 0 is held by %llu, as the last %llu lines say, at first by %llu\n", (unsigned long long)last.holder,
+         (unsigned long long)last.read, (unsigned long long)first.holder);
   printf("same as itself: %d, as its first lines: %d\n", lanq_same_lines(trace, 6 * run.lines, trace, 6 * run.lines),
          lanq_same_lines(trace, 6 * run.lines, trace, 6 * (run.lines - 1)));
   return 0;

@@ -48,9 +48,15 @@ LanqAnswer lanq_run(const uint16_t *program, size_t program_len, const uint8_t *
                     const uint8_t *outcomes, size_t outcomes_len, uint16_t *trace, size_t trace_len, uint32_t *work,
                     size_t work_len);
 
-/* The process that holds a qubit by the first k lines of a trace, all its lines if there are fewer; 65535 is nobody. Six
- * words make a line, and a part of one at the end is ignored. Any words, any k and any qubit number are answered. */
-uint16_t lanq_holder(const uint16_t *trace, size_t trace_len, size_t k, uint16_t qubit);
+/* `holder` is the process that holds a qubit, 65535 for nobody; `read` is how many lines were read to say so. */
+typedef struct {
+  uint64_t holder, read;
+} LanqHolder;
+
+/* Who holds a qubit by the first k lines of a trace, all its lines if there are fewer. They are read from the last one
+ * backwards, up to the line that decides, which is counted; if none decides, every one is read. Six words make a line, and
+ * a part of one at the end is ignored. Any words, any k and any qubit number are answered. */
+LanqHolder lanq_holder(const uint16_t *trace, size_t trace_len, size_t k, uint16_t qubit);
 
 /* Whether two traces have the same lines, the entry's number (column 0) left out; no where they have different numbers
  * of lines. Any words are answered. */

@@ -1,8 +1,8 @@
 // The C interface, include/lanq.h. Each exported function has the contract of the function that it hands on to, the
-// answers of the check and of the run as a struct of numbers.
+// answers of the check, of the run and of the look-up as a struct of numbers.
 ghost use mathlib.Core.Path.{_≡_};
 ghost use Rattle.table.specs.Questions.{questions};
-ghost use Rattle.trace.specs.Trace.{lookUp, sameLines};
+ghost use Rattle.trace.specs.Trace.{lookUp, countRead, sameLines};
 ghost use lib.ListN.{length};
 ghost use Rattle.machine.specs.Answer.{linesIn};
 ghost use Rattle.machine.specs.Answer as machine;
@@ -101,12 +101,23 @@ pub extern "C" fn lanq_run(
     }
 }
 
-// The holder of a qubit by the first k lines of a trace, all if there are fewer; 65535 is nobody.
+// The holder of a qubit, 65535 for nobody, and how many lines were read for it.
+#[repr(C)]
+pub struct LanqHolder {
+    pub holder: u64,
+    pub read: u64,
+}
+
+// The holder by the first k lines of a trace, all if there are fewer, read from the last one backwards.
 #[no_mangle]
-pub extern "C" fn lanq_holder(trace: &[u16], k: usize, qubit: u16) -> u16
-    ensures { λ r. ⌜ r ≡ lookUp (now (trace .entry)) k qubit ⌝ }
+pub extern "C" fn lanq_holder(trace: &[u16], k: usize, qubit: u16) -> LanqHolder
+    ensures { λ r. ⌜ (r .holder ≡ lookUp (now (trace .entry)) k qubit) × (r .read ≡ countRead (now (trace .entry)) k qubit) ⌝ }
 {
-    qubit_holder(trace, k, qubit)
+    let answer = qubit_holder(trace, k, qubit);
+    LanqHolder {
+        holder: answer.holder as u64,
+        read: answer.read as u64,
+    }
 }
 
 // Whether two traces have the same lines, column 0 left out.

@@ -1,4 +1,5 @@
 pub mod Examples
 pub mod LinesOf
 pub mod Held
+pub mod ReadBack
 pub mod SameAll

@@ -1,6 +1,8 @@
 -- A line as it is read from words. These definitions follow the code.
 use Prim.Native.Nat.{ℕ, _+_}
+use mathlib.Core.Bool.{cond}
 use mathlib.Core.List.{List}
+use lib.Dec.{eqb}
 use lib.ListN.{getD}
 use Rattle.machine.specs.State.{Line}
 use Rattle.trace_lines.specs.declared.TraceLine.{TraceLine}
@@ -19,3 +21,7 @@ lineFrom ws i = record {
   b = getD ws (i + 4) 0;
   c = getD ws (i + 5) 0;
 }
+
+-- the process that a line which decides names as holder: the maker of a qubit, or the one it is given to
+unfoldable pub named : Line → ℕ
+named l = cond (eqb (l .kind) 1) (l .process) (l .a)

@@ -1,13 +1,13 @@
 -- Traces read by themselves: any words are lines. "Six words make a line, and a part of one at the end is ignored."
-use Prim.Native.Nat.{ℕ}
-use mathlib.Core.Bool.{Bool, true, false, _&&_}
-use mathlib.Core.List.{List, [], _∷_}
+use Prim.Native.Nat.{ℕ, suc}
+use mathlib.Core.Bool.{Bool, true, false, cond, _&&_}
+use mathlib.Core.List.{List, [], _∷_, reverse}
 use mathlib.Core.Option.{Option·getD}
 use lib.ListN.{take}
 use lib.Dec.{eqb}
-use Rattle.machine.specs.Value.{qubit}
+use Rattle.machine.specs.Value.{qubit, covers}
 use Rattle.machine.specs.State.{Line}
-use Rattle.machine.specs.Owner.{holder}
+use Rattle.machine.specs.Owner.{givenThing, holder}
 
 unfoldable pub linesOf : List ℕ → List Line
 linesOf [] = []
@@ -23,6 +23,23 @@ linesOf (e ∷ n ∷ k ∷ a ∷ b ∷ c ∷ ws) = record { entry = e; process =
 -- if there is neither." That is the qubit's holder by those lines.
 unfoldable pub lookUp : List ℕ → ℕ → ℕ → ℕ
 lookUp ws k q = Option·getD (holder (take k (linesOf ws)) (qubit q)) 65535
+
+-- "the line that decides" who holds qubit q, by the rule of `Owner.holderAfter`: a kind 1 line of the qubit, or a kind 6
+-- line with thing 3 and its number
+unfoldable pub decides : ℕ → Line → Bool
+decides q l =
+    cond (eqb (l .kind) 1) (covers (qubit (l .a)) (qubit q))
+    (cond (eqb (l .kind) 6) (givenThing (l .b) (l .c) (qubit q)) false)
+
+-- "stop at the line that decides; .. it also answers how many lines it read, every one when none decides": of lines in
+-- the order in which they are read, the one that decides counted
+unfoldable pub readBack : ℕ → List Line → ℕ
+readBack q [] = 0
+readBack q (l ∷ ls) = cond (decides q l) 1 (suc (readBack q ls))
+
+-- "Read the first k lines (all, if fewer) from the last one backwards"
+unfoldable pub countRead : List ℕ → ℕ → ℕ → ℕ
+countRead ws k q = readBack q (reverse (take k (linesOf ws)))
 
 -- two lines agree, column 0 left out
 unfoldable pub sameLine : Line → Line → Bool

@@ -6,12 +6,14 @@ use std::fs;
 use std::process::Command;
 
 use crate::runs::{self, ENTRIES};
+use crate::traces;
 
 /// What the end of a run costs hangs on who can move there, so it is left out
 /// where single entries are counted.
 const LEFT_OUT: &str = "ability::ending::";
 
-/// Instructions per entry of every workload, or why there are none.
+/// Instructions per entry of every run workload and of every call on a trace,
+/// or why there are none.
 pub fn print() -> Result<(), String> {
     println!("{:14} instructions per entry", "workload");
     for run in runs::all() {
@@ -19,6 +21,12 @@ pub fn print() -> Result<(), String> {
         let short = instructions(run.name, ENTRIES / 2)?;
         let entries = ENTRIES - ENTRIES / 2;
         println!("{:14} {:.1}", run.name, (long - short) as f64 / entries as f64);
+    }
+    println!("{:14} {:>6} instructions of one call", "call", "lines");
+    for call in traces::all() {
+        for lines in call.lines {
+            println!("{:14} {lines:6} {}", call.name, within(call.function, call.name, *lines)?);
+        }
     }
     Ok(())
 }
@@ -42,14 +50,24 @@ pub fn print_each(name: &str, from: usize, count: usize) -> Result<(), String> {
 }
 
 /// The instructions of this program running one workload once.
-fn instructions(name: &str, entries: usize) -> Result<i64, String> {
+fn instructions(name: &str, count: usize) -> Result<i64, String> {
+    callgrind(name, count, &[])
+}
+
+/// Those of them that are run while a function of the C interface is called.
+fn within(function: &str, name: &str, count: usize) -> Result<i64, String> {
+    callgrind(name, count, &[format!("--toggle-collect={function}")])
+}
+
+fn callgrind(name: &str, count: usize, more: &[String]) -> Result<i64, String> {
     let program = env::current_exe().map_err(|error| error.to_string())?;
     let counts = env::temp_dir().join(format!("bench-{}.counts", std::process::id()));
     let output = Command::new("valgrind")
         .args(["--tool=callgrind", "--compress-strings=no", "--compress-pos=no"])
         .arg(format!("--callgrind-out-file={}", counts.display()))
+        .args(more)
         .arg(program)
-        .args(["--case", name, &entries.to_string()])
+        .args(["--case", name, &count.to_string()])
         .output()
         .map_err(|error| format!("valgrind: {error}"))?;
     let read = fs::read_to_string(&counts);

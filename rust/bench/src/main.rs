@@ -3,9 +3,10 @@
 //! - `bench` runs every workload and prints nanoseconds per entry, or per
 //!   table instruction for the check, and the ratio.
 //! - `bench --case NAME [COUNT]` runs one workload once through the library
-//!   alone, on the first COUNT entries of its schedule; a check COUNT times.
+//!   alone, on the first COUNT entries of its schedule; a check COUNT times; a
+//!   call on a trace with COUNT lines.
 //! - `bench --instructions` counts the run workloads' instructions per entry
-//!   under callgrind.
+//!   under callgrind, and those of one call on a trace.
 //! - `bench --each NAME FROM COUNT` counts COUNT entries of one of them, one by
 //!   one, from entry FROM on.
 
@@ -13,6 +14,7 @@ mod checks;
 mod counted;
 mod programs;
 mod runs;
+mod traces;
 
 use std::env;
 use std::process::exit;
@@ -44,9 +46,13 @@ fn one(name: &str, count: usize) -> Result<(), String> {
     } else if let Some(check) = checks::all().iter().find(|check| check.name == name) {
         check.by_library(count);
         println!("{name}: {count} calls, {} instructions each", check.instructions);
+    } else if let Some(call) = traces::all().iter().find(|call| call.name == name) {
+        println!("{name}: {}", call.once(count.max(1)));
     } else {
         let runs = runs::all().into_iter().map(|run| run.name);
-        let names: Vec<&str> = runs.chain(checks::all().iter().map(|check| check.name)).collect();
+        let checks = checks::all().into_iter().map(|check| check.name);
+        let calls = traces::all().into_iter().map(|call| call.name);
+        let names: Vec<&str> = runs.chain(checks).chain(calls).collect();
         return Err(format!("no workload {name}: there are {}", names.join(", ")));
     }
     Ok(())

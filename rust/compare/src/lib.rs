@@ -5,6 +5,7 @@
 pub mod inputs;
 pub mod layout;
 pub mod left;
+pub mod look_ups;
 
 use data::Refusal;
 use generate::Case;

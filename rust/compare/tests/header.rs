@@ -18,7 +18,7 @@ const PRINTED: &str = "\
 17 0 10 20 65535 65535
 end 1 18 9 0
 processes 2, qubits 1, channels 1
-qubit 0 is held by 1, at first by 0
+qubit 0 is held by 1, as the last 4 lines say, at first by 0
 same as itself: 1, as its first lines: 0
 ";
 

@@ -2,7 +2,7 @@
 //! by word: no model stands between.
 
 use data::program::{op::*, table, Method};
-use lanq::{decode, run_in, Answer, End, Question, Refusal, WORK_WORDS};
+use lanq::{decode, run_in, Answer, End, LookUp, Question, Refusal, WORK_WORDS};
 
 /// The number in an unused column.
 const U: u16 = 65_535;
@@ -198,6 +198,20 @@ fn no_click() {
         assert_eq!(answer, (0, 9, 3, 2));
         assert_eq!(work[578..582], [1, u32::from(first), 1, u32::from(second)]);
     }
+}
+
+/// Paper 4, on the lines of the run given whole: qubit 0 is made in line 0 and
+/// given to process 1 in line 5.
+#[test]
+fn the_look_up_reads_from_the_back() {
+    let trace = ran(&given_whole(), &SCHEDULE).1.concat();
+    let held = |k, qubit| {
+        let LookUp { holder, read } = lanq::holder(&trace, k, qubit);
+        (holder, read)
+    };
+    assert_eq!([held(0, 0), held(1, 0), held(5, 0)], [(None, 0), (Some(0), 1), (Some(0), 5)]);
+    assert_eq!([held(6, 0), held(9, 0), held(10, 0)], [(Some(1), 1), (Some(1), 4), (Some(1), 4)]);
+    assert_eq!([held(5, 1), held(usize::MAX, 1)], [(None, 5), (None, 9)]);
 }
 
 /// The longest schedule, to its last entry.

@@ -1,33 +1,66 @@
 //! The look-up and the same-lines answer of the library and of the model, on
 //! the traces of generated runs and on words of no run.
 
-use generate::{case, Random};
-use model::lookup::{qubit_holder, same_lines};
+use std::cmp::Ordering;
+use std::collections::BTreeMap;
 
-/// Words that are often lines of the kinds that count.
-fn words(random: &mut Random) -> Vec<u16> {
-    let length = random.below(80);
-    (0..length)
-        .map(|at| match at % 6 {
-            2 => random.pick(&[1, 6, 6, 2, 65535]),
-            4 => random.pick(&[3, 3, 4, 5]),
-            _ => random.pick(&[0, 1, 2, 65535]),
-        })
-        .collect()
+use compare::look_ups::{asked, TRACES};
+use data::LINE_WORDS;
+use generate::{case, trace, Random};
+use model::lookup::{decided, look_up, same_lines, whole_lines};
+
+/// How a look-up came to its answer.
+#[derive(Clone, Copy, Debug, PartialEq, Eq, PartialOrd, Ord)]
+enum Decided {
+    /// By a line of this kind, the last of the first k or an earlier one.
+    By { kind: u16, last: bool },
+    /// By a line that names 65535.
+    ForNobody,
+    /// By none, and there was one at least.
+    Never,
+    /// There was none to read.
+    NoLine,
 }
 
-/// Asks for every small number, the largest one, and every number of lines.
-/// Whether some answer named a process.
-fn look_ups_agree(trace: &[u16]) -> bool {
-    let mut named = false;
-    for qubit in (0..33).chain([65535]) {
-        for k in (0..=trace.len() / 6 + 1).chain([usize::MAX]) {
-            let model = qubit_holder(trace, k, qubit);
-            assert_eq!(lanq::holder(trace, k, qubit).unwrap_or(65535), model, "{trace:?}, {k}, {qubit}");
-            named |= model != 65535;
+/// How often each was met, by how k stands to the number of lines.
+#[derive(Default)]
+struct Met(BTreeMap<(Decided, Ordering), u64>);
+
+impl Met {
+    /// Looks up whatever is asked, on both sides.
+    fn look_ups_agree(&mut self, trace: &[u16]) {
+        let lines = whole_lines(trace);
+        for (k, qubit) in asked(trace) {
+            let model = look_up(trace, k, qubit);
+            assert_eq!(lanq::holder(trace, k, qubit), model, "{trace:?}, {k}, {qubit}");
+            let first = &lines[..k.min(lines.len())];
+            let stopped = first.get(first.len() - model.read).filter(|line| decided(line, qubit).is_some());
+            let how = match stopped {
+                Some(_) if model.holder.is_none() => Decided::ForNobody,
+                Some(line) => Decided::By { kind: line.kind, last: model.read == 1 },
+                None if first.is_empty() => Decided::NoLine,
+                None => Decided::Never,
+            };
+            *self.0.entry((how, k.cmp(&lines.len()))).or_default() += 1;
         }
     }
-    named
+
+    fn count(&self, how: Decided, k: Ordering) -> u64 {
+        self.0.get(&(how, k)).copied().unwrap_or(0)
+    }
+}
+
+/// Every way to an answer, with too few lines, just enough and too many asked
+/// for.
+fn ways() -> Vec<(Decided, Ordering)> {
+    let mut ways = vec![(Decided::NoLine, Ordering::Less)];
+    for k in [Ordering::Less, Ordering::Equal, Ordering::Greater] {
+        ways.push((Decided::Never, k));
+        for kind in [1, 6] {
+            ways.extend([false, true].map(|last| (Decided::By { kind, last }, k)));
+        }
+    }
+    ways
 }
 
 fn same_lines_agree(a: &[u16], b: &[u16]) -> bool {
@@ -38,22 +71,32 @@ fn same_lines_agree(a: &[u16], b: &[u16]) -> bool {
 
 #[test]
 fn look_ups_agree_on_any_words() {
-    let mut random = Random::new(1);
-    let named = (0..400).filter(|_| look_ups_agree(&words(&mut random))).count();
-    assert!(named > 100, "{named} traces named a process");
+    let mut met = Met::default();
+    let mut parts = 0;
+    for seed in 0..TRACES {
+        let words = trace(seed);
+        parts += usize::from(!words.len().is_multiple_of(LINE_WORDS));
+        met.look_ups_agree(&words);
+    }
+    for (how, k) in ways().into_iter().chain([(Decided::ForNobody, Ordering::Equal)]) {
+        assert!(met.count(how, k) > 50, "{how:?}, {k:?}: {:?}", met.0);
+    }
+    assert!(parts > 100, "{parts} traces have a part of a line");
 }
 
 #[test]
 fn look_ups_agree_on_runs() {
-    let mut named = 0;
+    let mut met = Met::default();
     for seed in 0..400 {
         let case = case(seed);
         let run = model::check_and_run(&case.program, &case.schedule, &case.outcomes, case.trace_len, case.work_len);
         if let Ok(run) = run {
-            named += usize::from(look_ups_agree(&run.trace_words()));
+            met.look_ups_agree(&run.trace_words());
         }
     }
-    assert!(named > 20, "{named} traces named a process");
+    for (how, k) in ways() {
+        assert!(met.count(how, k) > 0, "{how:?}, {k:?}: {:?}", met.0);
+    }
 }
 
 /// A trace against itself with one word changed, words cut off or words put on.
@@ -61,13 +104,13 @@ fn look_ups_agree_on_runs() {
 fn same_lines_agree_on_any_words() {
     let mut random = Random::new(2);
     let mut answers = [0, 0];
-    for _ in 0..20_000 {
-        let a = words(&mut random);
+    for seed in 0..20_000 {
+        let a = trace(seed);
         let mut b = a.clone();
         match random.below(4) {
             0 if !b.is_empty() => b[random.below(a.len())] = random.pick(&[0, 1, 65535]),
             1 => b.truncate(random.below(a.len() + 1)),
-            2 => b.extend(words(&mut random)),
+            2 => b.extend(trace(!seed)),
             _ => (),
         }
         answers[usize::from(same_lines_agree(&a, &b))] += 1;

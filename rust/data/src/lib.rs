@@ -10,6 +10,7 @@
 //! - [`refusal`]: the questions, and a refusal
 //! - [`run`]: ends, the answer of a run, and a run with all it leaves
 //! - [`line`]: trace lines and what they tell
+//! - [`look_up`]: what the look-up of a holder answers
 //! - [`configuration`]: values, frames, processes
 //! - [`fault`]: what stops a process
 //! - [`types`]: types, sides and gates
@@ -22,6 +23,7 @@ pub mod configuration;
 pub mod fault;
 pub mod file;
 pub mod line;
+pub mod look_up;
 pub mod program;
 pub mod refusal;
 pub mod run;
@@ -30,6 +32,7 @@ pub mod types;
 pub use configuration::{Configuration, Frame, Process, State, Thing, Value, SLOTS, WORK_WORDS};
 pub use fault::Fault;
 pub use line::{Event, Line, LINE_WORDS, UNUSED};
+pub use look_up::LookUp;
 pub use refusal::{Question, Refusal};
 pub use run::{Answer, End, Run};
 pub use types::{Carried, Gate, Side, Type};

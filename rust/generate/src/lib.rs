@@ -3,6 +3,7 @@
 //!
 //! - [`case`] gives a program, a schedule, outcomes and the lent lengths
 //! - [`file`] gives the bytes of a file for the printing program
+//! - [`trace`] gives words to look holders up in
 //! - [`Coverage`] counts what the cases have brought about
 
 #![forbid(unsafe_code)]
@@ -18,12 +19,14 @@ mod mistype;
 mod plan;
 mod random;
 mod schedule;
+mod traces;
 mod typed;
 
 pub use coverage::{observe, Answer, Coverage};
 pub use files::file;
 pub use mark::Mark;
 pub use random::Random;
+pub use traces::trace;
 
 use data::program::{table, Method};
 use data::WORK_WORDS;

@@ -22,7 +22,7 @@
 //! }
 //! assert_eq!(run.lines[1].event(), Some(Event::Measured { qubit: 0, outcome: 1 }));
 //! assert_eq!(run.configuration.qubits, 1);
-//! assert_eq!(lanq::holder(&run.lines, 1, 0), Some(0));
+//! assert_eq!(lanq::holder(&run.lines, 3, 0).holder, Some(0));
 //! # Ok::<(), lanq::Refusal>(())
 //! ```
 //!
@@ -46,8 +46,8 @@ mod trace;
 
 pub use data::program::{op, Method};
 pub use data::{
-    Answer, Carried, Configuration, End, Event, Fault, Frame, Gate, Line, Process, Question, Refusal, Run, Side, State,
-    Thing, Type, Value, LINE_WORDS, SLOTS, UNUSED, WORK_WORDS,
+    Answer, Carried, Configuration, End, Event, Fault, Frame, Gate, Line, LookUp, Process, Question, Refusal, Run,
+    Side, State, Thing, Type, Value, LINE_WORDS, SLOTS, UNUSED, WORK_WORDS,
 };
 pub use layout::decode;
 pub use program::Program;

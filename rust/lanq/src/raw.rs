@@ -11,6 +11,13 @@ pub struct Answer {
     pub outcomes: u64,
 }
 
+/// `LanqHolder` of the header.
+#[repr(C)]
+pub struct Holder {
+    pub holder: u64,
+    pub read: u64,
+}
+
 extern "C" {
     pub fn lanq_check(
         program: *const u16,
@@ -33,6 +40,6 @@ extern "C" {
         work: *mut u32,
         work_len: usize,
     ) -> Answer;
-    pub fn lanq_holder(trace: *const u16, trace_len: usize, k: usize, qubit: u16) -> u16;
+    pub fn lanq_holder(trace: *const u16, trace_len: usize, k: usize, qubit: u16) -> Holder;
     pub fn lanq_same_lines(a: *const u16, a_len: usize, b: *const u16, b_len: usize) -> bool;
 }

@@ -157,7 +157,7 @@ fn accepted(answer: &raw::Answer) -> Result<(), Refusal> {
 }
 
 /// Counts and places are lengths or indices of something in memory.
-fn count(number: u64) -> usize {
+pub(crate) fn count(number: u64) -> usize {
     usize::try_from(number).expect("a count of things in memory")
 }
 

@@ -1,8 +1,9 @@
 //! Traces: lines as words, words as lines, and what is asked of them.
 
-use data::{Line, LINE_WORDS, UNUSED};
+use data::{Line, LookUp, LINE_WORDS, UNUSED};
 
 use crate::raw;
+use crate::run::count;
 
 /// A trace: lines, or any words. "Six words make a line, and a part of one at
 /// the end is ignored."
@@ -64,21 +65,26 @@ pub fn lines(words: &[u16]) -> &[Line] {
 }
 
 /// Who holds a qubit by the first `k` lines of a trace, all its lines if there
-/// are fewer; nobody is the number 65535.
+/// are fewer. They are read from the last one backwards, up to the line that
+/// decides; `read` counts them.
 ///
 /// ```
-/// // Process 2 makes qubit 0 and gives it to process 5.
-/// let trace = [0, 2, 1, 0, 65535, 65535, 1, 2, 6, 5, 3, 0];
-/// assert_eq!(lanq::holder(&trace, 1, 0), Some(2));
-/// assert_eq!(lanq::holder(&trace, 2, 0), Some(5));
-/// assert_eq!(lanq::holder(&trace, 2, 1), None);
+/// use lanq::{holder, LookUp};
+///
+/// // Process 2 makes qubit 0 and gives it to process 5, which makes qubit 3.
+/// let trace = [[0, 2, 1, 0, 65535, 65535], [1, 2, 6, 5, 3, 0], [2, 5, 1, 3, 65535, 65535]].concat();
+/// assert_eq!(holder(&trace, 1, 0), LookUp { holder: Some(2), read: 1 });
+/// assert_eq!(holder(&trace, 3, 0), LookUp { holder: Some(5), read: 2 });
+/// // No line decides: every one is read.
+/// assert_eq!(holder(&trace, 9, 1), LookUp { holder: None, read: 3 });
 /// ```
-pub fn holder(trace: &(impl Trace + ?Sized), k: usize, qubit: u16) -> Option<u16> {
+pub fn holder(trace: &(impl Trace + ?Sized), k: usize, qubit: u16) -> LookUp {
     let words = trace.words();
     // SAFETY: the pointer is good for its length as long as the slice is
     // borrowed, which is longer than the call. The function only reads it.
-    let number = unsafe { raw::lanq_holder(words.as_ptr(), words.len(), k, qubit) };
-    (number != UNUSED).then_some(number)
+    let answer = unsafe { raw::lanq_holder(words.as_ptr(), words.len(), k, qubit) };
+    let number = u16::try_from(answer.holder).expect("a process's number, or 65535");
+    LookUp { holder: (number != UNUSED).then_some(number), read: count(answer.read) }
 }
 
 /// Whether two traces have the same lines, the entries' numbers left out.

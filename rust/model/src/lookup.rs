@@ -1,7 +1,7 @@
 //! "The look-up takes any words, k and a qubit number", and the same-lines
 //! answer.
 
-use data::{Line, LINE_WORDS, UNUSED};
+use data::{Line, LookUp, LINE_WORDS, UNUSED};
 
 /// The lines that any words make; "a part of one at the end is ignored".
 pub fn whole_lines(words: &[u16]) -> Vec<Line> {
@@ -24,6 +24,31 @@ pub fn qubit_holder(words: &[u16], k: usize, qubit: u16) -> u16 {
         }
     }
     answer
+}
+
+/// Paper 4: "Read the first k lines (all, if fewer) from the last one backwards
+/// and stop at the line that decides; its promise stays, and it also answers
+/// how many lines it read, every one when none decides." The promise is
+/// [`qubit_holder`]'s.
+pub fn look_up(words: &[u16], k: usize, qubit: u16) -> LookUp {
+    let lines = whole_lines(words);
+    let mut read = 0;
+    for line in lines.iter().take(k).rev() {
+        read += 1;
+        if let Some(holder) = decided(line, qubit) {
+            return LookUp { holder: (holder != UNUSED).then_some(holder), read };
+        }
+    }
+    LookUp { holder: None, read }
+}
+
+/// The holder that a line gives a qubit, if it decides.
+pub fn decided(line: &Line, qubit: u16) -> Option<u16> {
+    match line.kind {
+        1 if line.a == qubit => Some(line.process),
+        6 if line.b == 3 && line.c == qubit => Some(line.a),
+        _ => None,
+    }
 }
 
 /// "whether two traces have the same lines with column 0 left out"; "no where

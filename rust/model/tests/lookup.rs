@@ -1,6 +1,7 @@
 //! The look-up of a qubit's holder and the same-lines answer, on any words.
 
-use model::lookup::{qubit_holder, same_lines};
+use data::LookUp;
+use model::lookup::{look_up, qubit_holder, same_lines};
 
 const U: u16 = 65_535;
 
@@ -57,6 +58,57 @@ fn unused_columns_may_hold_anything() {
     assert_eq!(qubit_holder(&lines.concat(), 2, 5), U);
     let lines = [[0, 1, 6, 3, 3, 5], [0, U, 1, 5, 0, 0]];
     assert_eq!(qubit_holder(&lines.concat(), 2, 5), U);
+}
+
+fn found(holder: u16, read: usize) -> LookUp {
+    LookUp { holder: Some(holder), read }
+}
+
+fn nobody(read: usize) -> LookUp {
+    LookUp { holder: None, read }
+}
+
+/// Paper 4: "from the last one backwards and stop at the line that decides".
+#[test]
+fn the_look_up_reads_from_the_back() {
+    let other = [[4, 6, 3, 1, 9, U], [5, 6, 4, 9, 0, U], [6, 6, 6, 0, 5, 9]].concat();
+    let words = [&WORDS[..], &other].concat();
+    // Of the first k lines only those from the one that decides on.
+    for (k, answer) in [(1, found(2, 1)), (2, found(4, 1)), (3, found(6, 1)), (4, found(1, 1))] {
+        assert_eq!(look_up(&words, k, 9), answer);
+    }
+    assert_eq!(look_up(&words, 5, 9), found(1, 2));
+    assert_eq!(look_up(&words, 7, 9), found(1, 4));
+    // "all, if fewer": what is read is counted, not k.
+    assert_eq!(look_up(&words, 8, 9), found(1, 4));
+    assert_eq!(look_up(&words, usize::MAX, 9), found(1, 4));
+}
+
+/// "every one when none decides"
+#[test]
+fn the_look_up_reads_every_line_when_none_decides() {
+    assert_eq!(look_up(&WORDS, 0, 9), nobody(0));
+    assert_eq!(look_up(&WORDS, 3, 8), nobody(3));
+    assert_eq!(look_up(&WORDS, 4, 8), nobody(4));
+    assert_eq!(look_up(&WORDS, 5, 8), nobody(4));
+    assert_eq!(look_up(&WORDS[..23], 9, 8), nobody(3));
+    assert_eq!(look_up(&[], 4, 9), nobody(0));
+    // A line that decides for 65535 decides all the same.
+    let lines = [[0, 1, 1, 5, 0, 0], [0, 1, 6, U, 3, 5], [0, 1, 3, 1, 5, U]];
+    assert_eq!(look_up(&lines.concat(), 3, 5), nobody(2));
+}
+
+/// "its promise stays"
+#[test]
+fn the_look_up_answers_what_it_promised() {
+    let lines = [[0, 2, 1, 1, U, U], [1, 2, 6, 4, 3, 1], [2, 6, 1, 2, 3, 1], [3, 6, 6, U, 3, 2], [4, 0, 6, 7, 4, 1]];
+    let words = [&WORDS[..], &lines.concat(), &[5, 5, 1, 1]].concat();
+    for qubit in 0..12 {
+        for k in 0..12 {
+            let holder = look_up(&words, k, qubit).holder;
+            assert_eq!(holder.unwrap_or(U), qubit_holder(&words, k, qubit), "{k}, {qubit}");
+        }
+    }
 }
 
 #[test]

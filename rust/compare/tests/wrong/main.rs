@@ -9,6 +9,7 @@ mod before;
 mod entries;
 mod faults;
 mod giving;
+mod look_ups;
 mod meetings;
 mod no_click;
 mod ops;

@@ -1,0 +1,31 @@
+//! Calls that read a trace. One call each: what is counted is the call alone.
+
+use std::hint::black_box;
+
+/// A call on a trace of any number of lines.
+pub struct Call {
+    pub name: &'static str,
+    /// The function of the C interface that it calls.
+    pub function: &'static str,
+    /// The numbers of lines that are counted.
+    pub lines: &'static [usize],
+    call: fn(usize) -> String,
+}
+
+pub fn all() -> Vec<Call> {
+    vec![Call { name: "look-up", function: "lanq_holder", lines: &[1, 60_000], call: last_line_decides }]
+}
+
+impl Call {
+    /// Builds the trace, calls, and says what was answered.
+    pub fn once(&self, lines: usize) -> String {
+        (self.call)(lines)
+    }
+}
+
+/// Qubit 0 is given to process 1 in the last line; all others are gates on it.
+fn last_line_decides(lines: usize) -> String {
+    let mut trace = [0, 0, 3, 1, 0, 65_535].repeat(lines - 1);
+    trace.extend([1, 0, 6, 1, 3, 0]);
+    format!("{:?}", black_box(lanq::holder(black_box(&trace), lines, 0)))
+}
