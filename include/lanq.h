@@ -58,8 +58,9 @@ typedef struct {
  * a part of one at the end is ignored. Any words, any k and any qubit number are answered. */
 LanqHolder lanq_holder(const uint16_t *trace, size_t trace_len, size_t k, uint16_t qubit);
 
-/* Whether two traces have the same lines, the entry's number (column 0) left out; no where they have different numbers
- * of lines. Any words are answered. */
+/* Whether two traces have the same lines and the same timing. Columns 1 to 5 of each line are equal; of the entry's number
+ * (column 0) it is the change from each line to the next that is equal, with its sign and never wrapped, so that a trace
+ * shifted as a whole is the same. No where they have different numbers of lines. Any words are answered. */
 bool lanq_same_lines(const uint16_t *a, size_t a_len, const uint16_t *b, size_t b_len);
 
 #ifdef __cplusplus

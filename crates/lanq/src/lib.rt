@@ -120,7 +120,7 @@ pub extern "C" fn lanq_holder(trace: &[u16], k: usize, qubit: u16) -> LanqHolder
     }
 }
 
-// Whether two traces have the same lines, column 0 left out.
+// Whether two traces have the same lines, column 0 left out, and the same gaps from each line to the next.
 #[no_mangle]
 pub extern "C" fn lanq_same_lines(a: &[u16], b: &[u16]) -> bool
     ensures { λ r. ⌜ r ≡ sameLines (now (a .entry)) (now (b .entry)) ⌝ }

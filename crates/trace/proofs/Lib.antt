@@ -2,4 +2,11 @@ pub mod Examples
 pub mod LinesOf
 pub mod Held
 pub mod ReadBack
-pub mod SameAll
+pub mod Gaps
+pub mod SameTimed
+pub mod SameMeans
+pub mod SameItself
+pub mod SameShifted
+pub mod SameSymmetric
+pub mod SameTransitive
+pub mod SameUntimed

@@ -3,9 +3,10 @@ use Prim.Native.Nat.{ℕ, suc}
 use mathlib.Core.Bool.{Bool, true, false, cond, _&&_}
 use mathlib.Core.List.{List, [], _∷_, reverse}
 use mathlib.Core.Option.{Option·getD}
+use lib.IntN.{ℤ, pos, _-ℤ_}
 use lib.ListN.{take}
 use lib.Dec.{eqb}
-use Rattle.machine.specs.Value.{qubit, covers}
+use Rattle.machine.specs.Value.{qubit, covers, eqZ}
 use Rattle.machine.specs.State.{Line}
 use Rattle.machine.specs.Owner.{givenThing, holder}
 
@@ -47,12 +48,38 @@ sameLine l m =
     eqb (l .process) (m .process)
     && (eqb (l .kind) (m .kind) && (eqb (l .a) (m .a) && (eqb (l .b) (m .b) && eqb (l .c) (m .c))))
 
+-- as many lines in both, and each agrees with the other's
 unfoldable pub sameAll : List Line → List Line → Bool
 sameAll [] [] = true
 sameAll [] (m ∷ ms) = false
 sameAll (l ∷ ls) [] = false
 sameAll (l ∷ ls) (m ∷ ms) = sameLine l m && sameAll ls ms
 
--- "a yes or no on whether two traces have the same lines with column 0 left out"; "no where the numbers of lines differ"
+-- The gap from line l to line m: by how much "the entry number changes", "counted with its sign and never wrapped".
+unfoldable pub gap : Line → Line → ℤ
+gap l m = pos (m .entry) -ℤ pos (l .entry)
+
+-- the gaps of a trace, "between each line and the next"
+unfoldable pub gaps : List Line → List ℤ
+gaps [] = []
+gaps (l ∷ []) = []
+gaps (l ∷ m ∷ ls) = gap l m ∷ gaps (m ∷ ls)
+
+-- as many gaps in both, and each equals the other's
+unfoldable pub sameGaps : List ℤ → List ℤ → Bool
+sameGaps [] [] = true
+sameGaps [] (h ∷ hs) = false
+sameGaps (g ∷ gs) [] = false
+sameGaps (g ∷ gs) (h ∷ hs) = eqZ g h && sameGaps gs hs
+
+-- "Same shall now also need equal gaps: between each line and the next, the entry number changes by the same amount in both"
+unfoldable pub sameTimed : List Line → List Line → Bool
+sameTimed ls ms = sameAll ls ms && sameGaps (gaps ls) (gaps ms)
+
+-- "a yes or no on whether two traces have the same lines", with equal gaps; "no where the numbers of lines differ"
 unfoldable pub sameLines : List ℕ → List ℕ → Bool
-sameLines xs ys = sameAll (linesOf xs) (linesOf ys)
+sameLines xs ys = sameTimed (linesOf xs) (linesOf ys)
+
+-- the same without timing: "Paper 10 goes on leaving column 0 out."
+unfoldable pub sameUntimed : List ℕ → List ℕ → Bool
+sameUntimed xs ys = sameAll (linesOf xs) (linesOf ys)

@@ -5,7 +5,7 @@
 pub mod inputs;
 pub mod layout;
 pub mod left;
-pub mod look_ups;
+pub mod traces;
 
 use data::Refusal;
 use generate::Case;

@@ -214,6 +214,27 @@ fn the_look_up_reads_from_the_back() {
     assert_eq!([held(5, 1), held(usize::MAX, 1)], [(None, 5), (None, 9)]);
 }
 
+/// Paper 11, on the lines of the run given whole. The schedule that idles first
+/// gives the same lines later; one that idles on the way gives other gaps.
+#[test]
+fn same_lines_need_equal_gaps() {
+    let trace = |schedule: &[u8]| ran(&given_whole(), schedule).1.concat();
+    let given = trace(&SCHEDULE);
+    let idles_first = [&[3, 3][..], &SCHEDULE].concat();
+    let idles_later = [&SCHEDULE[..17], &[3, 3], &SCHEDULE[17..]].concat();
+    assert_eq!(trace(&idles_first)[6 * 8], 19);
+    assert!(lanq::same_lines(&given, &trace(&idles_first)));
+    assert_eq!(trace(&idles_later)[6 * 8], 19);
+    assert!(!lanq::same_lines(&given, &trace(&idles_later)));
+    assert!(lanq::same_lines(&given[..48], &trace(&idles_later)[..48]));
+    // "counted with its sign and never wrapped"
+    let two = |first, second| [first, 0, 9, U, U, U, second, 1, 9, U, U, U];
+    assert!(lanq::same_lines(&two(0, 5), &two(65_530, 65_535)));
+    assert!(!lanq::same_lines(&two(0, 5), &two(5, 0)));
+    assert!(!lanq::same_lines(&two(0, 5), &two(65_531, 0)));
+    assert!(!lanq::same_lines(&two(0, 65_535), &two(65_535, 0)));
+}
+
 /// The longest schedule, to its last entry.
 #[test]
 fn every_entry_of_the_longest_schedule() {

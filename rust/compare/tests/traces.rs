@@ -4,9 +4,9 @@
 use std::cmp::Ordering;
 use std::collections::BTreeMap;
 
-use compare::look_ups::{asked, TRACES};
+use compare::traces::{asked, PAIRS, TRACES};
 use data::LINE_WORDS;
-use generate::{case, trace, Random};
+use generate::{case, pair, trace, Difference, Random};
 use model::lookup::{decided, look_up, same_lines, whole_lines};
 
 /// How a look-up came to its answer.
@@ -116,4 +116,42 @@ fn same_lines_agree_on_any_words() {
         answers[usize::from(same_lines_agree(&a, &b))] += 1;
     }
     assert!(answers.iter().all(|&n| n > 1_000), "{answers:?}");
+}
+
+/// Pairs that differ in nothing, in a shift, in one gap, in its sign, in what
+/// wrapping would hide, in a column or in a line; asked both ways.
+#[test]
+fn same_lines_agree_on_pairs() {
+    let mut counts: BTreeMap<Difference, u64> = BTreeMap::new();
+    for seed in 0..PAIRS {
+        let pair = pair(seed);
+        let same = same_lines_agree(&pair.first, &pair.second);
+        assert_eq!(same_lines_agree(&pair.second, &pair.first), same);
+        assert_eq!(same, pair.difference.is_same(), "{pair:?}");
+        *counts.entry(pair.difference).or_default() += 1;
+    }
+    for difference in Difference::ALL {
+        assert!(counts.get(&difference).is_some_and(|count| *count > 100), "{difference:?}: {counts:?}");
+    }
+}
+
+/// A run's trace against itself in later entries, with an idle entry more at the
+/// start or in the middle of the schedule.
+#[test]
+fn same_lines_agree_on_runs() {
+    let mut answers = [0, 0];
+    for seed in 0..400 {
+        let case = case(seed);
+        let lines = |schedule: &[u8]| {
+            let run = model::check_and_run(&case.program, schedule, &case.outcomes, case.trace_len, case.work_len);
+            run.map(|run| run.trace_words()).unwrap_or_default()
+        };
+        let before = lines(&case.schedule);
+        for at in [0, case.schedule.len() / 2] {
+            let mut idle = case.schedule.clone();
+            idle.insert(at, 255);
+            answers[usize::from(same_lines_agree(&before, &lines(&idle)))] += 1;
+        }
+    }
+    assert!(answers.iter().all(|&n| n > 50), "{answers:?}");
 }

@@ -3,7 +3,7 @@
 //!
 //! - [`case`] gives a program, a schedule, outcomes and the lent lengths
 //! - [`file`] gives the bytes of a file for the printing program
-//! - [`trace`] gives words to look holders up in
+//! - [`trace`] gives words to look holders up in, [`pair`] two traces to compare
 //! - [`Coverage`] counts what the cases have brought about
 
 #![forbid(unsafe_code)]
@@ -26,7 +26,7 @@ pub use coverage::{observe, Answer, Coverage};
 pub use files::file;
 pub use mark::Mark;
 pub use random::Random;
-pub use traces::trace;
+pub use traces::{pair, trace, Difference, Pair};
 
 use data::program::{table, Method};
 use data::WORK_WORDS;

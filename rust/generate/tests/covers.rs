@@ -1,9 +1,10 @@
 //! The generated cases bring about everything that coverage asks for, and the
 //! ownership statement holds after every one of their entries.
 
-use std::collections::BTreeSet;
+use std::collections::{BTreeMap, BTreeSet};
 
-use generate::{case, file, observe, Coverage, Mark};
+use generate::{case, file, observe, pair, trace, Coverage, Difference, Mark};
+use model::lookup::same_lines;
 use model::print::print;
 
 #[test]
@@ -34,9 +35,26 @@ fn a_seed_names_one_case() {
     for seed in [0, 1, 77, u64::MAX] {
         assert_eq!(case(seed), case(seed));
         assert_eq!(file(seed), file(seed));
+        assert_eq!(trace(seed), trace(seed));
+        assert_eq!(pair(seed), pair(seed));
     }
     let cases: BTreeSet<Vec<u16>> = (0..50).map(|seed| case(seed).program).collect();
     assert!(cases.len() > 45);
+}
+
+/// Pairs of traces differ in every way, and are the same by the model where
+/// they are by the way in which they were made.
+#[test]
+fn pairs_cover_every_difference() {
+    let mut counts: BTreeMap<Difference, u64> = BTreeMap::new();
+    for seed in 0..5_000 {
+        let pair = pair(seed);
+        assert_eq!(same_lines(&pair.first, &pair.second), pair.difference.is_same(), "seed {seed}: {pair:?}");
+        *counts.entry(pair.difference).or_default() += 1;
+    }
+    for difference in Difference::ALL {
+        assert!(counts.get(&difference).is_some_and(|count| *count > 20), "{difference:?}: {counts:?}");
+    }
 }
 
 /// The first two words of the last printed line.

@@ -87,12 +87,16 @@ pub fn holder(trace: &(impl Trace + ?Sized), k: usize, qubit: u16) -> LookUp {
     LookUp { holder: (number != UNUSED).then_some(number), read: count(answer.read) }
 }
 
-/// Whether two traces have the same lines, the entries' numbers left out.
+/// Whether two traces have the same lines, the entries' numbers left out, and
+/// the same gaps between the entries of each line and the next. So a trace that
+/// is shifted as a whole is the same.
 ///
 /// ```
-/// let (first, later) = ([0, 2, 1, 0, 65535, 65535], [9, 2, 1, 0, 65535, 65535]);
-/// assert!(lanq::same_lines(&first, &later));
-/// assert!(!lanq::same_lines(&first, lanq::lines(&[])));
+/// // Process 2 makes qubit 0 and gives it to process 5.
+/// let trace = |made, given| [made, 2, 1, 0, 65535, 65535, given, 2, 6, 5, 3, 0];
+/// assert!(lanq::same_lines(&trace(0, 3), &trace(40, 43)));
+/// assert!(!lanq::same_lines(&trace(0, 3), &trace(0, 40)));
+/// assert!(!lanq::same_lines(&trace(0, 3), lanq::lines(&[])));
 /// ```
 pub fn same_lines(a: &(impl Trace + ?Sized), b: &(impl Trace + ?Sized)) -> bool {
     let (a, b) = (a.words(), b.words());

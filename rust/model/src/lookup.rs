@@ -52,9 +52,18 @@ pub fn decided(line: &Line, qubit: u16) -> Option<u16> {
 }
 
 /// "whether two traces have the same lines with column 0 left out"; "no where
-/// the numbers of lines differ"
+/// the numbers of lines differ". Paper 11: "Same shall now also need equal
+/// gaps".
 pub fn same_lines(first: &[u16], second: &[u16]) -> bool {
-    without_entries(first) == without_entries(second)
+    without_entries(first) == without_entries(second) && gaps(first) == gaps(second)
+}
+
+/// "between each line and the next, the entry number changes by the same amount
+/// in both, counted with its sign and never wrapped"
+fn gaps(words: &[u16]) -> Vec<i32> {
+    let lines = whole_lines(words);
+    let entries = lines.iter().map(|line| i32::from(line.entry));
+    entries.clone().zip(entries.skip(1)).map(|(one, next)| next - one).collect()
 }
 
 /// The lines, each with the same number in column 0.

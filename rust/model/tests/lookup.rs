@@ -111,13 +111,67 @@ fn the_look_up_answers_what_it_promised() {
     }
 }
 
-#[test]
-fn same_but_for_column_0() {
-    let mut other = WORDS;
-    for line in 0..4 {
-        other[6 * line] = 100;
+/// The lines of `WORDS` in other entries.
+fn in_entries(entries: [u16; 4]) -> [u16; 24] {
+    let mut words = WORDS;
+    for (line, entry) in entries.into_iter().enumerate() {
+        words[6 * line] = entry;
     }
-    assert!(same_lines(&WORDS, &other));
+    words
+}
+
+/// Whether traces in these entries are the same, asked both ways.
+fn same_in(first: [u16; 4], second: [u16; 4]) -> bool {
+    let (first, second) = (in_entries(first), in_entries(second));
+    let same = same_lines(&first, &second);
+    assert_eq!(same, same_lines(&second, &first));
+    same
+}
+
+/// Paper 11: "Traces shifted as a whole still match."
+#[test]
+fn traces_shifted_as_a_whole_are_the_same() {
+    assert!(same_in([0, 1, 2, 3], [0, 1, 2, 3]));
+    assert!(same_in([0, 1, 2, 3], [100, 101, 102, 103]));
+    assert!(same_in([7, 7, 7, 7], [0, 0, 0, 0]));
+    assert!(same_in([0, 9, 4, 65_000], [535, 544, 539, 65_535]));
+}
+
+/// "Same shall now also need equal gaps", the last one too.
+#[test]
+fn every_gap_counts() {
+    assert!(!same_in([0, 1, 2, 3], [0, 2, 3, 4]));
+    assert!(!same_in([0, 1, 2, 3], [0, 1, 3, 4]));
+    assert!(!same_in([0, 1, 2, 3], [0, 1, 2, 4]));
+    assert!(!same_in([0, 1, 2, 3], [100; 4]));
+    // Two gaps that make up for each other.
+    assert!(!same_in([0, 4, 8, 9], [0, 5, 8, 9]));
+}
+
+/// "counted with its sign and never wrapped"
+#[test]
+fn gaps_have_a_sign_and_do_not_wrap() {
+    assert!(!same_in([10, 15, 15, 15], [15, 10, 10, 10]));
+    assert!(!same_in([0, 5, 6, 7], [65_531, 0, 1, 2]));
+    assert!(!same_in([0, 1, 2, 3], [65_535, 0, 1, 2]));
+    // From -65,535 to 65,535.
+    assert!(!same_in([0, 0, 0, 65_535], [65_535, 65_535, 65_535, 0]));
+    assert!(!same_in([0, 65_535, 0, 65_535], [0, 65_535, 0, 65_534]));
+    assert!(!same_in([0, 0, 0, 65_535], [1, 1, 1, 0]));
+}
+
+/// One line has no gap.
+#[test]
+fn one_line_is_the_same_in_any_entry() {
+    let late = in_entries([65_535, 0, 0, 0]);
+    assert!(same_lines(&WORDS[..6], &late[..6]));
+    // What belongs to a part of a line does not count.
+    assert!(same_lines(&WORDS[..6], &late[..11]));
+    assert!(!same_lines(&WORDS[..12], &late[..12]));
+}
+
+#[test]
+fn every_other_column_counts() {
     assert!(same_lines(&WORDS, &WORDS));
     for place in (0..24).filter(|place| place % 6 != 0) {
         let mut other = WORDS;

@@ -1,6 +1,6 @@
 //! Wrong look-ups of a holder.
 
-use compare::look_ups::{asked, TRACES};
+use compare::traces::{asked, TRACES};
 use data::{Line, LookUp, UNUSED};
 use generate::trace;
 use model::lookup::{decided, look_up, whole_lines};

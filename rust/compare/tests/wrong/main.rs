@@ -15,6 +15,7 @@ mod no_click;
 mod ops;
 mod questions;
 mod rules;
+mod same_lines;
 
 use compare::inputs::{input, shortest};
 use compare::left::{by_library, by_model, difference, Buffers, Left};

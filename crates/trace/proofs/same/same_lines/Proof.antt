@@ -5,15 +5,15 @@ use borrow.Author.Needs.{needs}
 use borrow.Author.Tests.{not-true, not-false}
 use native.Mathlib.Omega.{arith}
 use lib.ListN.{length, drop}
-use Rattle.trace.specs.Trace.{linesOf, sameAll, sameLines}
-use Rattle.trace.proofs.SameAll.{sameAll-lengths, sameAll-agree, sameAll-differ, sameAll-end}
+use Rattle.trace.specs.Trace.{linesOf, sameTimed, sameLines}
+use Rattle.trace.proofs.SameTimed.{sameTimed-lengths, sameTimed-agree, sameTimed-differ, sameTimed-end}
 use Rattle.trace.proofs.same.same_lines.Statement.{statement}
 use Rattle.trace.proofs.same.same_lines.Tie as tie
 
 abbrev Inv-loop : tie.InvT-loop
 Inv-loop a b n i₀ i =
     (i ≤ n) × (n ≡ length (linesOf a)) × (n ≡ length (linesOf b))
-    × (sameAll (linesOf a) (linesOf b) ≡ sameAll (drop i (linesOf a)) (drop i (linesOf b)))
+    × (sameTimed (linesOf a) (linesOf b) ≡ sameTimed (drop i (linesOf a)) (drop i (linesOf b)))
 
 abbrev μ-loop : tie.MeasureT-loop
 μ-loop a b n i₀ i = n - i
@@ -28,30 +28,23 @@ returns : tie.Need-returns Inv-loop μ-loop
 unfolding sameLines
 returns c =
     let args = c .before .before .before .before .before .args in
-    sym (sameAll-lengths (linesOf (args .a .now)) (linesOf (args .b .now)) (omega arith))
+    sym (sameTimed-lengths (linesOf (args .a .now)) (linesOf (args .b .now)) (omega arith))
 
 loop-holds : tie.Need-loop-holds Inv-loop μ-loop
 loop-holds c = (search needs, c .before .before .line-count .ensures, omega arith, refl)
 
-line-at-requires : tie.Need-line-at-requires Inv-loop μ-loop
-line-at-requires c κs = omega arith
-
-line-at-requires-2 : tie.Need-line-at-requires-2 Inv-loop μ-loop
-line-at-requires-2 c κs = omega arith
-
-same-line-requires : tie.Need-same-line-requires Inv-loop μ-loop
-same-line-requires c κs = search needs
+same-at-requires : tie.Need-same-at-requires Inv-loop μ-loop
+same-at-requires c κs = let loop = c .before .loop in (search needs, loop .inv .1, loop .inv .2)
 
 returns-2 : tie.Need-returns-2 Inv-loop μ-loop
 unfolding sameLines
 returns-2 c =
-    let args = c .before .before .before .before .before .before .before .before .before .before .before .args in
-    let loop = c .before .before .before .before .before .loop in
+    let args = c .before .before .before .before .before .before .before .before .before .args in
+    let loop = c .before .before .before .loop in
+    let differ = sym (c .before .same-at .ensures) ∙ not-true (c .before .same-at .result) (c .if2 .taken) in
     sym
     (loop .inv .3
-    ∙ sameAll-differ (linesOf (args .a .now)) (linesOf (args .b .now)) (loop .i) (omega arith) (omega arith)
-    (c .before .before .before .line-at .ensures) (c .before .before .line-at2 .ensures)
-    (sym (c .before .same-line .ensures) ∙ not-true (c .before .same-line .result) (c .if2 .taken)))
+    ∙ sameTimed-differ (linesOf (args .a .now)) (linesOf (args .b .now)) (loop .i) (omega arith) (omega arith) differ)
 
 add-i : tie.Need-add-i Inv-loop μ-loop
 add-i c = search needs
@@ -61,14 +54,14 @@ loop-less c = search needs
 
 loop-again : tie.Need-loop-again Inv-loop μ-loop
 loop-again c =
-    let args = c .before .before .before .before .before .before .before .before .before .before .before .args in
-    let loop = c .before .before .before .before .before .loop in (
+    let args = c .before .before .before .before .before .before .before .before .before .args in
+    let loop = c .before .before .before .loop in
+    let agree = sym (c .before .same-at .ensures) ∙ not-false (c .before .same-at .result) (c .if2 .left) in (
       search needs,
       loop .inv .1,
       loop .inv .2,
-      loop .inv .3 ∙ sameAll-agree (linesOf (args .a .now)) (linesOf (args .b .now)) (loop .i) (omega arith) (omega arith)
-          (c .before .before .before .line-at .ensures) (c .before .before .line-at2 .ensures)
-          (sym (c .before .same-line .ensures) ∙ not-false (c .before .same-line .result) (c .if2 .left)),
+      loop .inv .3
+          ∙ sameTimed-agree (linesOf (args .a .now)) (linesOf (args .b .now)) (loop .i) (omega arith) (omega arith) agree,
     )
 
 returns-3 : tie.Need-returns-3 Inv-loop μ-loop
@@ -76,7 +69,7 @@ unfolding sameLines
 returns-3 c =
     let args = c .before .before .before .before .before .before .before .args in
     let loop = c .before .loop in
-    let end = sameAll-end (linesOf (args .a .now)) (linesOf (args .b .now)) (loop .i) (omega arith) (omega arith) in
+    let end = sameTimed-end (linesOf (args .a .now)) (linesOf (args .b .now)) (loop .i) (omega arith) (omega arith) in
     sym (loop .inv .3 ∙ end)
 
 pub same-lines-spec : {M : Type 1} → statement M
@@ -89,9 +82,7 @@ same-lines-spec =
     line-count-requires-2
     returns
     loop-holds
-    line-at-requires
-    line-at-requires-2
-    same-line-requires
+    same-at-requires
     returns-2
     add-i
     loop-less

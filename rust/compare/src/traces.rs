@@ -1,7 +1,9 @@
-//! The look-ups that are compared.
+//! The look-ups and the same-lines answers that are compared.
 
 /// How many traces of no run are looked up in.
 pub const TRACES: u64 = 400;
+/// How many pairs of traces are compared.
+pub const PAIRS: u64 = 20_000;
 
 /// Numbers of lines, more than there are too, of a long trace only some in the
 /// middle; and every small qubit number and the largest one.
