@@ -179,7 +179,7 @@ pub joined-new : (c : Config) (pr : Process) → processAt (joined c pr) (length
 unfolding processAt joined
 joined-new c pr = getD-append-seam (c .processes) pr [] unmade
 
-joined-last : (c : Config) (pr : Process) (m : ℕ) → m < length (joined c pr .processes) → length (c .processes) ≤ m → m ≡ length (c .processes)
+pub joined-last : (c : Config) (pr : Process) (m : ℕ) → m < length (joined c pr .processes) → length (c .processes) ≤ m → m ≡ length (c .processes)
 unfolding joined
 joined-last c pr m h k = omega (arith, length-append (c .processes) (pr ∷ []))
 

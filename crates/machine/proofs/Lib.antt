@@ -16,5 +16,6 @@ pub mod Effects
 pub mod Sound
 pub mod Steps
 pub mod Partner
+pub mod Faults
 pub mod Reached
 pub mod NoClick

@@ -185,6 +185,20 @@ appliedIn machine k s n (offers o) = meetIfIn machine k s (meetingIn machine s n
 unfoldable pub effectIn : {F : Type 0} → MachineOf F → ℕ → StateOf F → ℕ → EffectOf F
 effectIn m k s n = appliedIn m k s n (m .act s n)
 
+unfoldable pub faulted : {F : Type 0} → ActOf F → Option ℕ
+faulted idle = none
+faulted stuck = none
+faulted (faults f) = some f
+faulted (goes fs es u) = none
+faulted ends = none
+faulted (makes t fs) = none
+faulted (forks m args fs) = none
+faulted (offers o) = none
+
+-- the fault by which process n would stop if it were named, none where it would not
+unfoldable pub faultIn : {F : Type 0} → MachineOf F → StateOf F → ℕ → Option ℕ
+faultIn m s n = faulted (m .act s n)
+
 unfoldable pub isMeeting : {F : Type 0} → Option (MeetingOf F) → Bool
 isMeeting none = false
 isMeeting (some e) = true
@@ -231,6 +245,9 @@ applied p outcomes = appliedIn (tableMachine p outcomes)
 
 abbrev pub effectOf : List ℕ → List ℕ → ℕ → State → ℕ → Effect
 effectOf p outcomes = effectIn (tableMachine p outcomes)
+
+abbrev pub faultOf : List ℕ → List ℕ → State → ℕ → Option ℕ
+faultOf p outcomes = faultIn (tableMachine p outcomes)
 
 abbrev pub moves : List ℕ → List ℕ → State → ℕ → Act → Bool
 moves p outcomes = movesIn (tableMachine p outcomes)

@@ -4,6 +4,7 @@ pub mod Act
 pub mod Entry
 pub mod Run
 pub mod Owner
+pub mod Faults
 pub mod Sound
 pub mod Answer
 pub mod Cases

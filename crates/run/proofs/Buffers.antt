@@ -1,28 +1,25 @@
--- The answer and the lent buffers after `run`, by the verdict of the questions; what is read back from the buffers; and what
--- a fault leaves. The demands (Demands.antt) are put together from these.
-use Prim.Native.Nat.{ℕ, suc, _*_, _≤_, _<_}
+-- The answer and the lent buffers after `run`, by the verdict of the questions, and what is read back from them. The demands
+-- (Demands.antt) are put together from these.
+use Prim.Native.Nat.{ℕ, suc, _*_, _≤_}
 use mathlib.Core.Path.{_≡_, refl, _∙_, ap, ap₂}
-use mathlib.Core.Logic.{_≢_}
 use mathlib.Core.List.{List, [], _∷_, _++_}
 use native.Mathlib.Omega.{arith}
 use lib.ListN.{take, drop, length}
 use lib.Seq.{take-at, drop-at}
 use Rattle.lists.proofs.Tests.{cond-both}
 use Rattle.table.specs.Questions.{Verdict, accepted, refused, questions}
-use Rattle.machine.specs.State.{Process, Line, State, processAt, stopped}
-use Rattle.machine.specs.Act.{Act, actOf, faults}
-use Rattle.machine.specs.Entry.{effectOf, applied, appliedIn, effectIn}
+use Rattle.machine.specs.State.{Line, State}
+use Rattle.machine.specs.Entry.{effectOf}
 use Rattle.machine.specs.Run.{Result, allOver, noneAble, fits, afterEffect, runFrom, run, runFromIn, runIn}
 use Rattle.machine.specs.Answer.{Answer, refusal, ran, resultAnswer, answerOf, linesIn, lineWords, traceWords, traceAfter}
 use Rattle.machine.specs.Answer as machine
-use Rattle.machine.proofs.Giving.{process-same, process-other}
 use Rattle.machine.proofs.Sound.{sound}
 use Rattle.layout.specs.Layout.{encode, storeAfter, decode}
 use Rattle.layout.proofs.RoundTrip.{encode-length, run-back}
 use Rattle.trace.specs.Trace.{linesOf}
 use Rattle.trace_lines.proofs.LineWritten.{trace-length}
 use Rattle.run_schedule.proofs.Accepting.{table-kept, outcomes-small}
-use Rattle.run.specs.Answers.{keptIfRefused, traceLeft, storeLeft, linesNo, configRead, linesRead}
+use Rattle.run.specs.Answers.{keptIfRefused, traceLeft, storeLeft, linesNo, usedNo, configRead, linesRead, stateRead}
 
 -- the words of lines are these lines
 lines-back : (ls : List Line) → linesOf (traceWords ls) ≡ ls
@@ -45,19 +42,6 @@ ends-from p outcomes room s k (n ∷ schedule) =
 pub four-ends : (p schedule outcomes trace : List ℕ) → run p outcomes (linesIn (length trace)) schedule .end ≤ 3
 unfolding runIn
 four-ends p schedule outcomes trace = ends-from p outcomes (linesIn (length trace)) _ 0 schedule
-
--- what a fault leaves: its own process stopped, any other as it was
-pub fault-alone : (p outcomes : List ℕ) (k : ℕ) (s : State) (n f m : ℕ) → actOf p outcomes s n ≡ faults f → n < length (s .config .processes)
-    → (processAt (effectOf p outcomes k s n .config) n ≡ record { status = stopped f; frames = processAt (s .config) n .frames })
-    × (m ≢ n → processAt (effectOf p outcomes k s n .config) m ≡ processAt (s .config) m)
-unfolding effectIn appliedIn
-fault-alone p outcomes k s n f m e l = (
-  ap (λ (a : Act). processAt (applied p outcomes k s n a .config) n) e ∙ process-same (s .config) n halted l,
-  λ ne. ap (λ (a : Act). processAt (applied p outcomes k s n a .config) m) e ∙ process-other (s .config) n m halted ne,
-)
-  where
-    halted : Process
-    halted = record { status = stopped f; frames = processAt (s .config) n .frames }
 
 module _ (p schedule outcomes trace work : List ℕ) where
   abbrev verdict : Verdict
@@ -128,3 +112,7 @@ module _ (p schedule outcomes trace work : List ℕ) where
 
     pub beyond-kept : drop 8192 (storeLeft p schedule outcomes trace work) ≡ drop 8192 work
     beyond-kept = ap (drop 8192) store-is ∙ drop-at (encode (result .state .config)) (drop 8192 work) 8192 words-whole
+
+    pub state-read : stateRead p schedule outcomes trace work ≡ result .state
+    unfolding stateRead usedNo
+    state-read = λ i. record { config = config-read i; used = ap usedNo answer-ran i; lines = lines-read i }

@@ -3,28 +3,35 @@
 --
 -- The contract of `run` (src/lib.rt) says that its answer is `answerOf`, the trace that it leaves `traceLeft` and the store
 -- that it leaves `storeLeft`. `linesRead` and `configRead` (specs/Answers.antt) are the lines and the configuration that are
--- read back from the two. `Owned` (crate machine, specs/Owner.antt) is what ownership says of a configuration and lines.
-use Prim.Native.Nat.{ℕ, _*_, _≤_, _<_}
+-- read back from the two, `stateRead` both with the outcomes used. In the crate machine, `faultOf` (specs/Entry.antt) is the
+-- fault by which a process would stop if it were named, `StoppedBy` (specs/Faults.antt) what a fault does, and `Owned`
+-- (specs/Owner.antt) what ownership says of a configuration and lines.
+use Prim.Native.Nat.{ℕ, suc, _*_, _≤_, _<_}
 use mathlib.Core.Path.{_≡_, sym, subst₂}
-use mathlib.Core.Logic.{_≢_}
 use mathlib.Core.List.{List}
-use lib.ListN.{take, drop, length}
+use mathlib.Core.Option.{some}
+use lib.ListN.{getD, take, drop, length}
 use Rattle.table.specs.Questions.{accepted, refused, questions}
 use Rattle.machine.specs.State.{State, processAt, stopped}
-use Rattle.machine.specs.Act.{actOf, faults}
-use Rattle.machine.specs.Entry.{effectOf}
+use Rattle.machine.specs.Entry.{faultOf}
 use Rattle.machine.specs.Run.{Result, run}
+use Rattle.machine.specs.Faults.{StoppedBy}
 use Rattle.machine.specs.Owner.{Owned}
 use Rattle.machine.specs.Answer.{refusal, ran, answerOf, linesIn}
 use Rattle.machine.proofs.Ownership.{ownership}
 use Rattle.run_schedule.proofs.Accepting.{shorter-accepted}
-use Rattle.run.specs.Answers.{traceLeft, storeLeft, configRead, linesRead}
+use Rattle.run.specs.Answers.{traceLeft, storeLeft, configRead, linesRead, stateRead}
 use Rattle.run.proofs.Buffers as buffers
+use Rattle.run.proofs.Faults as faults
 
 module _ (p schedule outcomes trace work : List ℕ) where
   -- what the defined run comes to
   abbrev defined : Result
   defined = run p outcomes (linesIn (length trace)) schedule
+
+  -- what is read back after a run on the schedule's first k entries
+  abbrev read : ℕ → State
+  read k = stateRead p (take k schedule) outcomes trace work
 
   -- Demand 1: refused with the number and place that the questions give, every lent buffer untouched ..
   pub demand-1-refused : (n i : ℕ) → questions p schedule outcomes (length work) ≡ refused n i
@@ -44,6 +51,18 @@ module _ (p schedule outcomes trace work : List ℕ) where
         × (defined .end ≤ 3)
     demand-1-ends = (buffers.answer-ran p schedule outcomes trace work ok, buffers.four-ends p schedule outcomes trace)
 
+    -- .. and in every run a fault stops its own process, by its number, and no other. Where the process that entry k names
+    -- would fault, by what is read back after k entries, then what is read back after k + 1 is that process stopped (its
+    -- frames kept), every other process and every count as before, one line more, and no outcome used ..
+    pub demand-1-fault : (k f : ℕ) → k < defined .entries → faultOf p outcomes (read k) (getD schedule k 0) ≡ some f
+        → StoppedBy k (getD schedule k 0) f (read k) (read (suc k))
+    demand-1-fault = faults.fault-read p schedule outcomes trace work ok
+
+    -- .. and a process is read back as stopped only where an entry before named it and it faulted there
+    pub demand-1-stopped : (k n f : ℕ) → processAt (read k .config) n .status ≡ stopped f
+        → (j : ℕ) × (j < k) × (j < defined .entries) × (getD schedule j 0 ≡ n) × (faultOf p outcomes (read j) n ≡ some f)
+    demand-1-stopped = faults.stopped-read p schedule outcomes trace work ok
+
     -- Demand 2: the lines, the words beyond them, the final configuration and the words beyond it are those of the defined
     -- run; that the answer's counts are stands above
     pub demand-2-lines : linesRead p schedule outcomes trace work ≡ defined .state .lines
@@ -58,12 +77,6 @@ module _ (p schedule outcomes trace work : List ℕ) where
 
     pub demand-2-beyond : drop 8192 (storeLeft p schedule outcomes trace work) ≡ drop 8192 work
     demand-2-beyond = buffers.beyond-kept p schedule outcomes trace work ok
-
--- Demand 1, "a fault stops its own process, by number, and no other": of every entry of the defined run
-pub demand-1-fault : (p outcomes : List ℕ) (k : ℕ) (s : State) (n f m : ℕ) → actOf p outcomes s n ≡ faults f → n < length (s .config .processes)
-    → (processAt (effectOf p outcomes k s n .config) n ≡ record { status = stopped f; frames = processAt (s .config) n .frames })
-    × (m ≢ n → processAt (effectOf p outcomes k s n .config) m ≡ processAt (s .config) m)
-demand-1-fault = buffers.fault-alone
 
 -- Demand 3: for every input that is not refused and every k, what the lent trace and the lent work store hold after a run
 -- on the schedule's first k entries, read back, is owned: no qubit and no channel end is in reach of two processes,

@@ -1,3 +1,4 @@
 pub mod Answering
 pub mod Buffers
+pub mod Faults
 pub mod Demands

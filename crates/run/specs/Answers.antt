@@ -3,7 +3,7 @@ use Prim.Native.Nat.{ℕ, _*_}
 use mathlib.Core.List.{List}
 use lib.ListN.{take, length}
 use Rattle.table.specs.Questions.{Verdict, accepted, refused, questions}
-use Rattle.machine.specs.State.{Config, Line}
+use Rattle.machine.specs.State.{Config, Line, State}
 use Rattle.machine.specs.Run.{run}
 use Rattle.machine.specs.Answer.{refusal, ran, answerOf, linesIn, traceAfter}
 use Rattle.machine.specs.Answer as machine
@@ -34,11 +34,15 @@ storeLeft p schedule outcomes trace work =
     keptIfRefused (questions p schedule outcomes (length work)) work
     (storeAfter (run p outcomes (linesIn (length trace)) schedule .state .config) work)
 
--- What stands in the buffers after a run, read back: the configuration that the first 8,192 words of the store give, and
--- the lines that the first words of the trace give, as many as the answer says.
+-- What stands after a run, read back: the configuration that the first 8,192 words of the store give, the lines that the
+-- first words of the trace give, as many as the answer says, and the outcomes used, by the answer.
 unfoldable pub linesNo : machine.Answer → ℕ
 linesNo (refusal n i) = 0
 linesNo (ran e k l u) = l
+
+unfoldable pub usedNo : machine.Answer → ℕ
+usedNo (refusal n i) = 0
+usedNo (ran e k l u) = u
 
 unfoldable pub configRead : List ℕ → List ℕ → List ℕ → List ℕ → List ℕ → Config
 configRead p schedule outcomes trace work = decode (take 8192 (storeLeft p schedule outcomes trace work))
@@ -48,3 +52,10 @@ linesRead p schedule outcomes trace work =
     linesOf
     (take (6 * linesNo (answerOf p schedule outcomes (linesIn (length trace)) (length work)))
     (traceLeft p schedule outcomes trace work))
+
+unfoldable pub stateRead : List ℕ → List ℕ → List ℕ → List ℕ → List ℕ → State
+stateRead p schedule outcomes trace work = record {
+  config = configRead p schedule outcomes trace work;
+  used = usedNo (answerOf p schedule outcomes (linesIn (length trace)) (length work));
+  lines = linesRead p schedule outcomes trace work;
+}
