@@ -1,10 +1,14 @@
 pub mod Opened
 pub mod Cases
+pub mod Examples
 pub mod Things
 pub mod Operands
 pub mod Within
+pub mod Invariant
+pub mod Lines
 pub mod Holder
 pub mod Giving
+pub mod Numbers
 pub mod Ownership
 pub mod Prefix
 pub mod Typing

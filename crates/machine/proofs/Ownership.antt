@@ -1,6 +1,7 @@
 -- Demand 3 over the whole schedule. The invariant: whatever a process reaches, the lines so far name it as holder, and
--- it was made; and every line is lawful by the lines above it. One lemma carries it over any entry: whatever the entry
--- did, some things went to one process by its lines, and beyond them nobody reaches more than before.
+-- it was made; every line is lawful by the lines above it; and numbers are given out in order (Numbers.antt). One lemma
+-- carries reach and holders over any entry: whatever the entry did, some things went to one process by its lines, and beyond
+-- them nobody reaches more than before.
 use Prim.Native.Nat.{ℕ, zero, suc, _<_}
 use mathlib.Core.Path.{_≡_, refl, sym, _∙_, ap, subst}
 use mathlib.Core.Logic.{_≢_, _⊎_, inl, inr, ⊎-elim}
@@ -13,19 +14,22 @@ use lib.ListN.{take, length}
 use lib.Dec.{T, eqb, eqb→eq}
 use borrow.Author.Tests.{eqb-false}
 use Rattle.lists.specs.Lists.{any, All}
-use Rattle.lists.proofs.Tests.{or-cases, or-left, and-left, and-right, cond-both}
+use Rattle.lists.proofs.Tests.{or-cases, or-left, and-left, and-right}
 use Rattle.lists.proofs.Any.{any-elim, firstSome-found}
 use Rattle.machine.specs.Value.{Thing, qubit, channel, end, Value, ref, covers}
 use Rattle.machine.specs.State.{Frame, finished, stopped, Process, Config, Line, State, Event, processAt, setProcess, started, startConfig, start, lineOf, gave, forked, met, finishes, stops, startConfigWith, startWith}
 use Rattle.machine.specs.Act.{Offer, sends, receives, Act, idle, stuck, faults, goes, ends, makes, forks, offers, actOf}
-use Rattle.machine.specs.Entry.{Effect, Meeting, joins, offered, meetsWith, meetingOf, meetIfIn, meetIn, runs, counted, making, joined, forking, framesWithout, thingsOf, pushTop, handing, applied, effectOf, appliedIn, effectIn, forkingIn, meetingIn, tableMachine}
-use Rattle.machine.specs.Run.{Result, allOver, noneAble, fits, afterEffect, runFrom, run, runFromIn, runIn}
-use Rattle.machine.specs.Owner.{names, valuesOf, reaches, holder, holderAfter, Holds, LineHeld, MeetingHeld, Owned}
+use Rattle.machine.specs.Entry.{Effect, Meeting, joins, offered, meetsWith, meetingOf, meetIfIn, meetIn, runs, counted, making, joined, forking, framesWithout, thingsOf, pushTop, handing, applied, effectOf, tableMachine, appliedIn, effectIn, forkingIn, meetingIn}
+use Rattle.machine.specs.Run.{afterEffect, run, runIn}
+use Rattle.machine.specs.Owner.{names, valuesOf, reaches, holder, holderAfter, Holds, LineHeld, LineNew, MeetingHeld, Owned}
 use Rattle.machine.specs.Sound.{Made}
 use Rattle.machine.proofs.Things.{beq-eq}
 use Rattle.machine.proofs.Within.{InReach, Within, FramesWithin, Quiet, Next, OfferWithin, ActWithin, frames-own, frame-started, act-within}
-use Rattle.machine.proofs.Holder.{covered, LinesHeld, holder-append, holder-kept, holder-making, holder-quiet, holder-given, holder-handing, lines-append, line-at, line-free, lines-quiet, lines-given, lines-handing}
-use Rattle.machine.proofs.Giving.{frames-reach, things-within, giver-left, child-reach, receiver-reach, others-keep, reach-set, reach-joined, count-set}
+use Rattle.machine.proofs.Invariant.{run-keeps}
+use Rattle.machine.proofs.Numbers.{Numbered, entry-numbered, start-numbered}
+use Rattle.machine.proofs.Lines.{each-append, each-at, Dated, dated-next, effect-of}
+use Rattle.machine.proofs.Holder.{covered, LinesHeld, holder-append, holder-kept, holder-making, holder-quiet, holder-given, holder-handing, line-free, lines-quiet, Givable, givable-first, lines-given, lines-handing}
+use Rattle.machine.proofs.Giving.{frames-reach, things-within, giver-left, child-reach, receiver-reach, others-keep, reach-made, reach-set, reach-joined, count-set}
 
 -- The invariant of a configuration and the lines so far.
 pub record Kept (c : Config) (ls : List Line) : Type 0 where
@@ -61,7 +65,7 @@ moved-keeps : (c c′ : Config) (ls new : List Line) (q : ℕ) (ts : List Thing)
 moved-keeps c c′ ls new q ts v h = record {
   named = λ x n r. v .holders x ∙ ⊎-elim (given x n) (stayed x n) (v .reach n x r);
   made = λ x n r. ⊎-elim (λ g. v .fresh x (g .1)) (λ o. v .still x (h .made x n (o .0))) (v .reach n x r);
-  lawful = lines-append [] ls new (h .lawful) (v .lines);
+  lawful = each-append LineHeld [] ls new (h .lawful) (v .lines);
 }
   where
     given : (x : Thing) (n : ℕ) → (n ≡ q) × T (covered ts x) → cond (covered ts x) (some q) (holder ls x) ≡ some n
@@ -176,9 +180,9 @@ module _ (c : Config) (ls : List Line) (h : Kept c ls) (k n : ℕ) where
 
   line-making : (t : Thing) → LineHeld ls (lineOf k n (making t))
   unfolding making
-  line-making (qubit a) = line-free ls (lineOf k n (making (qubit a))) (omega arith) (omega arith) (omega arith)
-  line-making (channel a) = line-free ls (lineOf k n (making (channel a))) (omega arith) (omega arith) (omega arith)
-  line-making (end a s) = line-free ls (lineOf k n (making (end a s))) (omega arith) (omega arith) (omega arith)
+  line-making (qubit a) = line-free ls (lineOf k n (making (qubit a))) (omega arith) (omega arith) (omega arith) (omega arith)
+  line-making (channel a) = line-free ls (lineOf k n (making (channel a))) (omega arith) (omega arith) (omega arith) (omega arith)
+  line-making (end a s) = line-free ls (lineOf k n (making (end a s))) (omega arith) (omega arith) (omega arith) (omega arith)
 
   moved-making : (t : Thing) (fs : List Frame) → Next (c .qubits) (c .channels) t → FramesWithin (ref t ∷ own) fs
       → Moved c (counted t (setProcess c n (runs fs))) ls (lineOf k n (making t) ∷ []) n (t ∷ [])
@@ -217,20 +221,31 @@ module _ (c : Config) (ls : List Line) (h : Kept c ls) (k n : ℕ) where
       (λ g. (g .1, others-keep c ls (h .named) n m ts ht (g .0) x (g .1)))
       (reach-set c n (runs (framesWithout ts fs)) m x r)
 
-  -- what is given was made
-  given-made : (ts : List Thing) → All (λ t. Within own (ref t)) ts → (x : Thing) → T (covered ts x) → Made c x
+  -- what is given was held by the giver, and was made
+  given-held : (ts : List Thing) → All (λ t. Within own (ref t)) ts → (x : Thing) → T (covered ts x) → T (reaches (processAt c n) x)
   unfolding names reaches
-  given-made ts ht x b =
-      any-elim (λ t. covers t x) (λ t. Within own (ref t)) (Made c x) (λ t w u. h .made x n (w x u)) ts ht b
+  given-held ts ht x b =
+      any-elim (λ t. covers t x) (λ t. Within own (ref t)) (T (reaches (processAt c n) x)) (λ t w u. w x u) ts ht b
 
-  moved-forking : (p : List ℕ) (m : ℕ) (args : List Value) (fs : List Frame) (params : ℕ)
+  given-made : (ts : List Thing) → All (λ t. Within own (ref t)) ts → (x : Thing) → T (covered ts x) → Made c x
+  given-made ts ht x b = h .made x n (given-held ts ht x b)
+
+  -- after the first line of the entry, which moves no holder, process n may give to another whatever is covered
+  givable : Dated k ls → (q : ℕ) (ts : List Thing) → (n < length (c .processes) → n ≢ q) → All (λ t. Within own (ref t)) ts
+      → (e : Event) → e .kind ≢ 1 → e .kind ≢ 2 → e .kind ≢ 6 → (x : Thing) → T (covered ts x)
+      → Givable (ls ++ (lineOf k n e ∷ [])) k n q x
+  givable dated q ts two ht e i j l x b =
+      let r = given-held ts ht x b in
+      givable-first ls k n q (lineOf k n e) x dated refl i j l (two (reach-made c n x r)) (h .named x n r)
+
+  moved-forking : Dated k ls → (p : List ℕ) (m : ℕ) (args : List Value) (fs : List Frame) (params : ℕ)
       → All (Within own) args → FramesWithin own fs
       → Moved c (joined (setProcess c n (runs (framesWithout (thingsOf args) fs))) (runs (started p m args ∷ []))) ls
       (map (lineOf k n) (forked (length (c .processes)) m params ∷ map (gave (length (c .processes))) (thingsOf args)))
       (length (c .processes))
       (thingsOf args)
   unfolding reaches
-  moved-forking p m args fs params ha hf = record {
+  moved-forking dated p m args fs params ha hf = record {
     reach = λ i x r.
         ⊎-elim
         (λ g. inl (g .0 ∙ count-set c n (runs (framesWithout ts fs)), child-reach p m args x (g .1)))
@@ -244,8 +259,10 @@ module _ (c : Config) (ls : List Line) (h : Kept c ls) (k n : ℕ) where
         (holder-kept x (holder ls x) (lineOf k n (forked child m params)) (omega arith) (omega arith) (omega arith))
         ∙ holder-given x k n child ts (holder ls x);
     lines = (
-      line-free ls (lineOf k n (forked child m params)) (omega arith) (omega arith) (omega arith),
-      lines-given (ls ++ (lineOf k n (forked child m params) ∷ [])) k n child ts,
+      line-free ls (lineOf k n (forked child m params)) (omega arith) (omega arith) (omega arith) (omega arith),
+      lines-given (ls ++ (lineOf k n (forked child m params) ∷ [])) k n child ts
+          (givable dated child ts (λ l e. lt-irrefl n (subst (λ (i : ℕ). n < i) (sym e) l)) (things-within own args ha)
+          (forked child m params) (omega arith) (omega arith) (omega arith)),
     );
   }
     where
@@ -268,20 +285,21 @@ module _ (c : Config) (ls : List Line) (h : Kept c ls) (k n : ℕ) where
     gate = λ e. absurd (omega arith);
     measurement = λ e. absurd (omega arith);
     meeting = λ e. held d hs hr;
+    giving = λ e. absurd (omega arith);
   }
     where
       held : (d : Bool) → Holds ls n (end ch d) → Holds ls q (end ch (not d)) → MeetingHeld ls (lineOf k n (met q ch d))
       held true hs hr = record { two = ne; sender = hs; receiver = hr }
       held false hs hr = record { two = ne; sender = hs; receiver = hr }
 
-  moved-meeting : (q ch : ℕ) (d : Bool) (v : Value) (fs gs : List Frame) → n ≢ q
+  moved-meeting : Dated k ls → (q ch : ℕ) (d : Bool) (v : Value) (fs gs : List Frame) → n ≢ q
       → OfferWithin own (sends ch d v fs) → OfferWithin (valuesOf (processAt c q .frames)) (receives ch (not d) gs)
       → Moved c (setProcess (setProcess c n (runs (framesWithout (thingsOf (v ∷ [])) fs))) q (runs (pushTop v gs))) ls
       (map (lineOf k n) (met q ch d ∷ handing q v))
       q
       (thingsOf (v ∷ []))
   unfolding reaches
-  moved-meeting q ch d v fs gs ne hs hr = record {
+  moved-meeting dated q ch d v fs gs ne hs hr = record {
     reach = λ m x r.
         ⊎-elim
         (λ g.
@@ -299,7 +317,8 @@ module _ (c : Config) (ls : List Line) (h : Kept c ls) (k n : ℕ) where
         ∙ holder-handing x k n q v (holder ls x);
     lines = (
       line-met q ch d ne (h .named (end ch d) n (hs .0)) (h .named (end ch (not d)) q (hr .0)),
-      lines-handing (ls ++ (lineOf k n (met q ch d) ∷ [])) k n q v,
+      lines-handing (ls ++ (lineOf k n (met q ch d) ∷ [])) k n q v
+          (givable dated q ts (λ l. ne) (things-within own (v ∷ []) (hs .1, tt)) (met q ch d) (omega arith) (omega arith) (omega arith)),
     );
   }
     where
@@ -405,6 +424,7 @@ quiet-stops ys f = record {
   notMade = (omega arith, omega arith);
   notGiven = omega arith;
   notMet = omega arith;
+  notForked = omega arith;
   gate = λ e. absurd (omega arith);
   measurement = λ e. absurd (omega arith);
 }
@@ -414,58 +434,59 @@ quiet-finishes ys = record {
   notMade = (omega arith, omega arith);
   notGiven = omega arith;
   notMet = omega arith;
+  notForked = omega arith;
   gate = λ e. absurd (omega arith);
   measurement = λ e. absurd (omega arith);
 }
 
-moved-met : (p outcomes : List ℕ) (k : ℕ) (s : State) (o : Option Meeting) → Kept (s .config) (s .lines)
+moved-met : (p outcomes : List ℕ) (k : ℕ) (s : State) (o : Option Meeting) → Dated k (s .lines) → Kept (s .config) (s .lines)
     → ((e : Meeting) → o ≡ some e → Joined (s .config) e) → SomeMoved s (meetIfIn (tableMachine p outcomes) k s o)
 unfolding meetIfIn meetIn
-moved-met p outcomes k s none h j = (0, [], moved-nothing (s .config) (s .lines))
-moved-met p outcomes k s (some e) h j =
+moved-met p outcomes k s none dated h j = (0, [], moved-nothing (s .config) (s .lines))
+moved-met p outcomes k s (some e) dated h j =
     let w = j e refl in (
       e .receiver,
       thingsOf (e .value ∷ []),
-      moved-meeting (s .config) (s .lines) h k (e .sender) (e .receiver) (e .channel) (e .side) (e .value) (e .senderFrames) (e .receiverFrames)
+      moved-meeting (s .config) (s .lines) h k (e .sender) dated (e .receiver) (e .channel) (e .side) (e .value) (e .senderFrames) (e .receiverFrames)
           (w .two) (w .sending) (w .receiving),
     )
 
-applied-moved : (p outcomes : List ℕ) (k : ℕ) (s : State) (n : ℕ) → Kept (s .config) (s .lines) → (act : Act)
+applied-moved : (p outcomes : List ℕ) (k : ℕ) (s : State) (n : ℕ) → Dated k (s .lines) → Kept (s .config) (s .lines) → (act : Act)
     → ActWithin (valuesOf (processAt (s .config) n .frames)) (s .config .qubits) (s .config .channels) act
     → SomeMoved s (applied p outcomes k s n act)
 unfolding appliedIn forkingIn
-applied-moved p outcomes k s n h idle w = (0, [], moved-nothing (s .config) (s .lines))
-applied-moved p outcomes k s n h stuck w = (0, [], moved-nothing (s .config) (s .lines))
-applied-moved p outcomes k s n h (faults f) w = (
+applied-moved p outcomes k s n dated h idle w = (0, [], moved-nothing (s .config) (s .lines))
+applied-moved p outcomes k s n dated h stuck w = (0, [], moved-nothing (s .config) (s .lines))
+applied-moved p outcomes k s n dated h (faults f) w = (
   n,
   [],
   moved-within (s .config) (s .lines) h k n (record { status = stopped f; frames = processAt (s .config) n .frames }) (stops f ∷ [])
       (frames-own (processAt (s .config) n .frames) (valuesOf (processAt (s .config) n .frames)) (λ t u. u))
       (quiet-stops (valuesOf (processAt (s .config) n .frames)) f, tt),
 )
-applied-moved p outcomes k s n h (goes fs es u) w =
+applied-moved p outcomes k s n dated h (goes fs es u) w =
     (n, [], moved-within (s .config) (s .lines) h k n (runs fs) es (w .0) (w .1))
-applied-moved p outcomes k s n h ends w = (
+applied-moved p outcomes k s n dated h ends w = (
   n,
   [],
   moved-within (s .config) (s .lines) h k n (record { status = finished; frames = [] }) (finishes ∷ []) tt
       (quiet-finishes (valuesOf (processAt (s .config) n .frames)), tt),
 )
-applied-moved p outcomes k s n h (makes t fs) w =
+applied-moved p outcomes k s n dated h (makes t fs) w =
     (n, t ∷ [], moved-making (s .config) (s .lines) h k n t fs (w .0) (w .1))
-applied-moved p outcomes k s n h (forks m args fs) w = (
+applied-moved p outcomes k s n dated h (forks m args fs) w = (
   length (s .config .processes),
   thingsOf args,
-  moved-forking (s .config) (s .lines) h k n p m args fs (length args) (w .0) (w .1),
+  moved-forking (s .config) (s .lines) h k n dated p m args fs (length args) (w .0) (w .1),
 )
-applied-moved p outcomes k s n h (offers o) w =
-    moved-met p outcomes k s (meetingOf p outcomes s n o) h (λ e i. meeting-joined p outcomes s n o e w i)
+applied-moved p outcomes k s n dated h (offers o) w =
+    moved-met p outcomes k s (meetingOf p outcomes s n o) dated h (λ e i. meeting-joined p outcomes s n o e w i)
 
-pub entry-kept : (p outcomes : List ℕ) (k : ℕ) (s : State) (n : ℕ) → Kept (s .config) (s .lines)
+pub entry-kept : (p outcomes : List ℕ) (k : ℕ) (s : State) (n : ℕ) → Dated k (s .lines) → Kept (s .config) (s .lines)
     → Kept (effectOf p outcomes k s n .config) (s .lines ++ effectOf p outcomes k s n .lines)
 unfolding effectIn
-entry-kept p outcomes k s n h =
-    let w = applied-moved p outcomes k s n h (actOf p outcomes s n) (act-within p outcomes s n) in
+entry-kept p outcomes k s n dated h =
+    let w = applied-moved p outcomes k s n dated h (actOf p outcomes s n) (act-within p outcomes s n) in
     moved-keeps (s .config) (effectOf p outcomes k s n .config) (s .lines) (effectOf p outcomes k s n .lines) (w .0) (w .1) (w .2) h
 
 -- the run
@@ -482,29 +503,26 @@ start-kept p = record {
     nothing-reached x zero r = frames-reach [] (started p 0 [] ∷ []) (frame-started [] p 0 [] tt, tt) x r
     nothing-reached x (suc n) r = frames-reach [] [] tt x r
 
-run-kept : (p outcomes : List ℕ) (room : ℕ) (s : State) (k : ℕ) (schedule : List ℕ) → Kept (s .config) (s .lines)
-    → Kept (runFrom p outcomes room s k schedule .state .config) (runFrom p outcomes room s k schedule .state .lines)
-unfolding runFromIn afterEffect
-run-kept p outcomes room s k [] h =
-    cond-both Fine (allOver s) h (cond-both Fine (noneAble p outcomes s) h h)
-  where
-    Fine : Result → Type 0
-    Fine r = Kept (r .state .config) (r .state .lines)
-run-kept p outcomes room s k (n ∷ schedule) h =
-    cond-both Fine (allOver s) h
-    (cond-both Fine (noneAble p outcomes s) h
-    (cond-both Fine (fits room s (effectOf p outcomes k s n))
-    (run-kept p outcomes room (afterEffect s (effectOf p outcomes k s n)) (suc k) schedule (entry-kept p outcomes k s n h))
-    h))
-  where
-    Fine : Result → Type 0
-    Fine r = Kept (r .state .config) (r .state .lines)
-
-pub kept-owned : (c : Config) (ls : List Line) → Kept c ls → Owned c ls
-kept-owned c ls h = record {
+pub kept-owned : (c : Config) (ls : List Line) → Kept c ls → Numbered c ls → Owned c ls
+kept-owned c ls h u = record {
   alone = λ x m n r t. Option·some-injective m n (sym (h .named x m r) ∙ h .named x n t);
   named = h .named;
-  lawful = line-at [] ls (h .lawful);
+  lawful = each-at LineHeld [] ls (h .lawful);
+  fresh = each-at LineNew [] ls (u .new);
+}
+
+-- what holds before entry k
+record Fine (k : ℕ) (s : State) : Type 0 where
+  dated : Dated k (s .lines)
+  kept : Kept (s .config) (s .lines)
+  numbered : Numbered (s .config) (s .lines)
+
+entry-fine : (p outcomes : List ℕ) (k : ℕ) (s : State) (n : ℕ) → Fine k s → Fine (suc k) (afterEffect s (effectOf p outcomes k s n))
+unfolding afterEffect
+entry-fine p outcomes k s n h = record {
+  dated = dated-next k (s .lines) (effectOf p outcomes k s n .lines) (h .dated) (effect-of p outcomes k s n);
+  kept = entry-kept p outcomes k s n (h .dated) (h .kept);
+  numbered = entry-numbered p outcomes k s n (h .numbered);
 }
 
 -- Demand 3: for every table, outcome list, schedule, room and k, what stands after the run on the schedule's first k
@@ -513,4 +531,6 @@ pub ownership : (p outcomes : List ℕ) (room : ℕ) (schedule : List ℕ) (k : 
     → Owned (run p outcomes room (take k schedule) .state .config) (run p outcomes room (take k schedule) .state .lines)
 unfolding runIn startWith
 ownership p outcomes room schedule k =
-    kept-owned _ _ (run-kept p outcomes room (start p) 0 (take k schedule) (start-kept p))
+    let h = run-keeps p outcomes room Fine (entry-fine p outcomes) (start p) 0 (take k schedule)
+    (record { dated = tt; kept = start-kept p; numbered = start-numbered p }) in
+    kept-owned _ _ (h .kept) (h .numbered)

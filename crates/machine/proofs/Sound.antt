@@ -1,12 +1,11 @@
 -- Soundness: in every run of a table that passes questions 1 to 5, no process is ever stuck, and everything stays
 -- within the limits. The typing of Typing.antt holds at the start, is kept by every entry, and implies this.
-use Prim.Native.Nat.{ℕ, suc, _≤_, _<_}
+use Prim.Native.Nat.{ℕ, _≤_, _<_}
 use native.Mathlib.Omega.{arith}
 use mathlib.Core.Path.{_≡_, refl, ap, _∙_}
 use mathlib.Core.List.{List, [], _∷_}
 use lib.ListN.{length, take, length-append}
 use Rattle.lists.specs.Lists.{All}
-use Rattle.lists.proofs.Tests.{cond-both}
 use Rattle.lists.proofs.Any.{All-implies}
 use Rattle.lists.proofs.Each.{nil, both-length, both-all}
 use Rattle.table.specs.Table.{paramTypes, slotTypes}
@@ -15,10 +14,10 @@ use Rattle.table.proofs.Accepted.{Kept, kept}
 use Rattle.table.proofs.Methods.{inside-bound, slotTypes-length}
 use Rattle.table.proofs.Before.{before-height}
 use Rattle.machine.specs.Value.{Thing, qubit, channel, end, Value, empty, int, bool, ref}
-use Rattle.machine.specs.State.{Frame, Status, running, finished, stopped, Config, State, startConfig, start, startConfigWith, startWith}
-use Rattle.machine.specs.Entry.{effectOf}
-use Rattle.machine.specs.Run.{Result, allOver, noneAble, fits, afterEffect, runFrom, run, runFromIn, runIn}
+use Rattle.machine.specs.State.{Frame, Status, running, finished, stopped, Config, startConfig, start, startConfigWith, startWith}
+use Rattle.machine.specs.Run.{afterEffect, run, runIn}
 use Rattle.machine.specs.Sound.{Made, ValueSound, FrameSound, ProcessSound, ConfigSound, Sound}
+use Rattle.machine.proofs.Invariant.{run-keeps}
 use Rattle.machine.proofs.Typing.{ThingFits, Fits, FrameTyped, Callers, Frames, started-typed, StatusTyped, ProcessTyped, ConfigTyped, Typed}
 use Rattle.machine.proofs.Standing.{act-typed}
 use Rattle.machine.proofs.Effects.{effect-typed}
@@ -42,21 +41,11 @@ start-typed p k =
     }
 
 module _ (p : List ℕ) (k : Kept p) (outcomes : List ℕ) (bytes : All (λ o. o ≤ 2) outcomes) (room : ℕ) where
-  abbrev Leaves : Result → Type 0
-  Leaves r = Typed p (r .state .config)
-
-  runFrom-typed : (schedule : List ℕ) (s : State) (i : ℕ) → Typed p (s .config)
-      → Leaves (runFrom p outcomes room s i schedule)
-  unfolding runFromIn afterEffect
-  runFrom-typed [] s i h = cond-both Leaves (allOver s) h (cond-both Leaves (noneAble p outcomes s) h h)
-  runFrom-typed (n ∷ schedule) s i h =
-      let e = effectOf p outcomes i s n in
-      let rest = runFrom-typed schedule (afterEffect s e) (suc i) (effect-typed p k outcomes bytes s (h .0) (h .1) i n) in
-      cond-both Leaves (allOver s) h (cond-both Leaves (noneAble p outcomes s) h (cond-both Leaves (fits room s e) rest h))
-
-  run-typed : (schedule : List ℕ) → Leaves (run p outcomes room schedule)
-  unfolding runIn
-  run-typed schedule = runFrom-typed schedule (start p) 0 ([], start-typed p k)
+  run-typed : (schedule : List ℕ) → Typed p (run p outcomes room schedule .state .config)
+  unfolding runIn afterEffect
+  run-typed schedule =
+      run-keeps p outcomes room (λ i s. Typed p (s .config)) (λ i s n h. effect-typed p k outcomes bytes s (h .0) (h .1) i n)
+      (start p) 0 schedule ([], start-typed p k)
 
 -- From typed to sound
 

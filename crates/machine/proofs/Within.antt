@@ -38,11 +38,12 @@ pub record FrameWithin (ys : List Value) (f : Frame) : Type 0 where
 abbrev pub FramesWithin : List Value → List Frame → Type 0
 FramesWithin ys fs = All (FrameWithin ys) fs
 
--- an event that moves no holder; a gate or a measurement falls on what is in reach
+-- an event that moves no holder and makes nothing; a gate or a measurement falls on what is in reach
 pub record Quiet (ys : List Value) (e : Event) : Type 0 where
   pub notMade : (e .kind ≢ 1) × (e .kind ≢ 2)
   pub notGiven : e .kind ≢ 6
   pub notMet : e .kind ≢ 7
+  pub notForked : e .kind ≢ 5
   pub gate : e .kind ≡ 3 → InReach ys (qubit (e .b)) × (oneQubit (e .a) ≡ false → InReach ys (qubit (e .c)))
   pub measurement : e .kind ≡ 4 → InReach ys (qubit (e .a))
 
@@ -132,6 +133,7 @@ gate-one ys g q small h = record {
   notMade = (omega arith, omega arith);
   notGiven = omega arith;
   notMet = omega arith;
+  notForked = omega arith;
   gate = λ e. (h, λ big. absurd (true≢false (sym small ∙ big)));
   measurement = λ e. absurd (omega arith);
 }
@@ -142,6 +144,7 @@ gate-two ys g deeper q h k = record {
   notMade = (omega arith, omega arith);
   notGiven = omega arith;
   notMet = omega arith;
+  notForked = omega arith;
   gate = λ e. (h, λ big. k);
   measurement = λ e. absurd (omega arith);
 }
@@ -151,6 +154,7 @@ measure ys q o h = record {
   notMade = (omega arith, omega arith);
   notGiven = omega arith;
   notMet = omega arith;
+  notForked = omega arith;
   gate = λ e. absurd (omega arith);
   measurement = λ e. h;
 }

@@ -9,3 +9,4 @@ pub mod Sound
 pub mod Answer
 pub mod Cases
 pub mod NoClick
+pub mod Examples

@@ -80,8 +80,8 @@ module _ (p schedule outcomes trace work : List ℕ) where
 
 -- Demand 3: for every input that is not refused and every k, what the lent trace and the lent work store hold after a run
 -- on the schedule's first k entries, read back, is owned: no qubit and no channel end is in reach of two processes,
--- whatever a process reaches the lines name it as holder, and every gate, measurement and meeting falls on what its
--- processes hold by the lines above.
+-- whatever a process reaches the lines name it as holder, every gate, measurement, meeting and giving falls on what its
+-- processes hold by the lines above, and every qubit, channel and process made is new by them.
 pub demand-3 : (p schedule outcomes trace work : List ℕ) → questions p schedule outcomes (length work) ≡ accepted → (k : ℕ)
     → Owned (configRead p (take k schedule) outcomes trace work) (linesRead p (take k schedule) outcomes trace work)
 demand-3 p schedule outcomes trace work ok k =
