@@ -4,3 +4,4 @@ pub mod RoundTrip
 pub mod Frames
 pub mod Process
 pub mod Whole
+pub mod Unused

@@ -51,7 +51,7 @@ value-length (ref (end n true)) = refl
 value-length (ref (end n false)) = refl
 
 -- a property that holds of everything holds of every element
-all : {A : Type 0} (P : A → Type 0) → ((x : A) → P x) → (xs : List A) → All P xs
+pub all : {A : Type 0} (P : A → Type 0) → ((x : A) → P x) → (xs : List A) → All P xs
 all P h [] = tt
 all P h (x ∷ xs) = (h x, all P h xs)
 
@@ -123,7 +123,7 @@ headsOf pr = padded 56 (flatten (map headWords (reverse (pr .frames))))
 abbrev framesOf : Process → List ℕ
 framesOf pr = padded 448 (flatten (map frameValues (reverse (pr .frames))))
 
-status-size : (st : Status) (n : ℕ) → length (statusWords st ++ (n ∷ [])) ≤ 8
+pub status-size : (st : Status) (n : ℕ) → length (statusWords st ++ (n ∷ [])) ≤ 8
 unfolding statusWords
 status-size running n = omega arith
 status-size finished n = omega arith
@@ -142,7 +142,7 @@ module _ (p : List ℕ) (c : Config) (pr : Process) (h : ProcessSound p c pr) wh
       All-map (λ g. length g ≡ 48) frameValues (reverse (pr .frames))
       (All-implies (FrameSound p c) (λ f. length (frameValues f) ≡ 48) (frame-length p c) (reverse (pr .frames)) frames-back-to-front)
 
-  heads-size : length (flatten (map headWords (reverse (pr .frames)))) ≤ 56
+  pub heads-size : length (flatten (map headWords (reverse (pr .frames)))) ≤ 56
   heads-size =
       omega (
         arith,

@@ -1,10 +1,10 @@
 -- The answer and the lent buffers after `run`, by the verdict of the questions, and what is read back from them. The demands
 -- (Demands.antt) are put together from these.
-use Prim.Native.Nat.{ℕ, suc, _*_, _≤_}
+use Prim.Native.Nat.{ℕ, suc, _*_, _≤_, _<_}
 use mathlib.Core.Path.{_≡_, refl, _∙_, ap, ap₂}
 use mathlib.Core.List.{List, [], _∷_, _++_}
 use native.Mathlib.Omega.{arith}
-use lib.ListN.{take, drop, length}
+use lib.ListN.{getD, take, drop, length, List·getD-append}
 use lib.Seq.{take-at, drop-at}
 use Rattle.lists.proofs.Tests.{cond-both}
 use Rattle.table.specs.Questions.{Verdict, accepted, refused, questions}
@@ -13,9 +13,12 @@ use Rattle.machine.specs.Entry.{effectOf}
 use Rattle.machine.specs.Run.{Result, allOver, noneAble, fits, afterEffect, runFrom, run, runFromIn, runIn}
 use Rattle.machine.specs.Answer.{Answer, refusal, ran, resultAnswer, answerOf, linesIn, lineWords, traceWords, traceAfter}
 use Rattle.machine.specs.Answer as machine
+use Rattle.machine.specs.Sound.{ConfigSound}
 use Rattle.machine.proofs.Sound.{sound}
 use Rattle.layout.specs.Layout.{encode, storeAfter, decode}
+use Rattle.layout.specs.Places.{InStore}
 use Rattle.layout.proofs.RoundTrip.{encode-length, run-back}
+use Rattle.layout.proofs.Unused.{unused-zero}
 use Rattle.trace.specs.Trace.{linesOf}
 use Rattle.trace_lines.proofs.LineWritten.{trace-length}
 use Rattle.run_schedule.proofs.Accepting.{table-kept, outcomes-small}
@@ -84,10 +87,12 @@ module _ (p schedule outcomes trace work : List ℕ) where
     unfolding storeLeft keptIfRefused storeAfter
     store-is = ap (λ (v : Verdict). keptIfRefused v work (storeAfter (result .state .config) work)) ok
 
+    config-sound : ConfigSound p (result .state .config)
+    config-sound =
+        sound p outcomes (linesIn (length trace)) schedule (table-kept p schedule outcomes (length work) ok) (outcomes-small p schedule outcomes (length work) ok) .config
+
     words-whole : length (encode (result .state .config)) ≡ 8192
-    words-whole =
-        encode-length p (result .state .config)
-        (sound p outcomes (linesIn (length trace)) schedule (table-kept p schedule outcomes (length work) ok) (outcomes-small p schedule outcomes (length work) ok) .config)
+    words-whole = encode-length p (result .state .config) config-sound
 
     pub lines-read : linesRead p schedule outcomes trace work ≡ lines
     unfolding linesRead linesNo traceAfter
@@ -112,6 +117,12 @@ module _ (p schedule outcomes trace work : List ℕ) where
 
     pub beyond-kept : drop 8192 (storeLeft p schedule outcomes trace work) ≡ drop 8192 work
     beyond-kept = ap (drop 8192) store-is ∙ drop-at (encode (result .state .config)) (drop 8192 work) 8192 words-whole
+
+    pub unused-read : (w : ℕ) → w < 8192 → (InStore (result .state .config) w → ⊥) → getD (storeLeft p schedule outcomes trace work) w 0 ≡ 0
+    unused-read w h free =
+        ap (λ (ws : List ℕ). getD ws w 0) store-is
+        ∙ List·getD-append (encode (result .state .config)) (drop 8192 work) 0 w (omega (arith, words-whole))
+        ∙ unused-zero p (result .state .config) config-sound w free
 
     pub state-read : stateRead p schedule outcomes trace work ≡ result .state
     unfolding stateRead usedNo

@@ -5,7 +5,8 @@
 -- that it leaves `storeLeft`. `linesRead` and `configRead` (specs/Answers.antt) are the lines and the configuration that are
 -- read back from the two, `stateRead` both with the outcomes used. In the crate machine, `faultOf` (specs/Entry.antt) is the
 -- fault by which a process would stop if it were named, `StoppedBy` (specs/Faults.antt) what a fault does, and `Owned`
--- (specs/Owner.antt) what ownership says of a configuration and lines.
+-- (specs/Owner.antt) what ownership says of a configuration and lines. `InStore` (crate layout, specs/Places.antt) are the
+-- places of the layout that a configuration uses.
 use Prim.Native.Nat.{ℕ, suc, _*_, _≤_, _<_}
 use mathlib.Core.Path.{_≡_, sym, subst₂}
 use mathlib.Core.List.{List}
@@ -18,6 +19,7 @@ use Rattle.machine.specs.Run.{Result, run}
 use Rattle.machine.specs.Faults.{StoppedBy}
 use Rattle.machine.specs.Owner.{Owned}
 use Rattle.machine.specs.Answer.{refusal, ran, answerOf, linesIn}
+use Rattle.layout.specs.Places.{InStore}
 use Rattle.machine.proofs.Ownership.{ownership}
 use Rattle.run_schedule.proofs.Accepting.{shorter-accepted}
 use Rattle.run.specs.Answers.{traceLeft, storeLeft, configRead, linesRead, stateRead}
@@ -74,6 +76,11 @@ module _ (p schedule outcomes trace work : List ℕ) where
 
     pub demand-2-config : configRead p schedule outcomes trace work ≡ defined .state .config
     demand-2-config = buffers.config-read p schedule outcomes trace work ok
+
+    -- every word of them at a place that the configuration does not use is 0
+    pub demand-2-unused : (w : ℕ) → w < 8192 → (InStore (defined .state .config) w → ⊥)
+        → getD (storeLeft p schedule outcomes trace work) w 0 ≡ 0
+    demand-2-unused = buffers.unused-read p schedule outcomes trace work ok
 
     pub demand-2-beyond : drop 8192 (storeLeft p schedule outcomes trace work) ≡ drop 8192 work
     demand-2-beyond = buffers.beyond-kept p schedule outcomes trace work ok
