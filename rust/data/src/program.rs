@@ -28,7 +28,24 @@ pub mod op {
     pub const EQ: u16 = 21;
     pub const LESS: u16 = 22;
     pub const NOT: u16 = 23;
+
+    /// The names in the order of the numbers, which start at 1.
+    pub const NAMES: [&str; 23] = [
+        "INT", "BOOL", "GET", "PUT", "DROP", "CLEAR", "NEWQ", "NEWC", "END", "GATE", "MEAS", "CALL", "RET", "FORK",
+        "SEND", "RECV", "JUMP", "JFALSE", "ADD", "SUB", "EQ", "LESS", "NOT",
+    ];
+
+    /// An op's name, where the op is listed.
+    pub fn name(number: u16) -> Option<&'static str> {
+        let index = usize::from(number).checked_sub(1)?;
+        NAMES.get(index).copied()
+    }
 }
+
+/// The most methods of a table.
+pub const MOST_METHODS: usize = 32;
+/// The most instructions of a table.
+pub const MOST_INSTRUCTIONS: usize = 4_096;
 
 /// A method: its row and its instructions.
 #[derive(Clone, Debug, Default, PartialEq, Eq)]

@@ -4,7 +4,7 @@
 //! questions; [`holder`] and [`same_lines`] read traces. Each is one call of
 //! the proved library. [`run_in`] and [`check_in`] do the same on buffers that
 //! the caller lends, and allocate nothing; [`decode`] and [`lines`] read what a
-//! run has left in them.
+//! run has left in them. [`reason`] says which rule a refused input breaks.
 //!
 //! ```
 //! use lanq::op::{DROP, MEAS, NEWQ, RET};
@@ -41,6 +41,7 @@
 mod layout;
 mod program;
 mod raw;
+mod reason;
 mod run;
 mod trace;
 
@@ -51,5 +52,6 @@ pub use data::{
 };
 pub use layout::decode;
 pub use program::Program;
+pub use reason::{reason, reason_in, Reason, Rule, Wanted};
 pub use run::{check, check_in, run, run_in};
 pub use trace::{holder, lines, same_lines, Trace};

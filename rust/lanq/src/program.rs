@@ -2,6 +2,8 @@
 
 use data::program::{table, Method};
 
+use crate::reason::{methods, Reason};
+
 /// A program table: its words, right or wrong. Whether it is a program the
 /// questions tell.
 ///
@@ -32,6 +34,24 @@ impl Program {
     /// The table's words.
     pub fn words(&self) -> &[u16] {
         &self.words
+    }
+
+    /// The methods, as plain numbers. A table that question 1 or 2 refuses does
+    /// not tell where a method starts; the error is its reason.
+    ///
+    /// ```
+    /// use lanq::op::RET;
+    /// use lanq::{Method, Program};
+    ///
+    /// let main = Method { slots: vec![3; 16], code: vec![(RET, 0)], ..Method::default() };
+    /// let program = Program::from_methods(&[main.clone()]);
+    /// assert_eq!(program.methods(), Ok(vec![main]));
+    ///
+    /// let short = Program::from(&program.words()[1..]);
+    /// assert_eq!(short.methods().unwrap_err().to_string(), "refused 1 0: N, the number of instructions, is 0, not 1 to 4096");
+    /// ```
+    pub fn methods(&self) -> Result<Vec<Method>, Reason> {
+        methods(&self.words)
     }
 }
 
