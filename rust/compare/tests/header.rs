@@ -1,25 +1,38 @@
-//! `include/lanq.h` as a C compiler reads it: the example in C is compiled
-//! with every warning an error, linked with the library, and run.
+//! `include/lanq.h` as compilers read it: the examples in C and C++ are
+//! compiled with every warning an error, linked with the library and run, and
+//! each number that the header names is the crate data's.
 
+use std::fmt::Write;
 use std::path::{Path, PathBuf};
 use std::process::Command;
 
-/// What examples/given-whole.c prints: the lines that document 01 gives, with
-/// 65535 in unused columns, the answer, and what else it asks.
-const PRINTED: &str = "\
-0 0 1 0 65535 65535
-3 0 2 0 65535 65535
+use data::program::{op, MOST_INSTRUCTIONS, MOST_METHODS};
+use data::{Carried, End, Event, Fault, Gate, Question, Side, Thing, Type, LINE_WORDS, SLOTS, UNUSED, WORK_WORDS};
+
+/// What examples/given-whole.c prints: the run that document 01 gives whole,
+/// and what else it asks.
+const PRINTED_BY_C: &str = "\
+0 0 1 0 - -
+3 0 2 0 - -
 10 0 5 1 1 1
 10 0 6 1 6 0
 14 0 7 1 0 0
 14 0 6 1 3 0
-15 1 3 4 0 65535
-16 1 9 65535 65535 65535
-17 0 10 20 65535 65535
+15 1 3 4 0 -
+16 1 9 - - -
+17 0 10 20 - -
 end 1 18 9 0
 processes 2, qubits 1, channels 1
 qubit 0 is held by 1, as the last 4 lines say, at first by 0
 same as itself: 1, as its first lines: 0
+";
+
+/// What examples/given-whole.cpp prints.
+const PRINTED_BY_CPP: &str = "\
+entry 14: process 0 gives qubit 0 to process 1
+entry 15: process 1 applies gate 4 to qubit 0
+entry 17: process 0 is stopped by fault 20
+lanq 0.1: end 1, 9 lines
 ";
 
 /// The repository's root.
@@ -27,28 +40,148 @@ fn root() -> PathBuf {
     Path::new(env!("CARGO_MANIFEST_DIR")).join("../..")
 }
 
-/// The example compiled under `standard`, and what it prints.
-fn printed(standard: &str) -> String {
-    let program = Path::new(env!("CARGO_TARGET_TMPDIR")).join(format!("given-whole-{standard}"));
-    let compiler = std::env::var("CC").unwrap_or_else(|_| "cc".into());
-    let compiled = Command::new(&compiler)
+/// A compiler, by the environment's word for it or by its usual name.
+struct Compiler {
+    variable: &'static str,
+    name: &'static str,
+    warnings: &'static [&'static str],
+}
+
+const C: Compiler =
+    Compiler { variable: "CC", name: "cc", warnings: &["-Wall", "-Wextra", "-Wpedantic", "-Wconversion", "-Werror"] };
+const CPP: Compiler =
+    Compiler { variable: "CXX", name: "c++", warnings: &["-Wall", "-Wextra", "-Wpedantic", "-Werror"] };
+
+/// A source compiled under a standard, and what its program prints.
+fn printed(compiler: &Compiler, standard: &str, source: &Path) -> String {
+    let stem = source.file_stem().expect("a source has a name").to_string_lossy();
+    let program = Path::new(env!("CARGO_TARGET_TMPDIR")).join(format!("{stem}-{standard}"));
+    let name = std::env::var(compiler.variable).unwrap_or_else(|_| compiler.name.into());
+    let compiled = Command::new(&name)
         .arg(format!("-std={standard}"))
-        .args(["-Wall", "-Wextra", "-Wpedantic", "-Werror", "-I"])
+        .args(compiler.warnings)
+        .arg("-I")
         .arg(root().join("include"))
-        .arg(root().join("examples/given-whole.c"))
+        .arg(source)
         .arg(root().join("target/staticlib/liblanq.a"))
         .arg("-o")
         .arg(&program)
         .output()
-        .unwrap_or_else(|error| panic!("{compiler}: {error}"));
+        .unwrap_or_else(|error| panic!("{name}: {error}"));
     assert!(compiled.status.success(), "{}", String::from_utf8_lossy(&compiled.stderr));
-    let ran = Command::new(&program).output().expect("the example runs");
+    let ran = Command::new(&program).output().expect("the program runs");
     assert!(ran.status.success());
     String::from_utf8(ran.stdout).expect("text")
 }
 
 #[test]
 fn the_example_in_c_prints_the_worked_run() {
-    assert_eq!(printed("c99"), PRINTED);
-    assert_eq!(printed("c11"), PRINTED);
+    let source = root().join("examples/given-whole.c");
+    for standard in ["c99", "c11", "c17"] {
+        assert_eq!(printed(&C, standard, &source), PRINTED_BY_C);
+    }
+}
+
+#[test]
+fn the_example_in_cpp_prints_the_worked_run() {
+    let source = root().join("examples/given-whole.cpp");
+    for standard in ["c++11", "c++17", "c++20"] {
+        assert_eq!(printed(&CPP, standard, &source), PRINTED_BY_CPP);
+    }
+}
+
+/// The header's names with their numbers, from the types that have them.
+fn numbers() -> Vec<(String, usize)> {
+    let mut all: Vec<(String, usize)> = Vec::new();
+    let mut add = |name: &str, number: usize| all.push((format!("LANQ_{name}"), number));
+    let upper = |name: String| {
+        let mut text = String::new();
+        for (index, c) in name.chars().enumerate() {
+            if index > 0 && c.is_uppercase() {
+                text.push('_');
+            }
+            text.extend(c.to_uppercase());
+        }
+        text
+    };
+    for question in Question::ALL.into_iter().filter(|question| *question != Question::File) {
+        add(&format!("REFUSED_{}", upper(format!("{question:?}"))), question.number().into());
+    }
+    End::ALL.iter().for_each(|end| add(&format!("END_{}", upper(format!("{end:?}"))), end.number().into()));
+    Fault::ALL.iter().for_each(|fault| add(&format!("FAULT_{}", upper(format!("{fault:?}"))), fault.number().into()));
+    Gate::ALL.iter().for_each(|gate| add(&format!("GATE_{gate}"), gate.number().into()));
+    for (name, number) in op::NAMES.iter().zip(1..) {
+        add(&format!("OP_{name}"), number);
+    }
+    for carried in Carried::ALL {
+        let name = carried.to_string().to_uppercase();
+        add(&format!("CARRIES_{name}"), carried.number().into());
+        add(&format!("TYPE_{name}"), carried.as_type().number().into());
+        add(&format!("TYPE_CHANNEL(LANQ_CARRIES_{name})"), Type::Channel(carried).number().into());
+        add(&format!("TYPE_END(LANQ_CARRIES_{name})"), Type::End(carried).number().into());
+    }
+    for (name, thing) in [
+        ("QUBIT", Thing::Qubit(0)),
+        ("CHANNEL", Thing::Channel(0)),
+        ("END_0", Thing::End(0, Side::Zero)),
+        ("END_1", Thing::End(0, Side::One)),
+    ] {
+        add(&format!("THING_{name}"), thing.code().into());
+    }
+    for event in [
+        Event::QubitMade { qubit: 0 },
+        Event::ChannelMade { channel: 0 },
+        Event::Gate { gate: Gate::X, qubit: 0, second: None },
+        Event::Measured { qubit: 0, outcome: 0 },
+        Event::Forked { child: 0, method: 0, arguments: 0 },
+        Event::Gave { to: 0, thing: Thing::Qubit(0) },
+        Event::Met { receiver: 0, channel: 0, side: Side::Zero },
+        Event::Passed { value: 0 },
+        Event::Finished,
+        Event::Stopped { fault: Fault::Empty },
+    ] {
+        let name = event.name().to_uppercase().replace(' ', "_").replace("VALUE_PASSED", "PASSED");
+        add(&format!("LINE_{name}"), event.line(0, 0).kind.into());
+    }
+    for (name, number) in [
+        ("ACCEPTED", 0),
+        ("TYPE_NONE", 0),
+        ("UNUSED", UNUSED.into()),
+        ("NOBODY", UNUSED.into()),
+        ("LINE_WORDS", LINE_WORDS),
+        ("WORK_WORDS", WORK_WORDS),
+        ("SLOTS", SLOTS),
+        ("MOST_METHODS", MOST_METHODS),
+        ("MOST_INSTRUCTIONS", MOST_INSTRUCTIONS),
+        ("TABLE_WORDS(3, 40)", 2 + 60 + 80),
+    ] {
+        add(name, number);
+    }
+    all
+}
+
+#[test]
+fn the_headers_numbers_are_ours() {
+    let numbers = numbers();
+    let mut source = "#include <stdio.h>\n#include \"lanq.h\"\nint main(void) {\n".to_string();
+    for (name, _) in &numbers {
+        writeln!(source, "  printf(\"%s %u\\n\", \"{name}\", (unsigned)({name}));").expect("a string takes it");
+    }
+    source += "  printf(\"%u\\n\", (unsigned)sizeof(LanqLine));\n  return 0;\n}\n";
+    let path = Path::new(env!("CARGO_TARGET_TMPDIR")).join("numbers.c");
+    std::fs::write(&path, source).expect("the source can be written");
+    let mut expected: String = numbers.iter().map(|(name, number)| format!("{name} {number}\n")).collect();
+    expected += "12\n";
+    assert_eq!(printed(&C, "c99", &path), expected);
+    // Every name of an enum is looked at, but those of limits that no type has.
+    let header = std::fs::read_to_string(root().join("include/lanq.h")).expect("the header");
+    let assigned =
+        header.lines().flat_map(|line| line.split([',', '{', '}'])).filter_map(|part| part.split_once(" = "));
+    let named: Vec<&str> = assigned.map(|(name, _)| name.trim()).filter(|name| name.starts_with("LANQ_")).collect();
+    let limits = ["PARAMETERS", "PENDING", "FRAMES", "PROCESSES", "QUBITS", "CHANNELS", "ENTRIES"];
+    let is_limit = |name: &str| limits.iter().any(|limit| name == format!("LANQ_MOST_{limit}"));
+    assert!(named.len() > 70);
+    for name in named {
+        assert!(is_limit(name) || numbers.iter().any(|(one, _)| one == name), "{name}");
+    }
 }

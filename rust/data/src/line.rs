@@ -161,6 +161,22 @@ impl Event {
         })
     }
 
+    /// A short name for each kind.
+    pub fn name(self) -> &'static str {
+        match self {
+            Event::QubitMade { .. } => "qubit made",
+            Event::ChannelMade { .. } => "channel made",
+            Event::Gate { .. } => "gate",
+            Event::Measured { .. } => "measured",
+            Event::Forked { .. } => "fork",
+            Event::Gave { .. } => "gave",
+            Event::Met { .. } => "met",
+            Event::Passed { .. } => "value passed",
+            Event::Finished => "finished",
+            Event::Stopped { .. } => "stopped",
+        }
+    }
+
     /// The line of this event, at an entry and under a process.
     pub fn line(self, entry: u16, process: u16) -> Line {
         let [kind, a, b, c] = self.columns();

@@ -47,6 +47,21 @@ impl Question {
         self as u16
     }
 
+    /// What it is about, in a word or two.
+    pub fn topic(self) -> &'static str {
+        match self {
+            Question::Sizes => "the table's sizes",
+            Question::Pairs => "where methods start",
+            Question::Rows => "types of slots and parameters",
+            Question::Instructions => "ops and arguments",
+            Question::Types => "types of operands",
+            Question::Outcomes => "outcomes",
+            Question::Schedule => "the schedule's length",
+            Question::WorkStore => "the work store's length",
+            Question::File => "the input file",
+        }
+    }
+
     /// The question of a number.
     pub fn read(number: u16) -> Option<Question> {
         numbered(&Question::ALL, Question::number, number)
