@@ -1,6 +1,9 @@
-//! Where a text goes wrong, and what was expected there.
+//! Where a text goes wrong and what was expected there; what keeps a command
+//! from being done.
 
 use std::fmt;
+
+use crate::refused::Refused;
 
 /// A place in a text. Lines and columns count from 1, columns in characters.
 #[derive(Clone, Copy, Debug, PartialEq, Eq)]
@@ -40,5 +43,28 @@ impl fmt::Display for Error {
     fn fmt(&self, out: &mut fmt::Formatter) -> fmt::Result {
         let Place { line, column } = self.place;
         write!(out, "{line}:{column}: {}", self.message)
+    }
+}
+
+/// Why a command was not done; told on standard error.
+#[derive(Clone, Debug, PartialEq, Eq)]
+pub enum Failure {
+    /// A wrong call: exit status 2.
+    Call(String),
+    /// The input is refused: exit status 1.
+    Refused(Box<Refused>),
+    /// Anything else: exit status 1.
+    Said(String),
+}
+
+impl Failure {
+    /// About a file, or what stands in its place.
+    pub fn of(name: &str, message: impl fmt::Display) -> Failure {
+        Failure::Said(format!("{name}: {message}"))
+    }
+
+    /// An error in a file's text.
+    pub fn in_text(name: &str, error: &Error) -> Failure {
+        Failure::Said(format!("{name}:{error}"))
     }
 }

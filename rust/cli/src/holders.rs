@@ -4,42 +4,47 @@
 
 use std::collections::BTreeMap;
 
-use data::Line;
+use data::{Event, Line, Side, Thing};
 
 /// Qubits and channel ends with their holders.
 #[derive(Clone, Debug, Default, PartialEq, Eq)]
 pub struct Holders {
     pub qubits: BTreeMap<u16, u16>,
     /// By channel and side.
-    pub ends: BTreeMap<(u16, u16), u16>,
+    pub ends: BTreeMap<(u16, Side), u16>,
 }
 
 impl Holders {
+    /// The holders by these lines.
+    pub fn by(lines: &[Line]) -> Holders {
+        let mut holders = Holders::default();
+        lines.iter().for_each(|line| holders.read(line));
+        holders
+    }
+
     /// Takes up the next line.
     pub fn read(&mut self, line: &Line) {
-        let Line { process, kind, a, b, c, .. } = *line;
-        match (kind, b) {
-            (1, _) => self.qubit(a, process),
-            (2, _) => self.channel(a, process),
-            (6, 3) => self.qubit(c, a),
-            (6, 4) => self.channel(c, a),
-            (6, 5 | 6) => self.end(c, b - 5, a),
-            _ => {}
+        match line.event() {
+            Some(Event::QubitMade { qubit }) => self.gets(line.process, Thing::Qubit(qubit)),
+            Some(Event::ChannelMade { channel }) => self.gets(line.process, Thing::Channel(channel)),
+            Some(Event::Gave { to, thing }) => self.gets(to, thing),
+            _ => (),
         }
     }
 
-    fn qubit(&mut self, qubit: u16, holder: u16) {
-        self.qubits.insert(qubit, holder);
-    }
-
-    fn end(&mut self, channel: u16, side: u16, holder: u16) {
-        self.ends.insert((channel, side), holder);
-    }
-
     /// "a channel's lines count for both its ends"
-    fn channel(&mut self, channel: u16, holder: u16) {
-        self.end(channel, 0, holder);
-        self.end(channel, 1, holder);
+    fn gets(&mut self, holder: u16, thing: Thing) {
+        match thing {
+            Thing::Qubit(qubit) => {
+                self.qubits.insert(qubit, holder);
+            }
+            Thing::Channel(channel) => {
+                self.ends.extend(Side::ALL.map(|side| ((channel, side), holder)));
+            }
+            Thing::End(channel, side) => {
+                self.ends.insert((channel, side), holder);
+            }
+        }
     }
 
     /// By process: `q0` is qubit 0, `c1.0` end 0 of channel 1.

@@ -1,39 +1,39 @@
-//! A text form of program tables, and the three commands of `lanq` on it.
-//! The grammar stands in the crate's README.
+//! The command `lanq`, over the proved library. docs/COMMAND.md describes it.
 //!
-//! From text to the input file of the printing program:
-//! - [`lex`], [`cursor`]: a text's lines as tokens, and reading along one
-//! - [`parse`]: the grammar
-//! - [`assemble`]: names looked up, the table written
+//! - [`commands`]: the commands and their help; [`options`]: the words of a call
+//! - [`input`]: programs, schedules and outcomes from files and options
+//! - [`asm`]: the assembler's text; [`names`], [`code`]: a program's names, and
+//!   where each instruction stands
+//! - [`machine`]: the proved library, or the model where it is asked for
+//! - [`refused`]: refusals in words
+//! - [`explain`]: a run in words, with [`sentence`], [`holders`], [`history`],
+//!   [`standing`] and [`emptied`]
+//! - [`timeline`]: a run as a drawing, in [`svg`]
+//! - [`report`]: a run for other programs, in [`json`]
+//! - [`batch`]: every case of a directory; [`progress`]: how far it has come
 //!
-//! Used both ways:
-//! - [`ops`]: the one table of ops; [`types`]: the types by name;
-//!   [`vocabulary`]: words for numbers
-//! - [`names`]: the names of a program's methods, slots and labels
-//! - [`table`]: methods as a table's words; [`case`]: the input file
-//!
-//! Back to text:
-//! - [`list`]: the file as text; [`explain`]: its run in words
-//! - [`machine`]: the run itself
-//! - [`trace`], [`holders`]: lines and holders in words
-//!
-//! [`error`] says where a text goes wrong.
+//! [`error`] says where a text goes wrong and why a command was not done.
 
 #![forbid(unsafe_code)]
 
-pub mod assemble;
-pub mod case;
-pub mod cursor;
+pub mod asm;
+pub mod batch;
+pub mod code;
+pub mod commands;
+pub mod emptied;
 pub mod error;
 pub mod explain;
+pub mod history;
 pub mod holders;
-pub mod lex;
-pub mod list;
+pub mod input;
+pub mod json;
 pub mod machine;
 pub mod names;
-pub mod ops;
-pub mod parse;
-pub mod table;
-pub mod trace;
-pub mod types;
-pub mod vocabulary;
+pub mod options;
+pub mod progress;
+pub mod refused;
+pub mod report;
+pub mod sentence;
+pub mod standing;
+pub mod svg;
+pub mod timeline;

@@ -1,22 +1,87 @@
-//! The run of a case by the proved library, in the printing program's buffers.
+//! Which machine runs a case: the proved library or, where it was asked for by
+//! name, the model.
 
-use data::{Refusal, Run, LINE_WORDS, WORK_WORDS};
+use data::{Line, Refusal, Run, LINE_WORDS, WORK_WORDS};
+use lanq::Trace;
 
-use crate::case::Case;
+/// The machine that is asked.
+#[derive(Clone, Copy, Debug, Default, PartialEq, Eq)]
+pub enum Machine {
+    #[default]
+    Proved,
+    Model,
+}
 
-/// The printing program's trace.
-const TRACE_LINES: usize = 4_096;
+/// An entry writes at most nine lines: FORK's own and one for each of eight
+/// arguments.
+const LINES_OF_AN_ENTRY: usize = 9;
 
-/// Checks and runs a case as the printing program does.
-pub fn run(case: &Case) -> Result<Run, Refusal> {
-    let mut trace = vec![0; LINE_WORDS * TRACE_LINES];
-    let mut work = vec![0; WORK_WORDS];
-    let answer = lanq::run_in(&case.program, &case.schedule, &case.outcomes, &mut trace, &mut work)?;
-    Ok(Run {
-        end: answer.end,
-        entries: answer.entries,
-        outcomes: answer.outcomes,
-        lines: lanq::lines(&trace)[..answer.lines].to_vec(),
-        configuration: lanq::decode(&work).expect("a run leaves a configuration"),
-    })
+impl Machine {
+    /// Its name in what is written.
+    pub fn name(self) -> &'static str {
+        match self {
+            Machine::Proved => "proved",
+            Machine::Model => "model",
+        }
+    }
+
+    /// Puts the questions.
+    pub fn check(self, program: &[u16], schedule: &[u8], outcomes: &[u8]) -> Result<(), Refusal> {
+        match self {
+            Machine::Proved => lanq::check_in(program, schedule, outcomes, WORK_WORDS),
+            Machine::Model => model::check(program, schedule, outcomes, WORK_WORDS).map(|_| ()),
+        }
+    }
+
+    /// Who holds a qubit by the first `k` lines.
+    pub fn holder(self, lines: &[Line], k: usize, qubit: u16) -> Option<u16> {
+        match self {
+            Machine::Proved => lanq::holder(lines, k, qubit).holder,
+            Machine::Model => {
+                let holder = model::lookup::qubit_holder(lines.words(), k, qubit);
+                (holder != data::UNUSED).then_some(holder)
+            }
+        }
+    }
+
+    /// Whether two traces have the same lines.
+    pub fn same(self, one: &[Line], other: &[Line]) -> bool {
+        match self {
+            Machine::Proved => lanq::same_lines(one, other),
+            Machine::Model => model::lookup::same_lines(one.words(), other.words()),
+        }
+    }
+}
+
+/// A machine with the buffers that it is lent, for one run after the other.
+#[derive(Debug)]
+pub struct Runner {
+    machine: Machine,
+    trace: Vec<u16>,
+    work: Vec<u32>,
+}
+
+impl Runner {
+    /// A trace of so many lines, or one that holds whatever a run of so many
+    /// entries writes.
+    pub fn new(machine: Machine, room: Option<usize>, entries: usize) -> Runner {
+        let lines = room.unwrap_or(LINES_OF_AN_ENTRY * entries);
+        Runner { machine, trace: vec![0; LINE_WORDS * lines], work: vec![0; WORK_WORDS] }
+    }
+
+    /// Puts the questions and runs the program.
+    pub fn run(&mut self, program: &[u16], schedule: &[u8], outcomes: &[u8]) -> Result<Run, Refusal> {
+        let Runner { machine, trace, work } = self;
+        if *machine == Machine::Model {
+            return model::check_and_run(program, schedule, outcomes, trace.len(), work.len());
+        }
+        let answer = lanq::run_in(program, schedule, outcomes, trace, work)?;
+        Ok(Run {
+            end: answer.end,
+            entries: answer.entries,
+            outcomes: answer.outcomes,
+            lines: lanq::lines(trace)[..answer.lines].to_vec(),
+            configuration: lanq::decode(work).expect("a run leaves a configuration"),
+        })
+    }
 }

@@ -1,16 +1,20 @@
 //! The names of a program's methods, slots and labels. Both ways, from name
 //! to number and back, go through here.
 
-/// The names in one method.
-#[derive(Clone, Debug, PartialEq, Eq)]
+use crate::error::Place;
+
+/// The names in one method, and where it stands.
+#[derive(Clone, Debug, Default, PartialEq, Eq)]
 pub struct MethodNames {
     pub name: String,
     /// One for each slot that can be named.
     pub slots: Vec<Option<String>>,
     /// Labels with the instruction behind them, from the method's start.
     pub labels: Vec<(String, u16)>,
-    /// The text's line of each instruction; none where there is no text.
-    pub lines: Vec<usize>,
+    /// Where the header stands, in the text or the listing.
+    pub header: Option<Place>,
+    /// Where each instruction stands; none where there is neither.
+    pub places: Vec<Place>,
 }
 
 /// What can be named at one method's instructions.

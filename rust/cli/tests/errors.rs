@@ -2,8 +2,8 @@
 
 mod common;
 
-use cli::assemble::assemble;
-use cli::lex;
+use cli::asm::assemble::assemble;
+use cli::asm::lex;
 use common::main_of;
 
 /// What is told of a text with an error in it.
@@ -186,15 +186,11 @@ fn entries() {
 }
 
 #[test]
-fn files_that_would_be_too_long() {
-    let long = "expected a file of at most 65536 bytes, found more entries";
-    let schedule = "schedule 0*65535\n 1 2 3";
-    assert_eq!(told(&format!("outcomes\n{schedule}")), format!("3:4: {long}"));
-    // The header has 24 bytes, the table of one instruction 48.
-    let most = 65_536 - 24 - 48;
-    let text = main_of(&format!("  RET\nschedule 0*{most}"));
-    assert!(assemble(&text).is_ok());
-    assert_eq!(told(&format!("{text}\noutcomes 1 # more\n")), format!("5:11: {long}"));
+fn texts_that_ask_for_too_much() {
+    let long = "expected at most 100000 entries, found more";
+    let schedule = "schedule 0*65535 1*34465";
+    assert!(assemble(&main_of(&format!("  RET\n{schedule}"))).is_ok());
+    assert_eq!(told(&format!("outcomes\n{schedule}\n 1 2")), format!("3:2: {long}"));
 }
 
 /// A name is taken by where it stands.

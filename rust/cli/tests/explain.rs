@@ -1,27 +1,85 @@
-//! Runs and refusals in words.
+//! Runs in words.
 
 mod common;
 
-use cli::case::Case;
+use std::fs;
+
+use cli::code::Code;
 use cli::explain::explain;
 use cli::holders::Holders;
-use cli::machine;
-use common::{assembled, bytes, example, examples, main_of};
+use cli::input::case::{Case, Given};
+use cli::input::file::Parts;
+use cli::sentence::sentence;
+use common::{assembled, bytes, example, examples, lanq, lanq_in, write};
+use data::program::table;
 use data::{Line, Side, Thing};
 use generate::file;
+use lanq::Program;
 use model::owner::holder;
 use model::print::print;
 
-/// The explanation of a text with its own names.
-fn explained(text: &str) -> String {
+/// The case of a text, which has its own names.
+fn case_of(text: &str) -> Case {
     let assembled = assembled(text);
-    explain(&assembled.case.bytes(), Some(assembled.names))
+    Case {
+        name: "text".to_string(),
+        program: table(&assembled.code.methods),
+        code: Some(assembled.code),
+        schedule: assembled.schedule.unwrap_or_default(),
+        outcomes: assembled.outcomes.unwrap_or_default(),
+        made: None,
+        unscheduled: false,
+    }
+}
+
+/// The case of a generated file, if it is one.
+fn case_of_file(file: &[u8]) -> Option<Case> {
+    let Parts { program, schedule, outcomes } = Parts::read(file).ok()?;
+    let methods = Program::from(program.as_slice()).methods().ok();
+    let code = methods.map(Code::of_table);
+    Some(Case { name: "file".to_string(), program, code, schedule, outcomes, made: None, unscheduled: false })
+}
+
+/// As the printing program runs it.
+const PRINTED: Given = Given {
+    path: None,
+    program: None,
+    schedule: None,
+    outcomes: None,
+    room: Some(4_096),
+    machine: cli::machine::Machine::Proved,
+};
+
+/// The explanation of a case that runs.
+fn explained_case(case: &Case, all: bool) -> Option<String> {
+    let run = PRINTED.run(case).ok()?;
+    Some(explain(&PRINTED, case, case.code.as_ref()?, &run, all))
+}
+
+fn explained(text: &str) -> String {
+    explained_case(&case_of(text), false).expect("the text runs")
+}
+
+/// Compares with a file of tests/expected.
+fn expect(name: &str, text: &str) {
+    let path = common::repository("rust/cli/tests/expected").join(name);
+    let expected = fs::read_to_string(&path).unwrap_or_else(|error| panic!("{}: {error}", path.display()));
+    assert_eq!(text, expected, "{name}");
 }
 
 #[test]
-fn a_short_run() {
-    let text = example("two-names").text;
-    assert_eq!(explained(&text), include_str!("two-names.explained"));
+fn runs_in_words() {
+    expect("two-names.explained", &lanq(&["explain", "two-names.lqa"]).quiet());
+    expect("half-evaluated.explained", &lanq(&["explain", "half-evaluated.lqa"]).quiet());
+}
+
+/// With every entry: silent ones, idle ones with the reason, those not used.
+#[test]
+fn every_entry_in_words() {
+    let called = lanq(&["explain", "given-whole.lqa", "--all", "--schedule", "round-robin:60"]);
+    assert_eq!(called.status, Some(0));
+    assert_eq!(called.notes, "given-whole.lqa: made --schedule '(0,1)*30'\n");
+    expect("given-whole-in-turn.explained", &called.out);
 }
 
 /// The numbers at the start of the explanation's lines, as they are printed.
@@ -37,28 +95,35 @@ fn numbers_of(explained: &str) -> String {
 /// A trace line, or the line of the end, which has no colon.
 fn starts_with_numbers(line: &str) -> bool {
     let end = line.starts_with("end ") && !line.contains(':');
-    end || line.starts_with("refused ") || line.starts_with(|c: char| c.is_ascii_digit()) && line.contains(" process ")
+    end || line.starts_with(|c: char| c.is_ascii_digit()) && line.contains(" process ")
 }
 
 #[test]
 fn the_numbers_are_the_printed_ones() {
     for example in examples() {
-        assert_eq!(numbers_of(&explained(&example.text)), example.expected, "{}", example.name);
+        let case = case_of(&example.text);
+        for all in [false, true] {
+            let explained = explained_case(&case, all).expect("an example runs");
+            assert_eq!(numbers_of(&explained), example.expected, "{}", example.name);
+        }
     }
-    for seed in 0..1_500 {
+    let mut ran = 0;
+    for seed in 0..300 {
         let file = file(seed);
-        assert_eq!(numbers_of(&explain(&file, None)), print(&file), "seed {seed}");
+        if let Some(explained) = case_of_file(&file).and_then(|case| explained_case(&case, seed % 2 == 0)) {
+            assert_eq!(numbers_of(&explained), print(&file), "seed {seed}");
+            ran += 1;
+        }
     }
+    assert!(ran > 100, "{ran} files ran");
 }
 
 /// Each holder that the lines give, against the model's reading of them.
 #[test]
 fn holders_are_those_of_the_lines() {
     let files = examples().into_iter().map(|example| bytes(&example.text));
-    for file in files.chain((0..400).map(file)) {
-        let Some(run) = Case::read(&file).ok().and_then(|case| machine::run(&case).ok()) else {
-            continue;
-        };
+    for case in files.chain((0..400).map(file)).filter_map(|file| case_of_file(&file)) {
+        let Ok(run) = PRINTED.run(&case) else { continue };
         let mut holders = Holders::default();
         for (index, line) in run.lines.iter().take(200).enumerate() {
             holders.read(line);
@@ -69,7 +134,7 @@ fn holders_are_those_of_the_lines() {
             }
             for channel in 0..17 {
                 for side in [Side::Zero, Side::One] {
-                    let held = holders.ends.get(&(channel, side.number())).copied();
+                    let held = holders.ends.get(&(channel, side)).copied();
                     assert_eq!(held, holder(so_far, Thing::End(channel, side)));
                 }
             }
@@ -92,7 +157,7 @@ fn a_channel_given_gives_its_ends() {
 }
 
 /// The sentence beside the numbers that start so.
-fn sentence(explained: &str, numbers: &str) -> String {
+fn sentence_of(explained: &str, numbers: &str) -> String {
     let mut lines = explained.lines();
     let line = lines.find(|line| line.starts_with(numbers)).unwrap_or_default();
     line[numbers.len()..].trim_start().to_string()
@@ -114,7 +179,7 @@ fn every_kind_has_a_sentence() {
         ("60 1 8 1 0 -", "process 1 sends the value 1"),
         ("94 2 9 - - -", "process 2 finishes"),
     ] {
-        assert_eq!(sentence(&teleport, numbers), expected);
+        assert_eq!(sentence_of(&teleport, numbers), expected);
     }
 }
 
@@ -146,10 +211,12 @@ fn the_other_sentences() {
         ("7 0 3 7 0 1", "process 0 applies CZ to qubits 0 and 1"),
         ("9 0 6 1 4 0", "process 0 gives channel 0 to process 1"),
     ] {
-        assert_eq!(sentence(&explained, numbers), expected);
+        assert_eq!(sentence_of(&explained, numbers), expected);
     }
-    let value = cli::trace::sentence(&Line::from_words([0, 1, 8, 65_534, 65_535, 65_535]), &[]);
-    assert_eq!(value, "process 1 sends the value -2");
+    let code = case_of(GATES_AND_CHANNEL).code.expect("the text has methods");
+    let line = |words| sentence(&Line::from_words(words), &code);
+    assert_eq!(line([0, 1, 8, 65_534, 65_535, 65_535]), "process 1 sends the value -2");
+    assert_eq!(line([0, 1, 11, 0, 0, 0]), "process 1 writes a line of kind 11");
 }
 
 /// The lines behind the line of the end.
@@ -159,7 +226,7 @@ fn outro(explained: &str) -> Vec<&str> {
 }
 
 #[test]
-fn a_run_that_is_stuck() {
+fn a_process_that_would_meet_itself() {
     let text = "\
 method void main()
     slots channel(int) c, end(int) e, bool flag
@@ -180,12 +247,74 @@ outcomes 0
         [
             "end 2: no process is able to move",
             "entries used: 7 of 9, lines written: 1, outcomes used: 0 of 1",
-            "process 0 waits",
-            "    frame 0 stands in method main at instruction 7 (line 10): SEND",
+            "process 0 waits to send over end 0 of channel 0: it holds end 1 itself, and none meets itself",
+            "    frame 0 stands at main 7 (table 7, line 10): SEND",
             "        slots: c = channel 0, flag = true",
             "        pending: end 0 of channel 0, 5",
         ]
     );
+}
+
+/// Main waits for a partner that has finished; a third waits for main.
+const WAITING: &str = "\
+method void main()
+    slots channel(int) c, end(int) mine, channel(int) d, end(int) other
+    NEWC int
+    PUT c
+    END 0
+    PUT mine
+    DROP
+    GET c
+    END 1
+    FORK leaves
+    NEWC int
+    PUT d
+    END 0
+    PUT other
+    DROP
+    GET d
+    END 1
+    FORK waits
+    GET mine
+    RECV
+    DROP
+    RET
+method void leaves(end(int) e)
+    RET
+method void waits(end(int) e)
+    GET e
+    RECV
+    DROP
+    RET
+schedule 0*16 1 2 0 2
+";
+
+#[test]
+fn who_waits_for_whom() {
+    assert_eq!(
+        outro(&explained(WAITING)),
+        [
+            "end 2: no process is able to move",
+            "entries used: 19 of 20, lines written: 7, outcomes used: 0 of 0",
+            "process 0 waits to receive over end 0 of channel 0, for process 1, which holds end 1 and has finished",
+            "    frame 0 stands at main 17 (table 17, line 20): RECV",
+            "        slots: mine = end 0 of channel 0, other = end 0 of channel 1",
+            "        emptied: c (channel 0, whose end 1 was given to process 1 at entry 7), \
+             d (channel 1, whose end 1 was given to process 2 at entry 15)",
+            "        pending: end 0 of channel 0",
+            "process 1 has finished",
+            "process 2 waits to receive over end 1 of channel 1, for process 0, which holds end 0 and waits too, \
+             at main 17 (table 17, line 20): RECV",
+            "    frame 0 stands at waits 1 (table 22, line 27): RECV",
+            "        slots: e = end 1 of channel 1",
+            "        pending: end 1 of channel 1",
+        ]
+    );
+    // Cut before main gets there.
+    let cut = explained(&WAITING.replace("1 2 0 2", "1 2 2"));
+    let waits = "process 2 waits to receive over end 1 of channel 1, for process 0, which holds end 0 and stands at \
+                 main 16 (table 16, line 19): GET mine";
+    assert!(cut.contains("\nprocess 0 is able to move\n") && cut.contains(waits), "{cut}");
 }
 
 #[test]
@@ -205,68 +334,62 @@ method void down(int left)
     RET
 schedule 0*4
 ";
-    let bytes = bytes(text);
+    let case = case_of_file(&bytes(text)).expect("a file");
     assert_eq!(
-        outro(&explain(&bytes, None)),
+        outro(&explained_case(&case, false).expect("it runs")),
         [
             "end 0: the schedule is used up",
             "entries used: 4 of 4, lines written: 1, outcomes used: 0 of 0",
-            "process 0 is under way",
-            "    frame 0 goes on in method main at instruction 3: RET",
+            "process 0 is able to move",
+            "    frame 0 goes on at main 3 (table 3, line 6 of the listing): RET",
             "        slots: s0 = 3",
             "        pending: none",
-            "    frame 1 stands in method m1 at instruction 1: PUT s2",
+            "    frame 1 stands at m1 1 (table 5, line 11 of the listing): PUT s2",
             "        slots: s0 = 3",
             "        pending: qubit 0",
         ]
     );
 }
 
-/// The last line of a refusal.
-fn refused(text: &str, numbers: &str) -> String {
+/// What CLEAR has emptied, and a channel given with its ends.
+#[test]
+fn what_else_is_emptied() {
+    let text = "\
+method void main()
+    slots qbit q, channel(int) c, end(int) a
+    NEWQ
+    PUT q
+    DROP
+    CLEAR q
+    NEWC int
+    PUT c
+    END 0
+    PUT a
+    DROP
+    GET c
+    FORK other
+    RET
+method void other(channel(int) c)
+    RET
+schedule 0*11
+";
     let explained = explained(text);
-    let lines: Vec<&str> = explained.lines().collect();
-    assert_eq!(lines[0], numbers);
-    let number = numbers.split(' ').nth(1).unwrap_or_default();
-    assert!(lines[1].starts_with(&format!("question {number}: ")));
-    assert!(lines[1].ends_with('?'));
-    assert_eq!(lines.len(), 3);
-    lines[2].to_string()
+    let emptied = "        emptied: q (qubit 0, cleared at entry 3), c (channel 0, given to process 1 at entry 10), \
+                   a (end 0 of channel 0, whose channel was given to process 1 at entry 10)";
+    assert!(explained.lines().any(|line| line == emptied), "{explained}");
 }
 
+/// A run of many entries is not gone through unless that is asked for.
 #[test]
-fn refusals_of_a_text() {
-    let rows = main_of("  RET\nmethod raw(9) odd()\n  RET");
-    let expected = "no: in the header or the slots of method odd";
-    assert_eq!(refused(&rows, "refused 3 1"), expected);
-    let listed = main_of("  RET\nmethod void odd()\n  NEWQ\n  raw 10 9\n  RET");
-    let expected = "no: in method odd at instruction 1 (line 5): raw 10 9";
-    assert_eq!(refused(&listed, "refused 4 2"), expected);
-    let first = main_of("  RET\nmethod void odd()\n  raw 0 0\n  RET");
-    let expected = "no: in method odd at instruction 0 (line 4): raw 0 0";
-    assert_eq!(refused(&first, "refused 4 1"), expected);
-    let types = main_of("  INT 1\n  GATE X\n  RET");
-    let expected = "no: in method main at instruction 1 (line 3): GATE X";
-    assert_eq!(refused(&types, "refused 5 1"), expected);
-    let outcomes = main_of("  RET\noutcomes 0 1 7");
-    let expected = "no: outcome 2, counted from 0, is 7";
-    assert_eq!(refused(&outcomes, "refused 6 2"), expected);
-}
-
-#[test]
-fn refusals_of_a_file() {
-    let mut file = bytes(&main_of("  RET"));
-    file[26] = 2;
-    let expected = "refused 1 0\n\
-        question 1: Are M and N in range, and has the table 2 + 20M + 2N words?\n\
-        no: the table's length is 24, for M = 1 and N = 2 it must be 26\n";
-    assert_eq!(explain(&file, None), expected);
-    let expected = "refused 9 0\n\
-        question 9: Is the file built as docs/LAYOUT.md says?\n\
-        no: its length is 1, the header alone has 24 bytes\n";
-    assert_eq!(explain(&[0], None), expected);
-    let mut file = bytes(&main_of("  RET"));
-    file[34] = 200;
-    let explained = explain(&file, None);
-    assert!(explained.ends_with("no: in the header or the slots of method main\n"));
+fn long_runs() {
+    let text = "method void main()\n    slots qbit q\n    NEWQ\n    PUT q\n    DROP\n    CLEAR q\nagain: JUMP again\n";
+    let folder = common::folder("explain-long");
+    write(&folder, "long.lqa", text);
+    let short = lanq_in(&folder, &["explain", "long.lqa", "--schedule", "0*5000"]).quiet();
+    assert!(short.contains("emptied: q (qubit 0, cleared at entry 3)"), "{short}");
+    let long = lanq_in(&folder, &["explain", "long.lqa", "--schedule", "0*5001"]).quiet();
+    assert!(
+        long.ends_with("(why slots are empty is not worked out for so many entries, unless with --all)\n"),
+        "{long}"
+    );
 }

@@ -2,23 +2,21 @@
 
 mod common;
 
-use cli::assemble::assemble;
+use cli::asm::assemble::assemble;
+use cli::asm::ops::{Field, Op, Part, OPS};
+use cli::asm::types;
 use cli::names::{MethodNames, Scope};
-use cli::ops::{Field, Op, Part, GATES, OPS};
-use cli::types::{self, CARRIED};
 use common::main_of;
-use data::{Carried, Gate, Type};
+use data::program::table;
+use data::Type;
 use model::table::Op as ModelOp;
 
 #[test]
-fn ops_gates_and_types_are_the_models() {
+fn ops_and_types_are_the_models() {
     for number in 0..=100 {
         // 1 is in range for every argument that is not 0 alone.
         let listed = ModelOp::read(number, 0).or(ModelOp::read(number, 1));
         assert_eq!(Op::numbered(number).is_some(), listed.is_some());
-        assert_eq!(GATES.name(number), Gate::read(number).map(Gate::name));
-        let carried = Carried::read(number).map(|carried| carried.to_string());
-        assert_eq!(CARRIED.name(number).map(str::to_string), carried);
         let kind = Type::read(number).filter(|kind| *kind != Type::None);
         let expected = kind.map_or(format!("raw({number})"), |kind| kind.to_string());
         assert_eq!(types::name(number), expected);
@@ -36,12 +34,12 @@ fn names_and_numbers_occur_once() {
 
 /// A gate on n qubits: 16 times the gate, plus n.
 static SET_OF_QUBITS: [Field; 2] =
-    [Field { part: Part::Word(&GATES), factor: 16 }, Field { part: Part::Number { low: 2, high: 8 }, factor: 1 }];
+    [Field { part: Part::Gate, factor: 16 }, Field { part: Part::Number { low: 2, high: 8 }, factor: 1 }];
 
 #[test]
 fn an_argument_may_have_two_fields() {
     let op = Op { number: 24, name: "GATES", fields: &SET_OF_QUBITS };
-    let here = MethodNames { name: "main".to_string(), slots: vec![], labels: vec![], lines: vec![] };
+    let here = MethodNames { name: "main".to_string(), ..MethodNames::default() };
     let methods = std::slice::from_ref(&here);
     let scope = Scope { methods, here: &here };
     assert_eq!(op.argument(&[4, 3]), 67);
@@ -71,7 +69,7 @@ fn instructions_by_name() {
         ("raw 65535 7", (65_535, 7)),
     ] {
         let text = main_of(&format!("{body}{text}\nmethod void other()\nRET"));
-        let program = assemble(&text).expect("the text has no error").case.program;
+        let program = table(&assemble(&text).expect("the text has no error").code.methods);
         let code = 2 + 20 * 2;
         assert_eq!((program[code], program[code + 1]), expected, "{text}");
     }

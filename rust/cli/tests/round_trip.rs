@@ -4,12 +4,21 @@ mod common;
 
 use std::collections::BTreeMap;
 
-use cli::case::Case;
-use cli::list::list;
-use cli::table;
-use common::{assembled, bytes, examples, main_of};
+use cli::asm::list::{list_inputs, listing};
+use cli::input::file::Parts;
+use common::{bytes, examples, main_of};
 use generate::{file, Random};
+use lanq::Program;
 use model::print::print;
+
+/// The text of a file; the error says why there is none.
+fn list(file: &[u8]) -> Result<String, String> {
+    let parts = Parts::read(file)?;
+    let methods = Program::from(parts.program.as_slice()).methods();
+    let methods = methods.map_err(|reason| reason.to_string())?;
+    let text = listing(&methods).text.ok_or("more parameters than slots")?;
+    Ok(text + &list_inputs(&parts.schedule, &parts.outcomes))
+}
 
 fn listed(file: &[u8]) -> String {
     list(file).unwrap_or_else(|why| panic!("not listed: {why}"))
@@ -35,8 +44,8 @@ fn class(printed: &str) -> String {
 
 /// Whether a method is said to have more parameters than slots.
 fn has_many_parameters(file: &[u8]) -> bool {
-    let case = Case::read(file).expect("the file is well built");
-    let methods = table::methods(&case.program).expect("the table has methods");
+    let parts = Parts::read(file).expect("the file is well built");
+    let methods = Program::from(parts.program.as_slice()).methods().expect("the table has methods");
     methods.iter().any(|method| method.parameters > 16)
 }
 
@@ -73,7 +82,7 @@ fn generated_files_come_back() {
 fn damaged_rows_and_code_come_back() {
     let mut random = Random::new(84);
     for example in examples() {
-        let case = assembled(&example.text).case;
+        let case = Parts::read(&bytes(&example.text)).expect("the file is well built");
         let methods = usize::from(case.program[0]);
         for _ in 0..300 {
             let mut case = case.clone();
@@ -88,7 +97,7 @@ fn damaged_rows_and_code_come_back() {
             }
             case.outcomes.push(random.byte());
             case.schedule.push(random.byte());
-            let file = case.bytes();
+            let file = data::file::file(&case.program, &case.schedule, &case.outcomes);
             assert_eq!(bytes(&listed(&file)), file);
         }
     }
@@ -155,23 +164,33 @@ fn what_cannot_be_listed_is_said() {
     assert_eq!(with(0, 23), "its program is said to start at byte 23, not 24");
     assert_eq!(with(4, 47), "its schedule is said to start at byte 72, not 71");
     assert_eq!(with(12, 1), "its schedule passes the end, with 1 bytes");
-    assert_eq!(with(24, 33), "the table names 33 methods, not 1 to 32");
-    assert_eq!(with(26, 0), "the table names 0 instructions, not 1 to 4096");
-    let needs = "the table's length is 24, for M = 1 and N = 2 it must be 26";
-    assert_eq!(with(26, 2), needs);
-    let start = "method 0 does not start where the one before ends, is empty, or passes the code's end";
+    assert_eq!(with(24, 33), "refused 1 0: M, the number of methods, is 33, not 1 to 32");
+    assert_eq!(with(26, 2), "refused 1 0: the table has 24 words, for its M and N it must have 26");
+    let start = "refused 2 0: the method is said to start at instruction 1, not 0, where the one before ends";
     assert_eq!(with(28, 1), start);
-    assert_eq!(with(34, 17), "method 0 has 17 parameters, for 16 slots");
-    let mut short = bytes(&main_of("    INT 1\n    RET"));
-    short[30] = 1;
-    let why = "the methods' lengths do not sum to the number of instructions";
-    assert_eq!(list(&short), Err(why.to_string()));
-    // Main empty, all code in the other method.
-    let mut empty = bytes(&main_of("    RET\nmethod void m1()\n    RET"));
-    empty[30] = 0;
-    empty[32] = 0;
-    empty[34] = 2;
-    assert_eq!(list(&empty), Err(start.to_string()));
+    assert_eq!(with(34, 17), "more parameters than slots");
+}
+
+/// The places of a listing are the lines of its text.
+#[test]
+fn a_listing_tells_its_lines() {
+    for file in examples().iter().map(|example| bytes(&example.text)) {
+        let program = Program::from(Parts::read(&file).expect("the file is well built").program);
+        let listing = listing(&program.methods().expect("the table has methods"));
+        let text = listing.text.expect("no method has more than 16 parameters");
+        let lines: Vec<&str> = text.lines().collect();
+        let code = cli::code::Code::of_table(program.methods().expect("the table has methods"));
+        let count: usize = code.methods.iter().map(|method| method.code.len()).sum();
+        for place in 0..count {
+            let site = code.site(place).expect("an instruction");
+            let (at, _) = site.written.expect("it is listed");
+            assert_eq!(lines[at.line - 1][at.column - 1..], site.text);
+        }
+        for names in &listing.names {
+            let header = names.header.expect("it is listed");
+            assert!(lines[header.line - 1].contains(&format!(" {}(", names.name)));
+        }
+    }
 }
 
 #[test]

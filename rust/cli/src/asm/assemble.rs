@@ -1,25 +1,25 @@
-//! A text's names looked up, its table written. Questions 1 and 2 and the
-//! file's length are seen to here, because a refusal would tell too little;
-//! the questions from 3 on are left to the machine.
+//! A text's names looked up, its table written. Questions 1 and 2 are seen to
+//! here, because a refusal would tell too little; the questions from 3 on are
+//! left to the machine.
 
 use std::collections::BTreeMap;
 
-use data::file::MOST_BYTES;
-use data::program;
+use data::program::{self, MOST_INSTRUCTIONS, MOST_METHODS};
 use data::SLOTS;
 
-use crate::case::Case;
+use crate::asm::lex::Token;
+use crate::asm::parse::{parse, Instruction, Method, Source, What};
+use crate::code::{Code, Written};
 use crate::error::Error;
-use crate::lex::Token;
 use crate::names::{MethodNames, Scope};
-use crate::parse::{parse, too_long, Instruction, Method, Source, What};
-use crate::table::{MOST_INSTRUCTIONS, MOST_METHODS};
 
-/// What a text stands for, with its names.
+/// What a text stands for, with its names. Schedule and outcomes are none where
+/// the text has no such section.
 #[derive(Clone, Debug, PartialEq, Eq)]
 pub struct Assembled {
-    pub case: Case,
-    pub names: Vec<MethodNames>,
+    pub code: Code,
+    pub schedule: Option<Vec<u8>>,
+    pub outcomes: Option<Vec<u8>>,
 }
 
 /// Assembles a text.
@@ -35,11 +35,8 @@ pub fn assemble(text: &str) -> Result<Assembled, Error> {
         write_method(method, Scope { methods, here })
     });
     let methods: Vec<program::Method> = methods.collect::<Result<_, Error>>()?;
-    let case = Case { program: program::table(&methods), schedule: source.schedule, outcomes: source.outcomes };
-    match case.length() > MOST_BYTES {
-        true => Err(too_long(source.end)),
-        false => Ok(Assembled { case, names }),
-    }
+    let code = Code { methods, names, written: Written::Text };
+    Ok(Assembled { code, schedule: source.schedule, outcomes: source.outcomes })
 }
 
 /// Questions 1 and 2: the numbers of methods and instructions.
@@ -112,7 +109,8 @@ fn names_of(method: &Method) -> Result<MethodNames, Error> {
         name: text(method.name),
         slots: slots.collect(),
         labels: labels.collect(),
-        lines: method.code.iter().map(|one| one.place.line).collect(),
+        header: Some(method.name.place),
+        places: method.code.iter().map(|one| one.place).collect(),
     })
 }
 

@@ -1,28 +1,18 @@
 //! The input file of the printing program, as docs/LAYOUT.md sets it down.
 
-use data::file::{file, HEADER_BYTES, MOST_BYTES};
+use data::file::{HEADER_BYTES, MOST_BYTES};
 
 /// A file's three parts.
 #[derive(Clone, Debug, PartialEq, Eq)]
-pub struct Case {
+pub struct Parts {
     pub program: Vec<u16>,
     pub schedule: Vec<u8>,
     pub outcomes: Vec<u8>,
 }
 
-impl Case {
-    /// How long its file is.
-    pub fn length(&self) -> usize {
-        HEADER_BYTES + 2 * self.program.len() + self.schedule.len() + self.outcomes.len()
-    }
-
-    /// The file of a case whose length is within the limit.
-    pub fn bytes(&self) -> Vec<u8> {
-        file(&self.program, &self.schedule, &self.outcomes)
-    }
-
-    /// The case of a well-built file; the error says what is built otherwise.
-    pub fn read(file: &[u8]) -> Result<Case, String> {
+impl Parts {
+    /// The parts of a well-built file; the error says what is built otherwise.
+    pub fn read(file: &[u8]) -> Result<Parts, String> {
         if file.len() > MOST_BYTES {
             return Err(format!("its length is {}, at most 65536 bytes are read", file.len()));
         }
@@ -39,7 +29,7 @@ impl Case {
             return Err(format!("its program has an odd length, {}", program.len()));
         }
         let words = program.chunks_exact(2);
-        Ok(Case {
+        Ok(Parts {
             program: words.map(|two| u16::from_le_bytes([two[0], two[1]])).collect(),
             schedule: schedule.to_vec(),
             outcomes: outcomes.to_vec(),

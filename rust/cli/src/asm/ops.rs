@@ -1,16 +1,10 @@
-//! The table of ops, one row each, for the assembler and the lister alike.
-//! A further op is one more row of [`OPS`], a further gate one of [`GATES`].
+//! The ops' arguments, one row each, for the assembler and the lister alike.
 
+use data::program::op;
+use data::{Carried, Gate};
+
+use crate::asm::types::RAW;
 use crate::names::Scope;
-use crate::types::{CARRIED, RAW};
-use crate::vocabulary::Vocabulary;
-
-pub static BOOLEANS: Vocabulary = Vocabulary { what: "a boolean", rows: &[("false", 0), ("true", 1)] };
-
-pub static GATES: Vocabulary = Vocabulary {
-    what: "a gate",
-    rows: &[("X", 1), ("Y", 2), ("Z", 3), ("H", 4), ("S", 5), ("CX", 6), ("CZ", 7), ("SWAP", 8)],
-};
 
 /// One part of an argument, as it is written.
 #[derive(Clone, Copy, Debug)]
@@ -22,7 +16,9 @@ pub enum Part {
         low: u16,
         high: u16,
     },
-    Word(&'static Vocabulary),
+    Bool,
+    Gate,
+    Carried,
     Slot,
     Method,
     Label,
@@ -40,7 +36,10 @@ impl Part {
                 let number: u16 = text.parse().ok()?;
                 (low..=high).contains(&number).then_some(number)
             }
-            Part::Word(vocabulary) => vocabulary.number(text),
+            Part::Bool | Part::Gate | Part::Carried => {
+                let words = self.words();
+                words.iter().find(|(word, _)| word == text).map(|(_, number)| *number)
+            }
             Part::Slot => scope.slot(text),
             Part::Method => scope.method(text),
             Part::Label => scope.label(text),
@@ -58,26 +57,45 @@ impl Part {
                 let listed = (low..=high).contains(&number);
                 listed.then(|| number.to_string())
             }
-            Part::Word(vocabulary) => vocabulary.name(number).map(str::to_string),
+            Part::Bool | Part::Gate | Part::Carried => {
+                let mut words = self.words().into_iter();
+                words.find(|(_, one)| *one == number).map(|(word, _)| word)
+            }
             Part::Slot => scope.slot_name(number).map(str::to_string),
             Part::Method => scope.method_name(number).map(str::to_string),
             Part::Label => scope.label_name(number).map(str::to_string),
         }
     }
 
+    /// The words that stand for numbers, where a part has such.
+    fn words(self) -> Vec<(String, u16)> {
+        match self {
+            Part::Bool => [false, true].map(|value| (value.to_string(), u16::from(value))).to_vec(),
+            Part::Gate => Gate::ALL.map(|gate| (gate.to_string(), gate.number())).to_vec(),
+            Part::Carried => Carried::ALL.map(|carried| (carried.to_string(), carried.number())).to_vec(),
+            _ => Vec::new(),
+        }
+    }
+
+    /// Whether a word of this part may have parentheses.
+    pub fn opens(self) -> bool {
+        matches!(self, Part::Carried)
+    }
+
     /// What was expected, without the names of a program.
     pub fn what(self) -> String {
-        match self {
-            Part::Int => "a number from -32768 to 32767".to_string(),
-            Part::Number { low, high } => format!("a number from {low} to {high}"),
-            Part::Word(vocabulary) => {
-                let names: Vec<&str> = vocabulary.rows.iter().map(|row| row.0).collect();
-                format!("{} ({})", vocabulary.what, names.join(", "))
-            }
-            Part::Slot => "a slot".to_string(),
-            Part::Method => "a method".to_string(),
-            Part::Label => "a label".to_string(),
-        }
+        let what = match self {
+            Part::Int => return "a number from -32768 to 32767".to_string(),
+            Part::Number { low, high } => return format!("a number from {low} to {high}"),
+            Part::Slot => return "a slot".to_string(),
+            Part::Method => return "a method".to_string(),
+            Part::Label => return "a label".to_string(),
+            Part::Bool => "a boolean",
+            Part::Gate => "a gate",
+            Part::Carried => "a type that channels carry",
+        };
+        let names: Vec<String> = self.words().into_iter().map(|(word, _)| word).collect();
+        format!("{what} ({})", names.join(", "))
     }
 
     /// What was expected, with the names that would do.
@@ -157,42 +175,43 @@ const fn whole(part: Part) -> Field {
     Field { part, factor: 1 }
 }
 
-const fn op(number: u16, name: &'static str, fields: &'static [Field]) -> Op {
-    Op { number, name, fields }
+/// An op's row; the names stand in the order of the numbers.
+const fn row(number: u16, fields: &'static [Field]) -> Op {
+    Op { number, name: op::NAMES[number as usize - 1], fields }
 }
 
 const INT: &[Field] = &[whole(Part::Int)];
-const BOOLEAN: &[Field] = &[whole(Part::Word(&BOOLEANS))];
+const BOOLEAN: &[Field] = &[whole(Part::Bool)];
 const SLOT: &[Field] = &[whole(Part::Slot)];
-const TYPE: &[Field] = &[whole(Part::Word(&CARRIED))];
+const CARRIED: &[Field] = &[whole(Part::Carried)];
 const SIDE: &[Field] = &[whole(Part::Number { low: 0, high: 1 })];
-const GATE: &[Field] = &[whole(Part::Word(&GATES))];
+const GATE: &[Field] = &[whole(Part::Gate)];
 const METHOD: &[Field] = &[whole(Part::Method)];
 const LABEL: &[Field] = &[whole(Part::Label)];
 
-/// The ops in 01's order and by 01's names.
+/// The ops in 01's order: a further op is one more row.
 pub static OPS: &[Op] = &[
-    op(1, "INT", INT),
-    op(2, "BOOL", BOOLEAN),
-    op(3, "GET", SLOT),
-    op(4, "PUT", SLOT),
-    op(5, "DROP", &[]),
-    op(6, "CLEAR", SLOT),
-    op(7, "NEWQ", &[]),
-    op(8, "NEWC", TYPE),
-    op(9, "END", SIDE),
-    op(10, "GATE", GATE),
-    op(11, "MEAS", &[]),
-    op(12, "CALL", METHOD),
-    op(13, "RET", &[]),
-    op(14, "FORK", METHOD),
-    op(15, "SEND", &[]),
-    op(16, "RECV", &[]),
-    op(17, "JUMP", LABEL),
-    op(18, "JFALSE", LABEL),
-    op(19, "ADD", &[]),
-    op(20, "SUB", &[]),
-    op(21, "EQ", &[]),
-    op(22, "LESS", &[]),
-    op(23, "NOT", &[]),
+    row(op::INT, INT),
+    row(op::BOOL, BOOLEAN),
+    row(op::GET, SLOT),
+    row(op::PUT, SLOT),
+    row(op::DROP, &[]),
+    row(op::CLEAR, SLOT),
+    row(op::NEWQ, &[]),
+    row(op::NEWC, CARRIED),
+    row(op::END, SIDE),
+    row(op::GATE, GATE),
+    row(op::MEAS, &[]),
+    row(op::CALL, METHOD),
+    row(op::RET, &[]),
+    row(op::FORK, METHOD),
+    row(op::SEND, &[]),
+    row(op::RECV, &[]),
+    row(op::JUMP, LABEL),
+    row(op::JFALSE, LABEL),
+    row(op::ADD, &[]),
+    row(op::SUB, &[]),
+    row(op::EQ, &[]),
+    row(op::LESS, &[]),
+    row(op::NOT, &[]),
 ];

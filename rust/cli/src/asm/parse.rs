@@ -1,22 +1,21 @@
-//! The grammar of the text form, which stands in the crate's README. What is
+//! The grammar of the text form, which stands in docs/COMMAND.md. What is
 //! read here is the form alone; names are looked up when all are known.
 
 use std::num::NonZeroU16;
 
-use data::file::MOST_BYTES;
-
-use crate::cursor::{Cursor, Phrase};
+use crate::asm::cursor::{Cursor, Phrase};
+use crate::asm::lex::{lines, Kind, Token};
+use crate::asm::ops::Op;
+use crate::asm::types;
 use crate::error::{Error, Place};
-use crate::lex::{lines, Kind, Token};
-use crate::ops::{Op, Part};
-use crate::types;
 
 /// A whole text.
 #[derive(Debug, Default)]
 pub struct Source<'t> {
     pub methods: Vec<Method<'t>>,
-    pub schedule: Vec<u8>,
-    pub outcomes: Vec<u8>,
+    /// None where the text has no such section.
+    pub schedule: Option<Vec<u8>>,
+    pub outcomes: Option<Vec<u8>>,
     /// Where the last line ends.
     pub end: Place,
 }
@@ -77,6 +76,9 @@ struct Parser<'t> {
     /// The sections of numbers seen so far.
     seen: Vec<(Section, Place)>,
 }
+
+/// More than any schedule that is run.
+pub const MOST_NUMBERS: usize = 100_000;
 
 const A_SECTION: &str = "`method`, `schedule` or `outcomes`";
 
@@ -171,6 +173,7 @@ impl<'t> Parser<'t> {
         }
         self.seen.push((section, place));
         self.section = section;
+        self.bytes();
         self.numbers(line)
     }
 
@@ -188,30 +191,31 @@ impl<'t> Parser<'t> {
         Ok(())
     }
 
-    /// Stops before a small text asks for endless room.
-    fn add(&mut self, number: u8, count: usize, place: Place) -> Result<(), Error> {
+    /// The numbers of the section that the line stands in.
+    fn bytes(&mut self) -> &mut Vec<u8> {
         let bytes = match self.section {
             Section::Outcomes => &mut self.source.outcomes,
             _ => &mut self.source.schedule,
         };
-        if bytes.len() + count > MOST_BYTES {
-            return Err(too_long(place));
+        bytes.get_or_insert_default()
+    }
+
+    /// Stops before a small text asks for endless room.
+    fn add(&mut self, number: u8, count: usize, place: Place) -> Result<(), Error> {
+        let bytes = self.bytes();
+        if bytes.len() + count > MOST_NUMBERS {
+            return Err(Error::at(place, format!("expected at most {MOST_NUMBERS} entries, found more")));
         }
         bytes.extend(std::iter::repeat_n(number, count));
         Ok(())
     }
 }
 
-/// The file that a text stands for would be too long.
-pub fn too_long(place: Place) -> Error {
-    Error::at(place, "expected a file of at most 65536 bytes, found more entries")
-}
-
 fn read_return_type(line: &mut Cursor) -> Result<u16, Error> {
-    if line.skip(types::VOID) {
+    if line.skip(&types::void()) {
         return Ok(0);
     }
-    read_type(line, &format!("`{}` or {}", types::VOID, types::EXPECTED))
+    read_type(line, &format!("`{}` or {}", types::void(), types::EXPECTED))
 }
 
 fn read_type(line: &mut Cursor, expected: &str) -> Result<u16, Error> {
@@ -264,10 +268,7 @@ fn read_fields(line: &mut Cursor, op: &Op) -> Result<Vec<Phrase>, Error> {
     let fields = op.fields.iter();
     let phrases = fields.map(|field| {
         // Only a listed word has parentheses; a slot may be called `end`.
-        let opens = match field.part {
-            Part::Word(_) => types::opens,
-            _ => |_: &str| false,
-        };
+        let opens = if field.part.opens() { types::opens } else { |_: &str| false };
         line.phrase(&field.part.what(), opens)
     });
     phrases.collect()

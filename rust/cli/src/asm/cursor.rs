@@ -1,7 +1,7 @@
 //! Reading along one line, token by token.
 
+use crate::asm::lex::{Kind, Line, Token};
 use crate::error::{Error, Place};
-use crate::lex::{Kind, Line, Token};
 
 /// Some text of a line with its place: a word, a number, or a word with
 /// something in parentheses, written without blanks.

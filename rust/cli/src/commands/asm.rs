@@ -1,0 +1,33 @@
+//! `lanq asm`
+
+use data::file::{file, MOST_BYTES};
+
+use crate::commands::{schedule_note, Command, Done};
+use crate::error::Failure;
+use crate::options::{Arguments, INPUTS};
+
+pub const COMMAND: Command = Command {
+    name: "asm",
+    usage: "CASE > FILE.bin [options]",
+    about: "writes a case as the printing program's input file, to standard output",
+    more: "\
+A text is assembled: its names are looked up and its table is written. What is wrong in it is told
+with line, column and what was expected there, and nothing is written then. The questions from 3 on
+are not put; lanq check puts them.",
+    options: &[INPUTS],
+    run,
+};
+
+fn run(arguments: &Arguments) -> Result<Done, Failure> {
+    let case = arguments.one_case()?.case()?;
+    let bytes = file(&case.program, &case.schedule, &case.outcomes);
+    if bytes.len() > MOST_BYTES {
+        let why = format!("has {} bytes as an input file, at most {MOST_BYTES} are read", bytes.len());
+        return Err(Failure::of(&case.name, why));
+    }
+    let made = Done { notes: schedule_note(&case), ..Done::default() };
+    Ok(match case.made {
+        Some(_) => Done { out: bytes, ..made },
+        None => Done::said(bytes),
+    })
+}

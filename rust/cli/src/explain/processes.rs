@@ -1,0 +1,105 @@
+//! Each process as it stands: its state, whom it waits for, its frames, and why
+//! what is empty is empty.
+
+use data::{Configuration, Frame, State, Value};
+
+use crate::code::Code;
+use crate::emptied::{Cell, Emptied};
+use crate::explain::Told;
+use crate::holders::Holders;
+use crate::standing::{standing, Offer, Standing};
+
+/// The processes at the end of a run.
+pub fn processes(told: Told, emptied: Option<&Emptied>) -> String {
+    let configuration = &told.run.configuration;
+    let holders = Holders::by(&told.run.lines);
+    let mut text = String::new();
+    for (number, process) in configuration.processes.iter().enumerate() {
+        let how = how(told.code, configuration, &holders, number);
+        let why = match process.state {
+            State::Stopped(fault) => format!(": {fault}"),
+            _ => String::new(),
+        };
+        text += &format!("process {number} {how}{why}\n");
+        for (f, frame) in process.frames.iter().enumerate() {
+            // A caller's place stands behind its CALL.
+            let verb = if f + 1 == process.frames.len() { "stands at" } else { "goes on at" };
+            let site = told.code.site(frame.place).map(|site| site.to_string()).unwrap_or_default();
+            text += &format!("    frame {f} {verb} {site}\n");
+            text += &values(told.code, frame, |cell| emptied?.why(number, f, cell).map(|why| why.to_string()));
+        }
+    }
+    if emptied.is_none() {
+        text += "(why slots are empty is not worked out for so many entries, unless with --all)\n";
+    }
+    text
+}
+
+/// How a process stands.
+pub fn how(code: &Code, configuration: &Configuration, holders: &Holders, number: usize) -> String {
+    match standing(code, configuration, number) {
+        Standing::NotStarted => "has not started".to_string(),
+        Standing::Finished => "has finished".to_string(),
+        Standing::Stopped(fault) => format!("was stopped by fault {}", fault.number()),
+        Standing::Moves => "is able to move".to_string(),
+        Standing::Waits(offer) => format!("waits {}", waits(code, configuration, holders, number, offer)),
+    }
+}
+
+/// What a process waits for, and what its partner does.
+fn waits(code: &Code, configuration: &Configuration, holders: &Holders, number: usize, offer: Offer) -> String {
+    let Offer { sends, channel, side } = offer;
+    let verb = if sends { "to send" } else { "to receive" };
+    let other = side.other();
+    let over = format!("{verb} over end {side} of channel {channel}");
+    match holders.ends.get(&(channel, other)).map(|holder| usize::from(*holder)) {
+        None => format!("{over}: nobody holds end {other}"),
+        Some(holder) if holder == number => format!("{over}: it holds end {other} itself, and none meets itself"),
+        Some(holder) => {
+            let partner = partner(code, configuration, holder);
+            format!("{over}, for process {holder}, which holds end {other} and {partner}")
+        }
+    }
+}
+
+/// What the holder of the opposite end does.
+fn partner(code: &Code, configuration: &Configuration, number: usize) -> String {
+    let Some(process) = configuration.processes.get(number) else {
+        return "has not started".to_string();
+    };
+    let site = process.top().and_then(|frame| code.site(frame.place));
+    let site = site.map(|site| site.to_string()).unwrap_or_default();
+    match (process.state, standing(code, configuration, number)) {
+        (State::Finished, _) => "has finished".to_string(),
+        (State::Stopped(fault), _) => format!("was stopped by fault {}", fault.number()),
+        (State::Running, Standing::Waits(_)) => format!("waits too, at {site}"),
+        (State::Running, _) => format!("stands at {site}"),
+    }
+}
+
+/// The values of a frame, and what was emptied in it.
+fn values(code: &Code, frame: &Frame, why: impl Fn(Cell) -> Option<String>) -> String {
+    let name = |slot| code.slot_name(frame.method, slot);
+    let slots = frame.slots.iter().enumerate();
+    let held = slots.clone().filter(|(_, value)| **value != Value::Empty);
+    let held = held.map(|(slot, value)| format!("{} = {value}", name(slot)));
+    let emptied = slots.filter(|(_, value)| **value == Value::Empty);
+    let emptied: Vec<String> =
+        emptied.filter_map(|(slot, _)| Some(format!("{} ({})", name(slot), why(Cell::Slot(slot))?))).collect();
+    let pending = frame.pending.iter().enumerate().map(|(index, value)| match why(Cell::Pending(index)) {
+        Some(why) if *value == Value::Empty => format!("empty ({why})"),
+        _ => value.to_string(),
+    });
+    let mut text = format!("        slots: {}\n", list_or_none(held.collect()));
+    if !emptied.is_empty() {
+        text += &format!("        emptied: {}\n", emptied.join(", "));
+    }
+    text + &format!("        pending: {}\n", list_or_none(pending.collect()))
+}
+
+fn list_or_none(items: Vec<String>) -> String {
+    match items.is_empty() {
+        true => "none".to_string(),
+        false => items.join(", "),
+    }
+}

@@ -1,0 +1,42 @@
+//! A run entry by entry. The library runs a schedule from its start, and the
+//! run on the first k entries stands where the whole run stood after k of them;
+//! so the steps are the runs on one entry more each.
+
+use data::{Configuration, Line, Run};
+
+use crate::input::case::Case;
+use crate::machine::Runner;
+use crate::progress::Progress;
+
+/// One entry that was used.
+#[derive(Debug)]
+pub struct Step<'s> {
+    pub entry: usize,
+    /// The process that the entry names.
+    pub process: u8,
+    pub before: &'s Configuration,
+    pub after: &'s Configuration,
+    /// The lines that the entry wrote.
+    pub lines: &'s [Line],
+}
+
+/// Visits the entries that a run has used, in their order.
+pub fn each_step(case: &Case, run: &Run, mut runner: Runner, mut visit: impl FnMut(&Step)) {
+    let mut before = configuration(case, &mut runner, 0);
+    let mut lines = run.lines.as_slice();
+    let mut progress = Progress::new("entries", run.entries);
+    for entry in 0..run.entries {
+        let after = configuration(case, &mut runner, entry + 1);
+        let written = lines.iter().take_while(|line| usize::from(line.entry) == entry).count();
+        let (these, rest) = lines.split_at(written);
+        visit(&Step { entry, process: case.schedule[entry], before: &before, after: &after, lines: these });
+        lines = rest;
+        before = after;
+        progress.done(entry + 1);
+    }
+}
+
+fn configuration(case: &Case, runner: &mut Runner, entries: usize) -> Configuration {
+    let run = runner.run(&case.program, &case.schedule[..entries], &case.outcomes);
+    run.expect("the whole schedule was accepted").configuration
+}

@@ -1,0 +1,361 @@
+//! `lanq` as it is called: each command on the examples, what goes to standard
+//! output and what to standard error, and the exit status.
+
+mod common;
+
+use std::fs;
+
+use cli::json::Json;
+use common::{bytes, example, examples, folder, lanq, lanq_in, main_of, repository, write};
+
+/// Compares with a file of tests/expected.
+fn expect(name: &str, text: &str) {
+    let path = repository("rust/cli/tests/expected").join(name);
+    let expected = fs::read_to_string(&path).unwrap_or_else(|error| panic!("{}: {error}", path.display()));
+    assert_eq!(text, expected, "{name}");
+}
+
+#[test]
+fn help() {
+    let overview = lanq(&["help"]).quiet();
+    expect("help", &overview);
+    assert_eq!(lanq(&["--help"]).quiet(), overview);
+    let mut all = String::new();
+    for name in ["run", "check", "explain", "timeline", "holder", "same", "asm", "list", "batch"] {
+        assert!(overview.contains(&format!("\n    {name} ")), "{name}");
+        let help = lanq(&["help", name]).quiet();
+        assert!(help.starts_with(&format!("usage: lanq {name} ")), "{help}");
+        assert_eq!(lanq(&[name, "--help"]).quiet(), help);
+        all += &help;
+        all += "\n";
+    }
+    expect("help-of-each", &all);
+}
+
+/// A wrong call has status 2, says what is wrong and how it is called.
+#[test]
+fn wrong_calls() {
+    let run = "usage: lanq run CASE [--json | --csv] [options]";
+    for (words, told, usage) in [
+        (&[][..], "lanq: wants a command", "usage: lanq COMMAND ..."),
+        (&["jump"], "lanq: no command jump", "usage: lanq COMMAND ..."),
+        (&["help", "jump"], "lanq: no command jump", "usage: lanq COMMAND ..."),
+        (&["run"], "lanq run: wants a case", run),
+        (&["run", "a", "b"], "lanq run: wants one case", run),
+        (&["run", "a", "--fast"], "lanq run: no option --fast", run),
+        (&["run", "a", "--json=1"], "lanq run: --json takes no value", run),
+        (&["run", "a", "--json", "--csv"], "lanq run: --json and --csv exclude each other", run),
+        (&["run", "a", "--schedule"], "lanq run: --schedule wants its value, S", run),
+        (&["run", "a", "--room", "1", "--room", "2"], "lanq run: --room is given twice", run),
+        (&["run", "a", "--room", "x"], "lanq run: --room wants a number from 0 on, not x", run),
+        (
+            &["run", "a", "--schedule", "0,x"],
+            "lanq run: --schedule:1:3: expected a process from 0 to 255, `round-robin:N` or `until-stuck`, found `x`",
+            run,
+        ),
+        (&["run", "a", "--outcomes=0a"], "lanq run: --outcomes:1:1: expected a number or a name, found `0a`", run),
+        (
+            &["run", "a", "--outcomes=0", "--outcomes-file", "b"],
+            "lanq run: --outcomes and --outcomes-file exclude each other",
+            run,
+        ),
+        (&["same", "a"], "lanq same: wants two cases or traces", "usage: lanq same CASE|TRACE CASE|TRACE [--model]"),
+        (
+            &["holder", "teleport.lqa", "--qubit", "65536"],
+            "lanq holder: --qubit wants a number to 65535",
+            "usage: lanq holder CASE|TRACE [--qubit Q] [--lines K] [options]",
+        ),
+        (
+            &["timeline", "a", "--entries", "9-3"],
+            "lanq timeline: --entries wants two numbers, as 0-200, not 9-3",
+            "usage: lanq timeline CASE > FILE.svg [options]",
+        ),
+        (
+            &["batch", "a", "--jobs", "0"],
+            "lanq batch: --jobs wants a number from 1 on, not 0",
+            "usage: lanq batch DIR [--jobs N] [options]",
+        ),
+        (
+            &["batch", "a", "--part", "3/2"],
+            "lanq batch: --part wants K/M with K from 1 to M, not 3/2",
+            "usage: lanq batch DIR [--jobs N] [options]",
+        ),
+    ] {
+        let notes = lanq(words).failed(2);
+        assert!(notes.starts_with(&format!("{told}\n{usage}\n")), "{words:?}: {notes}");
+    }
+}
+
+/// What cannot be read has status 1, and nothing is written to standard output.
+#[test]
+fn files_that_cannot_be_used() {
+    let folder = folder("unusable");
+    let wrong = example("bb84").text + "    0 300\n";
+    let lines = wrong.lines().count();
+    write(&folder, "wrong.lqa", wrong);
+    write(&folder, "later.lanq", "void main() {}");
+    write(&folder, "wrong.txt", "0 1\n1 two");
+    write(&folder, "wrong.trace", "0 0 1");
+    let right = example("teleport").path;
+    let right = right.to_str().expect("a path in UTF-8");
+    for command in ["run", "check", "explain", "timeline", "holder", "asm", "list"] {
+        let notes = lanq_in(&folder, &[command, "wrong.lqa"]).failed(1);
+        assert_eq!(notes, format!("wrong.lqa:{lines}:7: expected a number from 0 to 255, found `300`\n"));
+        let notes = lanq_in(&folder, &[command, "none.lqa"]).failed(1);
+        assert!(notes.starts_with("none.lqa: cannot be read: "), "{notes}");
+        let notes = lanq_in(&folder, &[command, "later.lanq"]).failed(1);
+        assert_eq!(notes, "later.lanq: LanQ text is not read yet; the assembler's text ends in .lqa\n");
+    }
+    let notes = lanq_in(&folder, &["run", right, "--schedule-file", "wrong.txt"]).failed(1);
+    assert!(notes.starts_with("wrong.txt:2:3: expected a process from 0 to 255"), "{notes}");
+    let notes = lanq_in(&folder, &["run", right, "--outcomes-file", "none.txt"]).failed(1);
+    assert!(notes.starts_with("none.txt: cannot be read: "), "{notes}");
+    let notes = lanq_in(&folder, &["holder", "wrong.trace"]).failed(1);
+    assert_eq!(notes, "wrong.trace:1:1: expected six columns, found 3\n");
+}
+
+/// A case in a directory, with each part in its file.
+#[test]
+fn a_case_in_a_directory() {
+    let folder = folder("directory");
+    let case = folder.join("case");
+    fs::create_dir(&case).expect("a folder");
+    assert_eq!(lanq_in(&folder, &["run", "case"]).failed(1), "case: has no program.lqa, program.lanq or program.bin\n");
+    let example = example("two-names");
+    let (program, _) = example.text.split_once("\nschedule\n").expect("a schedule");
+    write(&case, "program.lqa", program);
+    let unscheduled = lanq_in(&folder, &["run", "case"]);
+    assert_eq!((unscheduled.status, unscheduled.out.as_str()), (Some(0), "end 0 0 0 0\n"));
+    let note = "case/program.lqa: there is no schedule, so no entry is run; --schedule until-stuck makes one\n";
+    assert_eq!(unscheduled.notes, note);
+    write(&case, "schedule.txt", "0*12 1 0*2 0 0 # and the station\n1*6");
+    write(&case, "outcomes.txt", "1\n");
+    assert_eq!(lanq_in(&folder, &["run", "case"]).quiet(), example.expected);
+    // Options go before the files.
+    let cut = lanq_in(&folder, &["run", "case", "--schedule", "0,0"]).quiet();
+    assert_eq!(cut, "0 0 1 0 - -\nend 0 2 1 0\n");
+    let other = lanq_in(&folder, &["run", "case", "--outcomes", "0"]).quiet();
+    assert!(other.contains("\n20 1 4 0 0 -\n"), "{other}");
+    write(&case, "program.bin", bytes(&example.text));
+    assert_eq!(lanq_in(&folder, &["run", "case"]).failed(1), "case: has two programs, program.lqa and program.bin\n");
+}
+
+/// A program by an option, alone and in place of a case's.
+#[test]
+fn a_program_by_an_option() {
+    let folder = folder("program");
+    let teleport = example("teleport");
+    write(&folder, "teleport.lqa", &teleport.text);
+    let other = write(&folder, "other.lqa", main_of("  RET\nschedule 0*3"));
+    assert_eq!(lanq_in(&folder, &["run", "--program", "teleport.lqa"]).quiet(), teleport.expected);
+    // What stands with the program goes before what stands with the case.
+    let other = other.to_str().expect("a path in UTF-8");
+    assert_eq!(lanq_in(&folder, &["run", "teleport.lqa", "--program", other]).quiet(), "0 0 9 - - -\nend 1 1 1 0\n");
+}
+
+#[test]
+fn schedules_that_are_made() {
+    let called = lanq(&["run", "teleport.lqa", "--schedule", "until-stuck"]);
+    assert_eq!(called.status, Some(0));
+    let made = called.notes.strip_prefix("teleport.lqa: made --schedule '").and_then(|rest| rest.strip_suffix("'\n"));
+    let made = made.expect("the schedule is noted");
+    assert_eq!(lanq(&["run", "teleport.lqa", "--schedule", made]).quiet(), called.out);
+    assert!(called.out.lines().last().is_some_and(|last| last.starts_with("end 1 ")), "{}", called.out);
+    let folder = folder("endless");
+    write(&folder, "endless.lqa", main_of("again: JUMP again"));
+    let notes = lanq_in(&folder, &["run", "endless.lqa", "--schedule", "until-stuck"]).failed(1);
+    let why = "until-stuck: no end within 65535 entries; --schedule round-robin:N runs N of them";
+    assert_eq!(notes, format!("endless.lqa: {why}\n"));
+}
+
+#[test]
+fn room_for_the_trace() {
+    let cut = lanq(&["run", "given-whole.lqa", "--room", "3"]).quiet();
+    assert!(cut.ends_with("\n3 0 2 0 - -\nend 3 10 2 0\n"), "{cut}");
+}
+
+/// The printing program's line on standard output, the words on standard error.
+#[test]
+fn refusals() {
+    let folder = folder("refused");
+    write(&folder, "typed.lqa", main_of("  slots qbit q\n  INT 7\n  PUT q\n  DROP\n  RET"));
+    let words = "typed.lqa:4:3: refused 5 1: PUT q wants qbit, the top is int\n    \
+                 at main 1 (table 1, line 4): PUT q\n    question 5: With types alone: ";
+    for command in [&["run", "typed.lqa"][..], &["run", "typed.lqa", "--csv"], &["run", "typed.lqa", "--model"]] {
+        let called = lanq_in(&folder, command);
+        assert_eq!((called.status, called.out.as_str()), (Some(1), "refused 5 1\n"));
+        assert!(called.notes.starts_with(words), "{}", called.notes);
+    }
+    for command in ["check", "explain", "timeline", "holder"] {
+        assert!(lanq_in(&folder, &[command, "typed.lqa"]).failed(1).starts_with(words));
+    }
+    let json = lanq_in(&folder, &["run", "typed.lqa", "--json"]);
+    assert_eq!(json.status, Some(1));
+    let object = Json::read(&json.out).expect("JSON");
+    let refused = object.get("refused").expect("it is refused");
+    assert_eq!(refused.to_string(), "{\"number\":5,\"place\":1,\"rule\":\"PUT q wants qbit, the top is int\",\"method\":0,\"method_name\":\"main\",\"instruction\":1,\"line\":4}");
+    // Of a table without a text, the line of its listing.
+    write(&folder, "typed.bin", bytes(&main_of("  slots qbit q\n  INT 7\n  PUT q\n  DROP\n  RET")));
+    let notes = lanq_in(&folder, &["check", "typed.bin"]).failed(1);
+    assert!(notes.starts_with("typed.bin: refused 5 1: PUT s0 wants qbit, the top is int\n    at main 1 (table 1, line 4 of the listing): PUT s0\n"), "{notes}");
+    let listed = lanq_in(&folder, &["list", "typed.bin"]).quiet();
+    assert_eq!(listed.lines().nth(3), Some("    PUT s0"));
+}
+
+#[test]
+fn refusals_at_other_places() {
+    let folder = folder("refused-elsewhere");
+    let check = |name: &str, content: &[u8], words: &[&str]| {
+        write(&folder, name, content);
+        let notes = lanq_in(&folder, &[&["check", name], words].concat()).failed(1);
+        notes.lines().take(2).map(str::trim).collect::<Vec<&str>>().join(" | ")
+    };
+    let row = main_of("  RET\nmethod raw(9) odd()\n  RET");
+    assert_eq!(
+        check("row.lqa", row.as_bytes(), &[]),
+        "row.lqa:3:15: refused 3 1: the return type is 9, which is no type | at method odd (line 3)"
+    );
+    let op = main_of("  RET\nmethod void odd()\n  NEWQ\n  raw 10 9\n  RET");
+    assert_eq!(
+        check("op.lqa", op.as_bytes(), &[]),
+        "op.lqa:5:3: refused 4 2: raw 10 9: the argument must be a gate, 1 to 8 | at odd 1 (table 2, line 5): raw 10 9"
+    );
+    let right = main_of("  RET\noutcomes 0 1 7");
+    assert_eq!(
+        check("outcomes.lqa", right.as_bytes(), &[]),
+        "outcomes.lqa: refused 6 2: the outcome is 7, not 0 to 2 | at outcome 2, counted from 0"
+    );
+    assert_eq!(
+        check("schedule.lqa", right.as_bytes(), &["--outcomes=", "--schedule=0*65535,0"]),
+        "schedule.lqa: refused 7 0: the schedule has 65536 entries, at most 65535 are run | question 7: Has the schedule at most 65,535 entries?"
+    );
+    let mut file = bytes(&main_of("  RET"));
+    file[30] = 0;
+    assert_eq!(check("pairs.bin", &file, &[]), "pairs.bin: refused 2 0: the method has no instruction | at method 0");
+    file[26] = 2;
+    assert_eq!(
+        check("sizes.bin", &file, &[]),
+        "sizes.bin: refused 1 0: the table has 24 words, for its M and N it must have 26 | question 1: Are M and N in range, and has the table 2 + 20M + 2N words?"
+    );
+    let mut file = bytes(&main_of("  RET"));
+    file[34] = 200;
+    assert_eq!(
+        check("parameters.bin", &file, &[]),
+        "parameters.bin: refused 3 0: it has 200 parameters, not 0 to 8 | at main"
+    );
+    let called = {
+        write(&folder, "short.bin", [1, 2, 3]);
+        lanq_in(&folder, &["run", "short.bin"])
+    };
+    assert_eq!((called.status, called.out.as_str()), (Some(1), "refused 9 0\n"));
+    assert!(
+        called.notes.starts_with("short.bin: refused 9 0: its length is 3, the header alone has 24 bytes\n"),
+        "{}",
+        called.notes
+    );
+    let json = lanq_in(&folder, &["run", "short.bin", "--json"]);
+    assert!(json.out.contains("\"refused\":{\"number\":9,\"place\":0,"), "{}", json.out);
+}
+
+#[test]
+fn checks() {
+    for example in examples() {
+        let file = format!("{}.lqa", example.name);
+        let said = lanq(&["check", &file]).quiet();
+        assert!(said.starts_with(&format!("{file}: accepted; methods ")), "{said}");
+        assert_eq!(lanq(&["check", &file, "--model"]).quiet(), said);
+    }
+    let said = lanq(&["check", "given-whole.lqa"]).quiet();
+    assert_eq!(said, "given-whole.lqa: accepted; methods 2, instructions 22, entries 18, outcomes 0\n");
+}
+
+/// To the input file and back to text.
+#[test]
+fn asm_and_list() {
+    let folder = folder("asm");
+    for example in examples() {
+        let path = example.path.to_str().expect("a path in UTF-8");
+        let assembled = std::process::Command::new(env!("CARGO_BIN_EXE_lanq")).args(["asm", path]).output();
+        let assembled = assembled.expect("lanq starts");
+        assert!(assembled.status.success() && assembled.stderr.is_empty());
+        assert_eq!(assembled.stdout, bytes(&example.text));
+        write(&folder, "case.bin", &assembled.stdout);
+        let listed = lanq_in(&folder, &["list", "case.bin"]).quiet();
+        assert_eq!(bytes(&listed), assembled.stdout);
+        assert_eq!(lanq_in(&folder, &["run", "case.bin"]).quiet(), example.expected);
+    }
+    write(&folder, "long.lqa", main_of("  RET\nschedule 0*65465"));
+    let notes = lanq_in(&folder, &["asm", "long.lqa"]).failed(1);
+    assert_eq!(notes, "long.lqa: has 65537 bytes as an input file, at most 65536 are read\n");
+}
+
+#[test]
+fn holders() {
+    let held = lanq(&["holder", "teleport.lqa"]).quiet();
+    let expected = "qubit 0 is held by process 1\nqubit 1 is held by process 1\nqubit 2 is held by process 2\n";
+    assert_eq!(held, expected);
+    assert_eq!(lanq(&["holder", "teleport.lqa", "--model"]).quiet(), expected);
+    assert_eq!(lanq(&["holder", "teleport.lqa", "--qubit", "2"]).quiet(), "2\n");
+    assert_eq!(lanq(&["holder", "teleport.lqa", "--qubit", "2", "--lines", "16"]).quiet(), "0\n");
+    assert_eq!(lanq(&["holder", "teleport.lqa", "--qubit", "2", "--lines", "5"]).quiet(), "nobody\n");
+    assert_eq!(
+        lanq(&["holder", "teleport.lqa", "--lines", "0"]).quiet().lines().next(),
+        Some("qubit 0 is held by nobody")
+    );
+    // The same from a trace that was kept, in both forms.
+    let folder = folder("holder");
+    write(&folder, "kept.trace", example("teleport").expected);
+    write(&folder, "kept.csv", lanq(&["run", "teleport.lqa", "--csv"]).quiet());
+    for file in ["kept.trace", "kept.csv"] {
+        assert_eq!(lanq_in(&folder, &["holder", file]).quiet(), expected);
+    }
+}
+
+#[test]
+fn same_lines() {
+    let folder = folder("same");
+    let teleport = example("teleport");
+    write(&folder, "teleport.lqa", &teleport.text);
+    write(&folder, "kept.trace", &teleport.expected);
+    // Every entry's number one higher.
+    let later = teleport.expected.lines().map(|line| match line.split_once(' ') {
+        Some((entry, rest)) if !line.starts_with("end") => {
+            format!("{} {rest}\n", entry.parse::<u16>().expect("a number") + 1)
+        }
+        _ => String::new(),
+    });
+    write(&folder, "later.trace", later.collect::<String>());
+    for other in ["kept.trace", "later.trace", "teleport.lqa"] {
+        assert_eq!(lanq_in(&folder, &["same", "teleport.lqa", other]).quiet(), "same: 38 lines\n");
+        assert_eq!(lanq_in(&folder, &["same", "teleport.lqa", other, "--model"]).quiet(), "same: 38 lines\n");
+    }
+    write(&folder, "short.trace", "0 0 2 0 - -\n");
+    let called = lanq_in(&folder, &["same", "kept.trace", "short.trace"]);
+    assert_eq!((called.status, called.out.as_str()), (Some(1), "different: 38 and 1 lines\n"));
+    write(&folder, "other.trace", teleport.expected.replace("56 1 4 0 1 -", "56 1 4 0 0 -"));
+    let called = lanq_in(&folder, &["same", "kept.trace", "other.trace"]);
+    assert_eq!(called.status, Some(1));
+    assert!(called.out.ends_with(" is 56 1 4 0 1 - and 56 1 4 0 0 -\n"), "{}", called.out);
+}
+
+#[test]
+fn results_for_programs() {
+    expect("given-whole.json", &lanq(&["run", "given-whole.lqa", "--json"]).quiet());
+    expect("two-names.csv", &lanq(&["run", "two-names.lqa", "--csv"]).quiet());
+    for example in examples() {
+        let text = lanq(&["run", &format!("{}.lqa", example.name), "--json"]).quiet();
+        assert_eq!(text.lines().count(), 1);
+        let object = Json::read(text.trim_end()).expect("JSON");
+        assert_eq!(format!("{object}\n"), text);
+        let number = |key| object.get(key).and_then(Json::as_number).expect("a number");
+        let answer = format!(
+            "end {} {} {} {}",
+            number("end"),
+            number("entries_used"),
+            number("lines_written"),
+            number("outcomes_used")
+        );
+        assert_eq!(example.expected.lines().last(), Some(answer.as_str()));
+        assert_eq!(object.get("trace").map(|trace| trace.as_list().len() as i64), Some(number("lines_written")));
+    }
+}

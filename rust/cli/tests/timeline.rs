@@ -1,0 +1,112 @@
+//! Runs as drawings.
+
+mod common;
+
+use std::collections::BTreeSet;
+
+use common::{examples, folder, lanq, lanq_in, write};
+
+/// The texts of a drawing.
+fn texts(svg: &str) -> Vec<String> {
+    let texts = svg.split("<text ").skip(1).filter_map(|rest| rest.split_once('>')?.1.split_once("</text>"));
+    texts.map(|(text, _)| text.to_string()).collect()
+}
+
+/// Every element is closed, in its order.
+fn is_well_built(svg: &str) -> bool {
+    let mut open = Vec::new();
+    for tag in svg.split('<').skip(1).filter_map(|rest| rest.split_once('>')).map(|(tag, _)| tag) {
+        let name = |tag: &str| tag.split([' ', '/']).next().unwrap_or_default().to_string();
+        match tag.strip_prefix('/') {
+            Some(closed) if open.pop() != Some(name(closed)) => return false,
+            None if !tag.ends_with('/') => open.push(name(tag)),
+            _ => (),
+        }
+    }
+    open.is_empty()
+}
+
+/// The entries with lines.
+fn columns(printed: &str) -> BTreeSet<&str> {
+    printed.lines().filter(|line| !line.starts_with("end")).filter_map(|line| line.split(' ').next()).collect()
+}
+
+#[test]
+fn examples_are_drawn() {
+    for example in examples() {
+        let svg = lanq(&["timeline", &format!("{}.lqa", example.name)]).quiet();
+        assert!(is_well_built(&svg), "{}", example.name);
+        let texts = texts(&svg);
+        let title = format!("{}.lqa: end 1, every process made has finished or stopped", example.name);
+        assert_eq!(texts[0], title);
+        for column in columns(&example.expected) {
+            assert!(texts.iter().filter(|text| *text == column).count() >= 2, "{}: {column}", example.name);
+        }
+        let measured = example.expected.lines().filter(|line| line.split(' ').nth(2) == Some("4")).count();
+        assert_eq!(texts.iter().filter(|text| text.starts_with("M ")).count(), measured, "{}", example.name);
+    }
+}
+
+#[test]
+fn marks_of_the_given_run() {
+    let svg = lanq(&["timeline", "given-whole.lqa"]).quiet();
+    let texts = texts(&svg);
+    let count = |wanted: &str| texts.iter().filter(|text| *text == wanted).count();
+    for (text, times) in [
+        ("process 0", 2),
+        ("process 0 stopped by fault 20", 1),
+        ("process 1 finished", 1),
+        ("qubit 0", 2),
+        ("end 0.1", 2),
+        ("H", 1),
+        ("S", 1),
+        ("R", 1),
+        ("q0", 1),
+        ("child", 1),
+    ] {
+        assert_eq!(count(text), times, "{text}");
+    }
+    // Held by 0 and by 1, each in its colour.
+    assert!(svg.contains("#0072b2") && svg.contains("#e69f00"));
+    assert!(svg.contains("<title>17 0 10 20 - -\nprocess 0 stops by fault 20: "));
+}
+
+/// Eight processes and 32 qubits: a row for each, no two rows in one place.
+#[test]
+fn the_largest_run_has_a_row_for_each() {
+    let mut main = "method void main()\n".to_string();
+    main += &"    FORK worker\n".repeat(7);
+    main += &"    NEWC int\n    DROP\n".repeat(16);
+    main += "    CALL worker\n    RET\nmethod void worker()\n";
+    main += &"    NEWQ\n    GATE H\n".repeat(4);
+    main += "    RET\n";
+    let folder = folder("timeline");
+    write(&folder, "large.lqa", main);
+    let called = lanq_in(&folder, &["timeline", "large.lqa", "--schedule", "until-stuck"]);
+    assert_eq!(called.status, Some(0));
+    assert!(is_well_built(&called.out));
+    let rows = called.out.split("text-anchor=\"end\"").count() - 1;
+    assert_eq!(rows, 8 + 32 + 32);
+    let places = called.out.lines().filter(|line| line.contains("text-anchor=\"end\""));
+    let places: BTreeSet<&str> = places.filter_map(|line| line.split('"').nth(3)).collect();
+    assert_eq!(places.len(), rows);
+}
+
+/// Only some entries; what was held before them is held at their start.
+#[test]
+fn a_part_of_a_run() {
+    let svg = lanq(&["timeline", "teleport.lqa", "--entries", "40-50"]).quiet();
+    let texts = texts(&svg);
+    for (text, there) in [("42", true), ("45", true), ("46", true), ("39", false), ("51", false), ("qubit 0", true)] {
+        assert_eq!(texts.iter().any(|one| one == text), there, "{text}");
+    }
+}
+
+/// Names are written so that they cannot break the drawing.
+#[test]
+fn names_are_escaped() {
+    let folder = folder("timeline-names");
+    write(&folder, "a & <b>.lqa", "method void main()\n  RET\nschedule 0\n");
+    let svg = lanq_in(&folder, &["timeline", "a & <b>.lqa"]).quiet();
+    assert!(is_well_built(&svg) && svg.contains("a &amp; &lt;b&gt;.lqa"));
+}
