@@ -8,6 +8,7 @@
 
 use std::collections::BTreeMap;
 use std::ops::Range;
+use std::time::Instant;
 
 use compare::inputs::{input, shortest};
 use compare::left::{by_library, by_model, difference, Buffers};
@@ -67,13 +68,23 @@ fn all_met(met: &Met) {
 fn agree(numbers: Range<u64>) {
     let count = numbers.end - numbers.start;
     let mut met = Met::default();
+    let (first, begun) = (numbers.start, Instant::now());
     for number in numbers {
         compare(number, &input(number), &mut met);
+        progress(number - first + 1, count, begun);
     }
     all_met(&met);
     println!("{count} inputs, {} entries, {} lines", met.entries, met.lines);
     for (mark, count) in met.coverage.counts() {
         println!("{count:10} {mark:?}");
+    }
+}
+
+/// Says how far many inputs have come, a hundred times in all.
+fn progress(done: u64, count: u64, begun: Instant) {
+    if count > 100_000 && done.is_multiple_of(count / 100) {
+        let left = begun.elapsed().as_secs_f64() * (count - done) as f64 / done as f64;
+        eprintln!("{done} of {count} inputs, {left:.0} s left");
     }
 }
 
