@@ -4,7 +4,7 @@
 
 use data::{Configuration, Line, Run};
 
-use crate::input::case::Case;
+use crate::input::case::{Case, Given};
 use crate::machine::Runner;
 use crate::progress::Progress;
 
@@ -21,10 +21,11 @@ pub struct Step<'s> {
 }
 
 /// Visits the entries that a run has used, in their order.
-pub fn each_step(case: &Case, run: &Run, mut runner: Runner, mut visit: impl FnMut(&Step)) {
+pub fn each_step(given: &Given, case: &Case, run: &Run, mut visit: impl FnMut(&Step)) {
+    let mut runner = given.runner(case);
     let mut before = configuration(case, &mut runner, 0);
     let mut lines = run.lines.as_slice();
-    let mut progress = Progress::new("entries", run.entries);
+    let mut progress = if given.silent { Progress::silent() } else { Progress::new("entries", run.entries) };
     for entry in 0..run.entries {
         let after = configuration(case, &mut runner, entry + 1);
         let written = lines.iter().take_while(|line| usize::from(line.entry) == entry).count();

@@ -12,10 +12,6 @@ pub enum Machine {
     Model,
 }
 
-/// An entry writes at most nine lines: FORK's own and one for each of eight
-/// arguments.
-const LINES_OF_AN_ENTRY: usize = 9;
-
 impl Machine {
     /// Its name in what is written.
     pub fn name(self) -> &'static str {
@@ -65,7 +61,7 @@ impl Runner {
     /// A trace of so many lines, or one that holds whatever a run of so many
     /// entries writes.
     pub fn new(machine: Machine, room: Option<usize>, entries: usize) -> Runner {
-        let lines = room.unwrap_or(LINES_OF_AN_ENTRY * entries);
+        let lines = room.unwrap_or(lanq::most_lines(entries));
         Runner { machine, trace: vec![0; LINE_WORDS * lines], work: vec![0; WORK_WORDS] }
     }
 
@@ -76,12 +72,6 @@ impl Runner {
             return model::check_and_run(program, schedule, outcomes, trace.len(), work.len());
         }
         let answer = lanq::run_in(program, schedule, outcomes, trace, work)?;
-        Ok(Run {
-            end: answer.end,
-            entries: answer.entries,
-            outcomes: answer.outcomes,
-            lines: lanq::lines(trace)[..answer.lines].to_vec(),
-            configuration: lanq::decode(work).expect("a run leaves a configuration"),
-        })
+        Ok(lanq::left(answer, trace, work))
     }
 }

@@ -129,6 +129,7 @@ impl Arguments {
             outcomes: outcomes.map_err(|error| from_text("--outcomes", error))?,
             room: self.number("--room", 0)?,
             machine: self.machine(),
+            silent: false,
         };
         for (option, file) in [("--schedule", "--schedule-file"), ("--outcomes", "--outcomes-file")] {
             if self.has(option) && self.has(file) {

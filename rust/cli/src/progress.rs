@@ -24,6 +24,11 @@ impl Progress {
         Progress { what, all, start: Instant::now(), drawn: None, terminal: std::io::stderr().is_terminal() }
     }
 
+    /// Work that nothing is shown of, being a part of other work.
+    pub fn silent() -> Progress {
+        Progress { terminal: false, ..Progress::new("", 0) }
+    }
+
     /// So many parts are done.
     pub fn done(&mut self, done: usize) {
         let last = self.drawn.unwrap_or(self.start);

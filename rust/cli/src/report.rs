@@ -13,6 +13,8 @@ use crate::refused::{At, Refused};
 
 /// Rises where a key changes its meaning.
 pub const FORMAT: u16 = 1;
+/// The command's version.
+pub const VERSION: &str = env!("CARGO_PKG_VERSION");
 
 /// What a case brought about.
 pub type Result<'r> = std::result::Result<&'r Run, &'r Refused>;
@@ -38,6 +40,7 @@ pub fn case_json(
     let mut keys = vec![
         ("case", Json::text(name)),
         ("format", Json::number(FORMAT)),
+        ("version", Json::text(VERSION)),
         ("inputs", Json::text(digest(case, room))),
         ("machine", Json::text(machine.name())),
         ("schedule", Json::text(items(&case.schedule).join(" "))),
@@ -61,6 +64,7 @@ pub fn file_json(name: &str, machine: Machine, refused: &Refused) -> Json {
     Json::object([
         ("case", Json::text(name)),
         ("format", Json::number(FORMAT)),
+        ("version", Json::text(VERSION)),
         ("machine", Json::text(machine.name())),
         ("refused", refused_json(refused)),
     ])
@@ -127,16 +131,14 @@ fn whole_keys(case: &Case, run: &Run) -> Vec<(&'static str, Json)> {
 
 /// The six columns, unused ones null, and what the line tells.
 fn line_json(line: &Line) -> Json {
-    let columns = [line.a, line.b, line.c].into_iter().zip(line.used());
-    let mut columns = columns.map(|(number, used)| Json::or_null(used.then_some(number), Json::number));
-    let mut next = || columns.next().unwrap_or(Json::Null);
+    let [a, b, c] = line.columns().map(|column| Json::or_null(column, Json::number));
     Json::object([
         ("entry", Json::number(line.entry)),
         ("process", Json::number(line.process)),
         ("kind", Json::number(line.kind)),
-        ("a", next()),
-        ("b", next()),
-        ("c", next()),
+        ("a", a),
+        ("b", b),
+        ("c", c),
         ("event", Json::or_null(line.event(), |event| Json::text(event.name()))),
     ])
 }
@@ -198,10 +200,7 @@ pub fn digest(case: &Case, room: Option<usize>) -> String {
 pub fn csv(lines: &[Line]) -> String {
     let mut text = "entry,process,kind,a,b,c,event\n".to_string();
     for line in lines {
-        let used = line.used();
-        let columns = [line.a, line.b, line.c].into_iter().zip(used);
-        let columns = columns.map(|(number, used)| if used { number.to_string() } else { String::new() });
-        let columns: Vec<String> = columns.collect();
+        let columns = line.columns().map(|column| column.map(|number| number.to_string()).unwrap_or_default());
         let event = line.event().map(|event| event.name()).unwrap_or_default();
         text += &format!("{},{},{},{},{event}\n", line.entry, line.process, line.kind, columns.join(","));
     }

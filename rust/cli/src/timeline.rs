@@ -64,6 +64,8 @@ struct Drawing<'r> {
     columns: Vec<u16>,
     /// Where each row's middle is.
     rows: BTreeMap<Row, f64>,
+    /// The entries at which processes finished or stopped.
+    over: BTreeMap<u16, u16>,
     svg: Svg,
 }
 
@@ -75,7 +77,8 @@ impl<'r> Drawing<'r> {
         let (rows, bottom) = rows(run);
         let width = LEFT + COLUMN * columns.len() as f64 + 200.0;
         let svg = Svg::new(width.max(560.0), bottom + 40.0);
-        Drawing { code, run, columns, rows, svg }
+        let over = run.lines.iter().filter(|line| is_over(line)).map(|line| (line.process, line.entry));
+        Drawing { code, run, columns, rows, over: over.collect(), svg }
     }
 
     /// The middle of a column.
@@ -183,8 +186,7 @@ impl<'r> Drawing<'r> {
 
     /// Where a process finishes or stops, or the right end.
     fn over(&self, process: u16) -> f64 {
-        let over = self.run.lines.iter().find(|line| line.process == process && is_over(line));
-        over.map_or(self.right(), |line| self.start_x(line.entry))
+        self.over.get(&process).map_or(self.right(), |entry| self.start_x(*entry))
     }
 
     /// The processes, each from its start to its end.

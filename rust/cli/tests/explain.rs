@@ -48,6 +48,7 @@ const PRINTED: Given = Given {
     outcomes: None,
     room: Some(4_096),
     machine: cli::machine::Machine::Proved,
+    silent: true,
 };
 
 /// The explanation of a case that runs.

@@ -11,7 +11,6 @@ use cli::history::each_step;
 use cli::input::case::{Case, Given};
 use cli::input::made::make;
 use cli::input::numbers::Schedule;
-use cli::machine::Machine as Asked;
 use cli::standing::{standing, Standing};
 use data::{Configuration, End, Line, Value};
 use generate::case;
@@ -67,7 +66,7 @@ fn steps_and_standings_are_the_models() {
         let run = given.run(&case).expect("it runs");
         let program = model::check(&case.program, &[], &[], data::WORK_WORDS).expect("it runs");
         let mut machine = Machine::new(&program, &case.outcomes, 6 * 100_000);
-        each_step(&case, &run, given.runner(&case), |step| {
+        each_step(&given, &case, &run, |step| {
             assert_eq!(*step.before, machine.config, "{}", case.name);
             for number in 0..9 {
                 let ours = as_models(standing(code(&case), step.before, number));
@@ -101,7 +100,7 @@ fn what_is_emptied() {
     for case in (0..150).filter_map(running) {
         let run = given.run(&case).expect("it runs");
         let mut emptied = Emptied::default();
-        each_step(&case, &run, given.runner(&case), |step| {
+        each_step(&given, &case, &run, |step| {
             let old = emptied.clone();
             emptied.read(step);
             for process in 0..8 {
@@ -150,10 +149,10 @@ fn until_stuck() {
     let mut ends = BTreeSet::new();
     let mut idle_free = 0;
     for mut case in (0..120).filter_map(running) {
-        let Ok(made) = make(&Schedule::UntilStuck, &case, Asked::Proved) else {
+        let Ok(made) = make(&Schedule::UntilStuck, &case, &Given::default()) else {
             continue;
         };
-        let turns = make(&Schedule::RoundRobin(65_535), &case, Asked::Proved).expect("a schedule");
+        let turns = make(&Schedule::RoundRobin(65_535), &case, &Given::default()).expect("a schedule");
         case.schedule = turns.entries;
         let in_turn = given.run(&case).expect("it runs");
         case.schedule = made.entries;
@@ -161,7 +160,7 @@ fn until_stuck() {
         assert_eq!((run.end, run.entries), (in_turn.end, case.schedule.len()), "{}", case.name);
         assert_eq!(without_entries(&run.lines), without_entries(&in_turn.lines), "{}", case.name);
         assert_eq!(run.configuration, in_turn.configuration, "{}", case.name);
-        each_step(&case, &run, given.runner(&case), |step| {
+        each_step(&given, &case, &run, |step| {
             assert_eq!(standing(code(&case), step.before, usize::from(step.process)), Standing::Moves);
         });
         ends.insert(run.end);
@@ -177,7 +176,7 @@ fn made_schedules_can_be_given() {
     for case in (0..60).filter_map(running) {
         for asked in [Schedule::RoundRobin(1), Schedule::RoundRobin(7), Schedule::RoundRobin(100), Schedule::UntilStuck]
         {
-            let Ok(made) = make(&asked, &case, Asked::Proved) else { continue };
+            let Ok(made) = make(&asked, &case, &Given::default()) else { continue };
             let read = cli::input::numbers::schedule(&made.written);
             assert_eq!(read, Ok(Schedule::Entries(made.entries)), "{}", made.written);
         }

@@ -9,13 +9,13 @@
 //!
 //! - [`refusal`]: the questions, and a refusal
 //! - [`run`]: ends, the answer of a run, and a run with all it leaves
-//! - [`line`]: trace lines and what they tell
+//! - [`mod@line`]: trace lines and what they tell
 //! - [`look_up`]: what the look-up of a holder answers
 //! - [`configuration`]: values, frames, processes
 //! - [`fault`]: what stops a process
 //! - [`types`]: types, sides and gates
 //! - [`program`]: methods as plain numbers, and the table they make
-//! - [`file`]: the input file of the printing program
+//! - [`mod@file`]: the input file of the printing program
 
 #![forbid(unsafe_code)]
 

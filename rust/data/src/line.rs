@@ -44,30 +44,26 @@ impl Line {
         (event.line(self.entry, self.process) == self).then_some(event)
     }
 
-    /// Which of a, b and c the line's kind uses; of a gate's line c is used
-    /// where the gate takes two qubits.
-    pub fn used(self) -> [bool; 3] {
-        match self.kind {
-            1 | 2 | 10 => [true, false, false],
-            3 => [true, true, Gate::read(self.a).is_some_and(Gate::takes_two)],
-            4 | 8 => [true, true, false],
-            5..=7 => [true, true, true],
-            _ => [false, false, false],
-        }
+    /// Columns a, b and c, where the line's kind uses them; of a gate's line c
+    /// is used where the gate takes two qubits.
+    pub fn columns(self) -> [Option<u16>; 3] {
+        let used = match self.kind {
+            1 | 2 | 10 => 1,
+            3 if Gate::read(self.a).is_some_and(Gate::takes_two) => 3,
+            3 | 4 | 8 => 2,
+            5..=7 => 3,
+            _ => 0,
+        };
+        let columns = [self.a, self.b, self.c];
+        [0, 1, 2].map(|column| (column < used).then_some(columns[column]))
     }
 }
 
 /// The six columns as the printing program prints them, unused ones as "-".
 impl fmt::Display for Line {
     fn fmt(&self, f: &mut fmt::Formatter) -> fmt::Result {
-        let mut text = format!("{} {} {}", self.entry, self.process, self.kind);
-        for (number, used) in [self.a, self.b, self.c].into_iter().zip(self.used()) {
-            match used {
-                true => text += &format!(" {number}"),
-                false => text += " -",
-            }
-        }
-        f.pad(&text)
+        let [a, b, c] = self.columns().map(|column| column.map_or("-".to_string(), |number| number.to_string()));
+        f.pad(&format!("{} {} {} {a} {b} {c}", self.entry, self.process, self.kind))
     }
 }
 

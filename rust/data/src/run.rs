@@ -3,7 +3,7 @@
 use std::fmt;
 
 use crate::configuration::Configuration;
-use crate::line::Line;
+use crate::line::{Event, Line};
 use crate::numbered;
 
 /// How a run ends, by 01's number.
@@ -83,6 +83,11 @@ impl Run {
     /// What the run answers.
     pub fn answer(&self) -> Answer {
         Answer { end: self.end, entries: self.entries, lines: self.lines.len(), outcomes: self.outcomes }
+    }
+
+    /// The lines with what they tell.
+    pub fn events(&self) -> impl Iterator<Item = (Line, Event)> + '_ {
+        self.lines.iter().filter_map(|line| Some((*line, line.event()?)))
     }
 
     /// The lines as the words that stand first in the trace.

@@ -2,7 +2,7 @@
 //! a seed.
 //!
 //! - [`case`] gives a program, a schedule, outcomes and the lent lengths
-//! - [`file`] gives the bytes of a file for the printing program
+//! - [`fn@file`] gives the bytes of a file for the printing program
 //! - [`trace`] gives words to look holders up in, [`pair`] two traces to compare
 //! - [`Coverage`] counts what the cases have brought about
 

@@ -17,12 +17,12 @@
 //! // Four entries of process 0, and one outcome.
 //! let run = lanq::run(&program, &[0, 0, 0, 0], &[1])?;
 //! assert_eq!(run.end, End::AllOver);
-//! for line in &run.lines {
-//!     println!("entry {}, process {}: {:?}", line.entry, line.process, line.event());
+//! for (line, event) in run.events() {
+//!     println!("entry {}, process {}: {event:?}", line.entry, line.process);
 //! }
 //! assert_eq!(run.lines[1].event(), Some(Event::Measured { qubit: 0, outcome: 1 }));
 //! assert_eq!(run.configuration.qubits, 1);
-//! assert_eq!(lanq::holder(&run.lines, 3, 0).holder, Some(0));
+//! assert_eq!(lanq::holder(&run, 1, 0).holder, Some(0));
 //! # Ok::<(), lanq::Refusal>(())
 //! ```
 //!
@@ -53,5 +53,5 @@ pub use data::{
 pub use layout::decode;
 pub use program::Program;
 pub use reason::{reason, reason_in, Reason, Rule, Wanted};
-pub use run::{check, check_in, run, run_in};
+pub use run::{check, check_in, left, most_lines, run, run_in};
 pub use trace::{holder, lines, same_lines, Trace};

@@ -1,15 +1,17 @@
 //! The check and the run.
 
-use data::{Answer, End, Line, Question, Refusal, Run, LINE_WORDS, WORK_WORDS};
+use data::{Answer, End, Question, Refusal, Run, LINE_WORDS, WORK_WORDS};
 
 use crate::layout::decode;
 use crate::program::Program;
 use crate::raw;
 use crate::trace::lines;
 
-/// An entry writes at most nine lines: FORK's own and one for each of eight
-/// arguments.
-const LINES_OF_AN_ENTRY: usize = 9;
+/// The most lines that a run of so many entries writes. An entry writes at most
+/// nine: FORK's own and one for each of eight arguments.
+pub fn most_lines(entries: usize) -> usize {
+    9 * entries
+}
 
 /// Puts the questions about a program, a schedule and an outcome list. An
 /// outcome is 0 or 1, or 2 where the detector has missed.
@@ -54,17 +56,10 @@ pub fn check(program: &Program, schedule: &[u8], outcomes: &[u8]) -> Result<(), 
 pub fn run(program: &Program, schedule: &[u8], outcomes: &[u8]) -> Result<Run, Refusal> {
     // A longer schedule is refused.
     let entries = schedule.len().min(65_535);
-    let mut trace = vec![0; LINE_WORDS * LINES_OF_AN_ENTRY * entries];
+    let mut trace = vec![0; LINE_WORDS * most_lines(entries)];
     let mut work = vec![0; WORK_WORDS];
     let answer = run_in(program.words(), schedule, outcomes, &mut trace, &mut work)?;
-    let written: &[Line] = &lines(&trace)[..answer.lines];
-    Ok(Run {
-        end: answer.end,
-        entries: answer.entries,
-        outcomes: answer.outcomes,
-        lines: written.to_vec(),
-        configuration: decode(&work).expect("a run leaves a configuration"),
-    })
+    Ok(left(answer, &trace, &work))
 }
 
 /// Puts the questions about a work store of `work_len` words too.
@@ -90,8 +85,8 @@ pub fn check_in(program: &[u16], schedule: &[u8], outcomes: &[u8], work_len: usi
 ///
 /// After a run the first [`Answer::lines`] lines of the trace are written,
 /// which [`lines`] reads, and the first [`WORK_WORDS`] words of the work store
-/// are the final configuration, which [`decode`] reads; all other words are as
-/// they were. After a refusal every word is.
+/// are the final configuration, which [`decode`] reads; [`left`] reads both. All
+/// other words are as they were. After a refusal every word is.
 ///
 /// ```
 /// use lanq::op::{DROP, MEAS, NEWQ, RET};
@@ -146,6 +141,22 @@ pub fn run_in(
         lines: count(answer.lines),
         outcomes: count(answer.outcomes),
     })
+}
+
+/// All that a run has left in the buffers that it was lent, with what it
+/// answered.
+///
+/// # Panics
+/// Where these are not the buffers of the run that gave the answer.
+pub fn left(answer: Answer, trace: &[u16], work: &[u32]) -> Run {
+    let written = lines(trace).get(..answer.lines);
+    Run {
+        end: answer.end,
+        entries: answer.entries,
+        outcomes: answer.outcomes,
+        lines: written.expect("a run's lines are in its trace").to_vec(),
+        configuration: decode(work).expect("a run leaves a configuration"),
+    }
 }
 
 /// Nothing where the library has accepted the input.

@@ -1,6 +1,6 @@
 //! Traces: lines as words, words as lines, and what is asked of them.
 
-use data::{Line, LookUp, LINE_WORDS, UNUSED};
+use data::{Line, LookUp, Run, LINE_WORDS, UNUSED};
 
 use crate::raw;
 use crate::run::count;
@@ -43,6 +43,12 @@ where
 {
     fn words(&self) -> &[u16] {
         self.as_slice().words()
+    }
+}
+
+impl Trace for Run {
+    fn words(&self) -> &[u16] {
+        self.lines.words()
     }
 }
 

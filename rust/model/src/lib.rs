@@ -6,14 +6,14 @@
 //! marks are taken from them.
 //!
 //! - [`table`]: the program table, its types and ops
-//! - [`check`]: the eight questions put to a program and its inputs
+//! - [`mod@check`]: the eight questions put to a program and its inputs
 //! - [`typing`]: question 5, the reading "with types alone"
 //! - [`state`]: how things start, and what giving empties
 //! - [`step`]: what one instruction does
 //! - [`machine`]: entries, waiting, ends and whole runs
 //! - [`owner`]: reach, holders and the ownership statement
 //! - [`lookup`]: holder look-up and same-lines answer on any words
-//! - [`print`]: the printing program
+//! - [`mod@print`]: the printing program
 //!
 //! Values, frames, processes, lines and refusals are the crate `data`'s.
 

@@ -17,7 +17,7 @@ use crate::error::Failure;
 use crate::input::case::{is_case, Given};
 use crate::json::Json;
 use crate::progress::Progress;
-use crate::report::{case_json, digest, file_json, Detail, FORMAT};
+use crate::report::{case_json, digest, file_json, Detail, FORMAT, VERSION};
 
 pub use crate::batch::summary::Summary;
 
@@ -147,7 +147,7 @@ impl Batch {
 
     /// A case's result, and whether it was there already.
     fn result(&self, name: &str, old: &[Json]) -> (Json, bool) {
-        let given = Given { path: Some(self.directory.join(name)), ..self.given.clone() };
+        let given = Given { path: Some(self.directory.join(name)), silent: true, ..self.given.clone() };
         let case = match given.case() {
             Ok(case) => case,
             Err(Failure::Refused(refused)) => return (file_json(name, given.machine, &refused), false),
@@ -164,14 +164,14 @@ impl Batch {
         }
     }
 
-    /// Whether an old result is of these inputs, by this machine, and tells
-    /// enough.
+    /// Whether an old result is of these inputs, by this machine and version, and
+    /// tells enough.
     fn is_of(&self, json: &Json, digest: &str) -> bool {
         let text = |key| json.get(key).and_then(Json::as_text);
         let format = json.get("format").and_then(Json::as_number);
         let whole = self.detail == Detail::Short || json.get("end").is_none() || json.get("trace").is_some();
-        let asked = (text("inputs"), text("machine"), format);
-        asked == (Some(digest), Some(self.given.machine.name()), Some(i64::from(FORMAT))) && whole
+        let same = [("inputs", digest), ("machine", self.given.machine.name()), ("version", VERSION)];
+        whole && format == Some(i64::from(FORMAT)) && same.iter().all(|(key, value)| text(key) == Some(*value))
     }
 }
 

@@ -25,9 +25,7 @@ fn run(arguments: &Arguments) -> Result<Done, Failure> {
         let why = format!("has {} bytes as an input file, at most {MOST_BYTES} are read", bytes.len());
         return Err(Failure::of(&case.name, why));
     }
-    let made = Done { notes: schedule_note(&case), ..Done::default() };
-    Ok(match case.made {
-        Some(_) => Done { out: bytes, ..made },
-        None => Done::said(bytes),
-    })
+    // A text without a schedule is written without one.
+    let notes = if case.made.is_some() { schedule_note(&case) } else { String::new() };
+    Ok(Done { notes, ..Done::said(bytes) })
 }

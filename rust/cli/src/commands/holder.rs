@@ -27,10 +27,10 @@ const OPTIONS: &[Opt] = &[
 ];
 
 fn run(arguments: &Arguments) -> Result<Done, Failure> {
-    let (lines, notes) = lines(arguments, arguments.words.first().map(String::as_str))?;
     if arguments.words.len() > 1 {
         return Err(Failure::Call("wants one case or trace".to_string()));
     }
+    let (lines, notes) = lines(arguments, arguments.words.first().map(String::as_str))?;
     let k = arguments.number("--lines", 0)?.unwrap_or(lines.len());
     let machine = arguments.machine();
     let holder = |qubit| match machine.holder(&lines, k, qubit) {

@@ -24,7 +24,7 @@ pub fn entries(given: &Given, told: Told) -> (String, Emptied) {
     let mut emptied = Emptied::default();
     let mut holders = Holders::default();
     let mut block = Block::default();
-    each_step(told.case, told.run, given.runner(told.case), |step| {
+    each_step(given, told.case, told.run, |step| {
         emptied.read(step);
         if step.lines.is_empty() {
             block.read(told.code, &holders, step);

@@ -41,7 +41,7 @@ pub fn explain(given: &Given, case: &Case, code: &Code, run: &Run, all: bool) ->
         text += &lines(told);
         if run.entries <= MOST_STEPPED {
             let mut last = Emptied::default();
-            each_step(case, run, given.runner(case), |step| last.read(step));
+            each_step(given, case, run, |step| last.read(step));
             emptied = Some(last);
         }
     }

@@ -45,6 +45,8 @@ pub struct Given {
     /// The lines that the trace holds; else whatever the run writes.
     pub room: Option<usize>,
     pub machine: Machine,
+    /// Whether how far the work has come is not shown.
+    pub silent: bool,
 }
 
 impl Given {
@@ -82,7 +84,7 @@ impl Given {
             None => (),
             Some(Schedule::Entries(entries)) => case.schedule = entries,
             Some(asked) => {
-                let made = make(&asked, &case, self.machine).map_err(|why| Failure::of(&case.name, why))?;
+                let made = make(&asked, &case, self).map_err(|why| Failure::of(&case.name, why))?;
                 case.schedule = made.entries;
                 case.made = Some(made.written);
             }

@@ -5,7 +5,7 @@ use data::{End, Run};
 
 use crate::asm::list::items;
 use crate::history::{each_step, Step};
-use crate::input::case::Case;
+use crate::input::case::{Case, Given};
 use crate::input::numbers::{Schedule, MOST_ENTRIES};
 use crate::machine::{Machine, Runner};
 use crate::standing::{standing, Standing};
@@ -19,11 +19,13 @@ pub struct Made {
 
 /// Makes a schedule for a case; the error says why there is none. A case that
 /// is refused gets an empty one: its run tells the refusal.
-pub fn make(asked: &Schedule, case: &Case, machine: Machine) -> Result<Made, String> {
+pub fn make(asked: &Schedule, case: &Case, given: &Given) -> Result<Made, String> {
     match asked {
         Schedule::Entries(entries) => Ok(Made { entries: entries.clone(), written: items(entries).join(",") }),
-        Schedule::RoundRobin(entries) => Ok(in_turn(case, machine, *entries).map(|turns| turns.0).unwrap_or_default()),
-        Schedule::UntilStuck => until_stuck(case, machine),
+        Schedule::RoundRobin(entries) => {
+            Ok(in_turn(case, given.machine, *entries).map(|turns| turns.0).unwrap_or_default())
+        }
+        Schedule::UntilStuck => until_stuck(case, given),
     }
 }
 
@@ -57,8 +59,8 @@ fn turns(processes: u8, entries: usize) -> Made {
 }
 
 /// The entries of the processes in turn that move, up to end 1 or 2.
-fn until_stuck(case: &Case, machine: Machine) -> Result<Made, String> {
-    let (Some((made, run)), Some(code)) = (in_turn(case, machine, MOST_ENTRIES), &case.code) else {
+fn until_stuck(case: &Case, given: &Given) -> Result<Made, String> {
+    let (Some((made, run)), Some(code)) = (in_turn(case, given.machine, MOST_ENTRIES), &case.code) else {
         return Ok(Made::default());
     };
     if !matches!(run.end, End::AllOver | End::Stuck) {
@@ -67,7 +69,9 @@ fn until_stuck(case: &Case, machine: Machine) -> Result<Made, String> {
     }
     let whole = Case { schedule: made.entries[..run.entries].to_vec(), ..case.clone() };
     let mut moving = Vec::new();
-    each_step(&whole, &run, Runner::new(machine, None, whole.schedule.len()), |step: &Step| {
+    // The trace of this run has room for all its lines.
+    let given = Given { room: None, ..given.clone() };
+    each_step(&given, &whole, &run, |step: &Step| {
         if standing(code, step.before, usize::from(step.process)) == Standing::Moves {
             moving.push(step.process);
         }

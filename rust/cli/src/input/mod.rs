@@ -4,7 +4,7 @@
 //! - [`source`]: a program from a file, by the file's ending
 //! - [`numbers`]: schedules and outcomes as they are written
 //! - [`made`]: schedules that are made and not given
-//! - [`file`]: the input file of the printing program
+//! - [`mod@file`]: the input file of the printing program
 //! - [`trace`]: traces as they are printed
 
 pub mod case;
