@@ -2,7 +2,7 @@
 
 #![forbid(unsafe_code)]
 
-use std::io::Write;
+use std::io::{ErrorKind, Write};
 use std::process::ExitCode;
 
 use cli::commands::call;
@@ -16,6 +16,8 @@ fn main() -> ExitCode {
     eprint!("{}", done.notes);
     match written {
         Ok(()) => ExitCode::from(done.status),
+        // Whoever reads has seen enough.
+        Err(error) if error.kind() == ErrorKind::BrokenPipe => ExitCode::from(done.status),
         Err(error) => {
             eprintln!("lanq: standard output: {error}");
             ExitCode::from(1)
