@@ -1,7 +1,7 @@
 //! Which machine runs a case: the proved library or, where it was asked for by
 //! name, the model.
 
-use data::{Line, Refusal, Run, LINE_WORDS, WORK_WORDS};
+use data::{Line, LookUp, Refusal, Run, LINE_WORDS, WORK_WORDS};
 use lanq::Trace;
 
 /// The machine that is asked.
@@ -30,17 +30,15 @@ impl Machine {
     }
 
     /// Who holds a qubit by the first `k` lines.
-    pub fn holder(self, lines: &[Line], k: usize, qubit: u16) -> Option<u16> {
+    pub fn holder(self, lines: &[Line], k: usize, qubit: u16) -> LookUp {
         match self {
-            Machine::Proved => lanq::holder(lines, k, qubit).holder,
-            Machine::Model => {
-                let holder = model::lookup::qubit_holder(lines.words(), k, qubit);
-                (holder != data::UNUSED).then_some(holder)
-            }
+            Machine::Proved => lanq::holder(lines, k, qubit),
+            Machine::Model => model::lookup::look_up(lines.words(), k, qubit),
         }
     }
 
-    /// Whether two traces have the same lines.
+    /// Whether two traces have the same lines, with the same gaps between their
+    /// entries.
     pub fn same(self, one: &[Line], other: &[Line]) -> bool {
         match self {
             Machine::Proved => lanq::same_lines(one, other),

@@ -292,16 +292,31 @@ fn asm_and_list() {
 #[test]
 fn holders() {
     let held = lanq(&["holder", "teleport.lqa"]).quiet();
-    let expected = "qubit 0 is held by process 1\nqubit 1 is held by process 1\nqubit 2 is held by process 2\n";
+    let expected = "\
+qubit 0 is held by process 1, as line 9 says: 24 1 1 0 - -
+qubit 1 is held by process 1, as line 17 says: 42 0 6 1 3 1
+qubit 2 is held by process 2, as line 19 says: 45 0 6 2 3 2
+";
     assert_eq!(held, expected);
     assert_eq!(lanq(&["holder", "teleport.lqa", "--model"]).quiet(), expected);
     assert_eq!(lanq(&["holder", "teleport.lqa", "--qubit", "2"]).quiet(), "2\n");
     assert_eq!(lanq(&["holder", "teleport.lqa", "--qubit", "2", "--lines", "16"]).quiet(), "0\n");
     assert_eq!(lanq(&["holder", "teleport.lqa", "--qubit", "2", "--lines", "5"]).quiet(), "nobody\n");
-    assert_eq!(
-        lanq(&["holder", "teleport.lqa", "--lines", "0"]).quiet().lines().next(),
-        Some("qubit 0 is held by nobody")
-    );
+    // The line that decides is one of the first lines, however far back it is.
+    let at_16 = "\
+qubit 0 is held by process 1, as line 9 says: 24 1 1 0 - -
+qubit 1 is held by process 0, as line 12 says: 31 0 1 1 - -
+qubit 2 is held by process 0, as line 14 says: 34 0 1 2 - -
+";
+    let at_10 = "\
+qubit 0 is held by process 1, as line 9 says: 24 1 1 0 - -
+qubit 1 is held by nobody, lines read: 10
+qubit 2 is held by nobody, lines read: 10
+";
+    for (lines, told) in [("16", at_16), ("10", at_10), ("1000", expected)] {
+        assert_eq!(lanq(&["holder", "teleport.lqa", "--lines", lines]).quiet(), told);
+        assert_eq!(lanq(&["holder", "teleport.lqa", "--lines", lines, "--model"]).quiet(), told);
+    }
     // The same from a trace that was kept, in both forms.
     let folder = folder("holder");
     write(&folder, "kept.trace", example("teleport").expected);
@@ -336,6 +351,33 @@ fn same_lines() {
     let called = lanq_in(&folder, &["same", "kept.trace", "other.trace"]);
     assert_eq!(called.status, Some(1));
     assert!(called.out.ends_with(" is 56 1 4 0 1 - and 56 1 4 0 0 -\n"), "{}", called.out);
+}
+
+/// Lines that differ in their entries alone are told apart by the first gap,
+/// where there are as many of them.
+#[test]
+fn same_lines_at_other_times() {
+    let folder = folder("same-times");
+    let whole = example("given-whole");
+    write(&folder, "given.lqa", &whole.text);
+    // Two idle entries before the last one.
+    write(&folder, "idles.lqa", whole.text.replace("0*11 1 0 0 0 1 1 0", "0*11 1 0 0 0 1 1 7 7 0"));
+    write(&folder, "idles-first.lqa", whole.text.replace("0*11 1 0 0 0 1 1 0", "7 7 0*11 1 0 0 0 1 1 0"));
+    let told = "different: from line 7 to line 8, counted from 0, the entry changes by 1 and 3\n";
+    for machine in [&[][..], &["--model"]] {
+        let same = |one, other| lanq_in(&folder, &[&["same", one, other], machine].concat());
+        let called = same("given.lqa", "idles.lqa");
+        assert_eq!((called.status, called.out.as_str()), (Some(1), told));
+        assert_eq!(same("given.lqa", "idles-first.lqa").quiet(), "same: 9 lines\n");
+    }
+    // Backwards, which no run does; and in lines that one trace alone has.
+    write(&folder, "back.trace", "5 0 9 - - -\n2 1 9 - - -\n");
+    write(&folder, "forth.trace", "5 0 9 - - -\n8 1 9 - - -\n");
+    let called = lanq_in(&folder, &["same", "back.trace", "forth.trace"]);
+    assert!(called.out.ends_with(" from line 0 to line 1, counted from 0, the entry changes by -3 and 3\n"));
+    write(&folder, "more.trace", "5 0 9 - - -\n9 1 9 - - -\n9 2 9 - - -\n");
+    let called = lanq_in(&folder, &["same", "forth.trace", "more.trace"]);
+    assert_eq!((called.status, called.out.as_str()), (Some(1), "different: 2 and 3 lines\n"));
 }
 
 #[test]

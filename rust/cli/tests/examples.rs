@@ -91,11 +91,19 @@ method void main()
     RET
 ";
 
-/// What a call prints, its notes behind it.
+/// What a call prints, its notes behind it; behind `>` is a file for what it
+/// prints.
 fn called(folder: &std::path::Path, call: &str) -> String {
+    let (call, file) = call.split_once(" > ").map_or((call, None), |(call, file)| (call, Some(file)));
     let words: Vec<&str> = call.split(' ').map(|word| word.trim_matches('\'')).collect();
     let called = lanq_in(folder, &words);
-    called.out + &called.notes
+    match file {
+        Some(file) => {
+            write(folder, file, called.out);
+            called.notes
+        }
+        None => called.out + &called.notes,
+    }
 }
 
 /// Whether lines are those of a document, where `...` stands for any lines, and

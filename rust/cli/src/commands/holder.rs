@@ -2,7 +2,7 @@
 
 use std::path::Path;
 
-use data::{Event, Line};
+use data::{Event, Line, LookUp};
 
 use crate::commands::{schedule_note, Command, Done};
 use crate::error::{Error, Failure};
@@ -16,7 +16,8 @@ pub const COMMAND: Command = Command {
     about: "tells who holds a qubit by the first lines of a trace",
     more: "\
 A TRACE is what lanq run printed, in a file that ends in .trace, or with --csv in one that ends in
-.csv. Of a case the trace of its run is taken. Without --qubit all qubits made are told of.",
+.csv. Of a case the trace of its run is taken. Without --qubit all qubits made are told of, each
+with the line that decides, counted from 0.",
     options: &[OPTIONS, INPUTS, RUN],
     run,
 };
@@ -33,25 +34,29 @@ fn run(arguments: &Arguments) -> Result<Done, Failure> {
     let (lines, notes) = lines(arguments, arguments.words.first().map(String::as_str))?;
     let k = arguments.number("--lines", 0)?.unwrap_or(lines.len());
     let machine = arguments.machine();
-    let holder = |qubit| match machine.holder(&lines, k, qubit) {
-        Some(process) => process.to_string(),
-        None => "nobody".to_string(),
-    };
     let out = match arguments.number("--qubit", 0)? {
         Some(qubit) => {
             let number =
                 u16::try_from(qubit).map_err(|_| Failure::Call("--qubit wants a number to 65535".to_string()))?;
-            format!("{}\n", holder(number))
+            match machine.holder(&lines, k, number).holder {
+                Some(process) => format!("{process}\n"),
+                None => "nobody\n".to_string(),
+            }
         }
-        None => made(&lines).map(|qubit| format!("qubit {qubit} is held by {}\n", process(&holder(qubit)))).collect(),
+        None => made(&lines).map(|qubit| told(&lines, k, qubit, machine.holder(&lines, k, qubit))).collect(),
     };
     Ok(Done { notes, ..Done::said(out) })
 }
 
-fn process(holder: &str) -> String {
+/// The holder, and the line that decides: of the first `k` lines so many were
+/// read, from the last one backwards.
+fn told(lines: &[Line], k: usize, qubit: u16, LookUp { holder, read }: LookUp) -> String {
     match holder {
-        "nobody" => holder.to_string(),
-        number => format!("process {number}"),
+        Some(process) => {
+            let line = k.min(lines.len()) - read;
+            format!("qubit {qubit} is held by process {process}, as line {line} says: {}\n", lines[line])
+        }
+        None => format!("qubit {qubit} is held by nobody, lines read: {read}\n"),
     }
 }
 
