@@ -106,6 +106,13 @@ enum LanqGate {
   LANQ_GATE_SWAP = 8
 };
 
+/* Outcomes: what a byte of the outcome list may be. LANQ_OP_MEAS pushes it as an int. */
+enum LanqOutcome {
+  LANQ_OUTCOME_0 = 0,
+  LANQ_OUTCOME_1 = 1,
+  LANQ_NO_CLICK = 2 /* the detector missed */
+};
+
 /* ---- The answer ---- */
 
 /* Why an input is refused, and what the place counts. The questions are put in this order. */
@@ -116,7 +123,7 @@ enum LanqRefusal {
   LANQ_REFUSED_ROWS = 3,         /* a type or a parameter count is wrong, or main has parameters; the method */
   LANQ_REFUSED_INSTRUCTIONS = 4, /* an op or its argument is wrong; the instruction, counted over the table */
   LANQ_REFUSED_TYPES = 5,        /* an operand is missing or of another type, or values are left; the instruction */
-  LANQ_REFUSED_OUTCOMES = 6,     /* an outcome is above 2; its index */
+  LANQ_REFUSED_OUTCOMES = 6,     /* an outcome is above LANQ_NO_CLICK; its index */
   LANQ_REFUSED_SCHEDULE = 7,     /* the schedule has more than 65,535 bytes; the place is 0 */
   LANQ_REFUSED_WORK_STORE = 8    /* the work store has fewer than LANQ_WORK_WORDS words; the place is 0 */
 };
@@ -153,7 +160,7 @@ enum LanqKind {
   LANQ_LINE_QUBIT_MADE = 1,   /* a qubit */
   LANQ_LINE_CHANNEL_MADE = 2, /* a channel */
   LANQ_LINE_GATE = 3,         /* a gate, b qubit; of two qubits b is the deeper one, CX's control, and c the other */
-  LANQ_LINE_MEASURED = 4,     /* a qubit, b outcome */
+  LANQ_LINE_MEASURED = 4,     /* a qubit, b outcome, LANQ_NO_CLICK among them */
   LANQ_LINE_FORK = 5,         /* a new process, b method, c number of arguments */
   LANQ_LINE_GAVE = 6,         /* a new holder, b LANQ_THING_.., c number of the qubit or channel */
   LANQ_LINE_MET = 7,          /* the process is the sender: a receiver, b channel, c the sender's side */

@@ -1,6 +1,6 @@
 //! What a line tells, in a sentence.
 
-use data::{Event, Gate, Line};
+use data::{Event, Gate, Line, NO_CLICK};
 
 use crate::code::Code;
 
@@ -18,6 +18,7 @@ fn tells(event: Event, code: &Code) -> String {
         Event::QubitMade { qubit } => format!("makes qubit {qubit}"),
         Event::ChannelMade { channel } => format!("makes channel {channel}"),
         Event::Gate { gate, qubit, second } => applies(gate, qubit, second),
+        Event::Measured { qubit, outcome: NO_CLICK } => format!("measures qubit {qubit}, outcome {NO_CLICK}: no click"),
         Event::Measured { qubit, outcome } => format!("measures qubit {qubit}, outcome {outcome}"),
         Event::Forked { child, method, arguments } => {
             let arguments = match arguments {

@@ -8,7 +8,7 @@
 use std::collections::BTreeMap;
 use std::ops::RangeInclusive;
 
-use data::{Event, Gate, Line, Run, Side, State, Thing};
+use data::{Event, Gate, Line, Run, Side, State, Thing, NO_CLICK};
 
 use crate::code::Code;
 use crate::svg::{Anchor, Svg};
@@ -223,6 +223,7 @@ impl<'r> Drawing<'r> {
             Event::QubitMade { qubit } => self.dot(x, Row::Qubit(qubit)),
             Event::ChannelMade { channel } => Side::ALL.iter().for_each(|side| self.dot(x, Row::End(channel, *side))),
             Event::Gate { gate, qubit, second } => self.gate(x, gate, qubit, second),
+            Event::Measured { qubit, outcome: NO_CLICK } => self.boxed(x, Row::Qubit(qubit), "M \u{2205}", INK),
             Event::Measured { qubit, outcome } => self.boxed(x, Row::Qubit(qubit), &format!("M {outcome}"), INK),
             Event::Forked { child, .. } => {
                 if let Some(y) = self.y(Row::Process(child)) {

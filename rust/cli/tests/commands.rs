@@ -380,6 +380,26 @@ fn same_lines_at_other_times() {
     assert_eq!((called.status, called.out.as_str()), (Some(1), "different: 2 and 3 lines\n"));
 }
 
+/// An outcome 2 is no click, by an option, in a text and in a file.
+#[test]
+fn outcomes_without_a_click() {
+    let folder = folder("no-click");
+    let two_names = example("two-names");
+    let expected = two_names.expected.replace("20 1 4 0 1 -", "20 1 4 0 2 -");
+    assert_ne!(expected, two_names.expected);
+    write(&folder, "text.lqa", two_names.text.replace("outcomes\n    1", "outcomes\n    2"));
+    write(&folder, "outcomes.txt", "2\n");
+    for machine in [&[][..], &["--model"]] {
+        assert_eq!(lanq(&[&["run", "two-names.lqa", "--outcomes", "2"], machine].concat()).quiet(), expected);
+        assert_eq!(lanq_in(&folder, &[&["run", "text.lqa"], machine].concat()).quiet(), expected);
+        let from_file = &["run", "text.lqa", "--outcomes-file", "outcomes.txt"];
+        assert_eq!(lanq_in(&folder, &[&from_file[..], machine].concat()).quiet(), expected);
+    }
+    let called = lanq(&["run", "two-names.lqa", "--outcomes", "3"]);
+    assert_eq!((called.status, called.out.as_str()), (Some(1), "refused 6 0\n"));
+    assert!(called.notes.starts_with("two-names.lqa: refused 6 0: the outcome is 3, not 0 to 2\n"), "{}", called.notes);
+}
+
 #[test]
 fn results_for_programs() {
     expect("given-whole.json", &lanq(&["run", "given-whole.lqa", "--json"]).quiet());

@@ -217,6 +217,8 @@ fn the_other_sentences() {
     let code = case_of(GATES_AND_CHANNEL).code.expect("the text has methods");
     let line = |words| sentence(&Line::from_words(words), &code);
     assert_eq!(line([0, 1, 8, 65_534, 65_535, 65_535]), "process 1 sends the value -2");
+    assert_eq!(line([0, 1, 4, 3, 0, 65_535]), "process 1 measures qubit 3, outcome 0");
+    assert_eq!(line([0, 1, 4, 3, 2, 65_535]), "process 1 measures qubit 3, outcome 2: no click");
     assert_eq!(line([0, 1, 11, 0, 0, 0]), "process 1 writes a line of kind 11");
 }
 

@@ -51,7 +51,7 @@ fn wrong_schedules() {
 
 #[test]
 fn outcome_lists() {
-    assert_eq!(outcomes("0110"), Ok(vec![0, 1, 1, 0]));
+    assert_eq!(outcomes("0120"), Ok(vec![0, 1, 2, 0]));
     assert_eq!(outcomes("01,10 1*3 # three"), Ok(vec![0, 1, 1, 0, 1, 1, 1]));
     assert_eq!(outcomes("2 9"), Ok(vec![2, 9]));
     assert_eq!(outcomes(""), Ok(vec![]));

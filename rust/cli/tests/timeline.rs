@@ -71,6 +71,16 @@ fn marks_of_the_given_run() {
     assert!(svg.contains("<title>17 0 10 20 - -\nprocess 0 stops by fault 20: "));
 }
 
+/// A measurement without a click is told from the outcomes.
+#[test]
+fn no_click() {
+    let svg = lanq(&["timeline", "teleport.lqa", "--outcomes", "120"]).quiet();
+    assert!(is_well_built(&svg));
+    let measured: Vec<String> = texts(&svg).into_iter().filter(|text| text.starts_with("M ")).collect();
+    assert_eq!(measured, ["M 1", "M \u{2205}", "M 0"]);
+    assert!(svg.contains("\nprocess 1 measures qubit 1, outcome 2: no click</title>"));
+}
+
 /// Eight processes and 32 qubits: a row for each, no two rows in one place.
 #[test]
 fn the_largest_run_has_a_row_for_each() {

@@ -7,7 +7,9 @@ use std::path::{Path, PathBuf};
 use std::process::Command;
 
 use data::program::{op, MOST_INSTRUCTIONS, MOST_METHODS};
-use data::{Carried, End, Event, Fault, Gate, Question, Side, Thing, Type, LINE_WORDS, SLOTS, UNUSED, WORK_WORDS};
+use data::{
+    Carried, End, Event, Fault, Gate, Question, Side, Thing, Type, LINE_WORDS, NO_CLICK, SLOTS, UNUSED, WORK_WORDS,
+};
 
 /// What examples/given-whole.c prints: the run that document 01 gives whole,
 /// and what else it asks.
@@ -148,6 +150,9 @@ fn numbers() -> Vec<(String, usize)> {
         ("TYPE_NONE", 0),
         ("UNUSED", UNUSED.into()),
         ("NOBODY", UNUSED.into()),
+        ("OUTCOME_0", 0),
+        ("OUTCOME_1", 1),
+        ("NO_CLICK", NO_CLICK.into()),
         ("LINE_WORDS", LINE_WORDS),
         ("WORK_WORDS", WORK_WORDS),
         ("SLOTS", SLOTS),

@@ -31,7 +31,7 @@ pub mod types;
 
 pub use configuration::{Configuration, Frame, Process, State, Thing, Value, SLOTS, WORK_WORDS};
 pub use fault::Fault;
-pub use line::{Event, Line, LINE_WORDS, UNUSED};
+pub use line::{Event, Line, LINE_WORDS, NO_CLICK, UNUSED};
 pub use look_up::LookUp;
 pub use refusal::{Question, Refusal};
 pub use run::{Answer, End, Run};

@@ -11,6 +11,9 @@ use crate::types::{Gate, Side};
 pub const UNUSED: u16 = 65_535;
 /// "Six words make a line".
 pub const LINE_WORDS: usize = 6;
+/// Paper 3: "Outcome byte 2 is now allowed and means no click". It is the
+/// highest.
+pub const NO_CLICK: u8 = 2;
 
 /// A line as its six numbers, right or wrong. It lies in memory as these six
 /// words, so that lines one after the other are the words of a trace.
@@ -83,7 +86,7 @@ pub enum Event {
         qubit: u16,
         second: Option<u16>,
     },
-    /// The outcome is 0, 1 or, by Paper 3, 2 for no click.
+    /// The outcome is 0, 1 or [`NO_CLICK`].
     Measured {
         qubit: u16,
         outcome: u8,
@@ -143,7 +146,7 @@ impl Event {
                 let gate = Gate::read(a)?;
                 Event::Gate { gate, qubit: b, second: gate.takes_two().then_some(c) }
             }
-            4 => Event::Measured { qubit: a, outcome: u8::try_from(b).ok()? },
+            4 => Event::Measured { qubit: a, outcome: u8::try_from(b).ok().filter(|outcome| *outcome <= NO_CLICK)? },
             5 => Event::Forked { child: a, method: b, arguments: c },
             6 => Event::Gave { to: a, thing: Thing::read(b, c)? },
             7 => Event::Met { receiver: a, channel: b, side: Side::read(c)? },

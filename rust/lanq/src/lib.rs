@@ -48,7 +48,7 @@ mod trace;
 pub use data::program::{op, Method};
 pub use data::{
     Answer, Carried, Configuration, End, Event, Fault, Frame, Gate, Line, LookUp, Process, Question, Refusal, Run,
-    Side, State, Thing, Type, Value, LINE_WORDS, SLOTS, UNUSED, WORK_WORDS,
+    Side, State, Thing, Type, Value, LINE_WORDS, NO_CLICK, SLOTS, UNUSED, WORK_WORDS,
 };
 pub use layout::decode;
 pub use program::Program;

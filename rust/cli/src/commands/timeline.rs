@@ -14,8 +14,8 @@ pub const COMMAND: Command = Command {
     more: "\
 There is one column for each entry that wrote lines, with its number. The row of a qubit or an end
 has the colour and the number of the process that holds it. Boxes are gates and measurements (M with
-its outcome), arrows between processes are forks and meetings, S and R mark the ends that were used,
-a cross is a fault.",
+its outcome, \u{2205} for no click), arrows between processes are forks and meetings, S and R mark the
+ends that were used, a cross is a fault.",
     options: &[OPTIONS, INPUTS, RUN],
     run,
 };

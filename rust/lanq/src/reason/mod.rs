@@ -10,14 +10,12 @@ pub use rule::{Rule, Wanted};
 pub(crate) use table::methods;
 
 use data::program::op;
-use data::{Question, Refusal, WORK_WORDS};
+use data::{Question, Refusal, NO_CLICK, WORK_WORDS};
 
 use crate::program::Program;
 
 /// The longest schedule.
 const MOST_ENTRIES: usize = 65_535;
-/// The highest outcome.
-const HIGHEST_OUTCOME: u8 = 2;
 
 /// A refusal with the rule that is broken at its place.
 #[derive(Clone, Debug, PartialEq, Eq)]
@@ -83,8 +81,8 @@ pub fn reason_in(program: &[u16], schedule: &[u8], outcomes: &[u8], work_len: us
 }
 
 fn outcomes_reason(outcomes: &[u8]) -> Option<Reason> {
-    let place = outcomes.iter().position(|byte| *byte > HIGHEST_OUTCOME)?;
-    let rule = Rule::Outcome { byte: outcomes[place], highest: HIGHEST_OUTCOME };
+    let place = outcomes.iter().position(|byte| *byte > NO_CLICK)?;
+    let rule = Rule::Outcome { byte: outcomes[place], highest: NO_CLICK };
     Some(Reason::new(Question::Outcomes, place, rule))
 }
 
