@@ -2,7 +2,7 @@
  * `make install` has put it in place.
  *
  * The machine runs a program table on a schedule, which names the process that moves next, with a list of measurement
- * outcomes. It writes a trace and leaves the final configuration in a work store.
+ * outcomes. It writes a trace and leaves the final configuration in a work store. docs/MACHINE.md says what it does.
  *
  * A slice is a pointer and a length in elements, not in bytes: 16-bit words of the program table and of a trace, bytes of
  * the schedule and of the outcome list, 32-bit words of the work store. A pointer may be anything where its length is 0.
