@@ -5,7 +5,7 @@ mod common;
 use std::io::Write;
 use std::process::{Command, Stdio};
 
-use common::{bytes, example, examples, folder, lanq, lanq_in, repository, write};
+use common::{bytes, example, examples, lanq, repository};
 use model::print::print;
 
 #[test]
@@ -64,85 +64,4 @@ fn examples_end_as_their_headers_say() {
         assert_eq!(stopped.clone().count(), stops, "{name}");
         assert!(stopped.into_iter().all(|kind| kind == "10 20"), "{name}");
     }
-}
-
-/// The text in docs/COMMAND.md is a program that runs.
-#[test]
-fn the_text_in_the_document_runs() {
-    let document = std::fs::read_to_string(repository("docs/COMMAND.md"));
-    let document = document.expect("the document is there");
-    let lines = document.lines().skip_while(|line| *line != "## The assembler's text");
-    let lines =
-        lines.skip_while(|line| !line.starts_with("    method")).take_while(|line| !line.starts_with("Every line"));
-    let text: Vec<&str> = lines.collect();
-    let printed = print(&bytes(&text.join("\n")));
-    assert!(printed.ends_with("\nend 1 26 10 1\n"), "{printed}");
-}
-
-/// A program that question 5 refuses, as docs/COMMAND.md shows it.
-const TYPED: &str = "\
-# An int where a qubit belongs.
-
-method void main()
-    slots qbit q
-    INT 7
-    PUT q
-    DROP
-    RET
-";
-
-/// What a call prints, its notes behind it; behind `>` is a file for what it
-/// prints.
-fn called(folder: &std::path::Path, call: &str) -> String {
-    let (call, file) = call.split_once(" > ").map_or((call, None), |(call, file)| (call, Some(file)));
-    let words: Vec<&str> = call.split(' ').map(|word| word.trim_matches('\'')).collect();
-    let called = lanq_in(folder, &words);
-    match file {
-        Some(file) => {
-            write(folder, file, called.out);
-            called.notes
-        }
-        None => called.out + &called.notes,
-    }
-}
-
-/// Whether lines are those of a document, where `...` stands for any lines, and
-/// at a line's end for the rest of it.
-fn agree(lines: &[&str], document: &[&str]) -> bool {
-    match (lines, document) {
-        ([], []) => true,
-        (_, ["...", rest @ ..]) => (0..=lines.len()).any(|start| agree(&lines[start..], rest)),
-        ([line, lines @ ..], [shown, rest @ ..]) => {
-            let same = match shown.strip_suffix(" ...") {
-                Some(start) => line.starts_with(start),
-                None => line == shown,
-            };
-            same && agree(lines, rest)
-        }
-        _ => false,
-    }
-}
-
-/// Each call that docs/COMMAND.md shows prints what it shows.
-#[test]
-fn the_calls_in_the_document_print_what_it_shows() {
-    let folder = folder("document");
-    for example in examples() {
-        write(&folder, &format!("{}.lqa", example.name), &example.text);
-    }
-    write(&folder, "typed.lqa", TYPED);
-    let document = std::fs::read_to_string(repository("docs/COMMAND.md")).expect("the document is there");
-    let mut lines = document.lines().peekable();
-    let mut calls = 0;
-    while let Some(line) = lines.next() {
-        let Some(call) = line.strip_prefix("    $ lanq ") else { continue };
-        let mut shown = Vec::new();
-        while let Some(line) = lines.next_if(|line| line.starts_with("    ") && !line.starts_with("    $")) {
-            shown.push(&line[4..]);
-        }
-        let printed = called(&folder, call);
-        assert!(agree(&printed.lines().collect::<Vec<&str>>(), &shown), "{call}\n{printed}");
-        calls += 1;
-    }
-    assert!(calls >= 8, "{calls} calls");
 }
