@@ -9,7 +9,7 @@ use native.Mathlib.Numerals.{add-one}
 use borrow.Author.Tests.{eq-eqb, ne-eqb}
 use lib.Dec.{eqb}
 use native.Mathlib.Omega.{arith}
-use lib.ListN.{getD, set, length, List·getD-eq-default}
+use lib.ListN.{getD, set, length, length-set, List·getD-eq-default}
 use lib.Seq.{set-out, set-set, set-comm}
 use Rattle.run_store.specs.declared.values.Val.{Val}
 use Rattle.run_store.specs.declared.head.Head.{Head}
@@ -68,6 +68,23 @@ moved-more w top to n j h e p q =
 pub cleared-more : (w : List ℕ) (from i : ℕ) {u u′ : List ℕ} → u ≡ clearedFrom w from i → u′ ≡ set u (from + i) 0 → u′ ≡ clearedFrom w from (i + 1)
 unfolding clearedFrom
 cleared-more w from i e q = q ∙ ap (λ (l : List ℕ). set l (from + i) 0) e ∙ sym (ap (clearedFrom w from) (add-one i))
+
+-- words past the end are not there to be cleared
+cleared-length : (w : List ℕ) (from n : ℕ) → length (clearedFrom w from n) ≡ length w
+unfolding clearedFrom
+cleared-length w from zero = refl
+cleared-length w from (suc n) = length-set (clearedFrom w from n) (from + n) 0 ∙ cleared-length w from n
+
+pub cleared-beyond : (w : List ℕ) (from k n : ℕ) → length w ≤ from + k → k ≤ n → clearedFrom w from k ≡ clearedFrom w from n
+unfolding clearedFrom
+cleared-beyond w from k n h e = go (n - k) ∙ ap (clearedFrom w from) {x = k + (n - k)} {y = n} (omega (arith, e))
+  where
+    go : (j : ℕ) → clearedFrom w from k ≡ clearedFrom w from (k + j)
+    go zero = ap (clearedFrom w from) {x = k} {y = k + 0} (omega arith)
+    go (suc j) =
+        go j
+        ∙ sym (set-out (clearedFrom w from (k + j)) (from + (k + j)) 0 (omega (arith, h, cleared-length w from (k + j))))
+        ∙ ap (clearedFrom w from) {x = suc (k + j)} {y = k + suc j} (omega arith)
 
 -- values emptied
 

@@ -1,6 +1,7 @@
 // Several values at once: arguments looked through and moved, a frame's words cleared.
 ghost use mathlib.Core.Path.{_≡_};
-ghost use Prim.Native.Nat.{_+_, _-_, _*_, _<_};
+ghost use Prim.Native.Nat.{_+_, _-_, _*_, _<_, _≤_};
+ghost use lib.ListN.{length};
 ghost use Rattle.run_store.specs.StoreCode.{emptyDown, moveOne, movedDown, clearedFrom};
 use super::values::empty;
 use super::values::get;
@@ -54,14 +55,29 @@ pub fn move_down(w: &mut [u32], top: usize, to: usize, n: u16)
     }
 }
 
-// n words from `from` up made 0.
+// n words from `from` up made 0, all of them within w: no test for each word, so that the loop is compiled to one fill.
+fn clear_within(w: &mut [u32], from: usize, n: usize)
+    requires { ⌜ from + n ≤ length (now w) ⌝ }
+    ensures { λ r. ⌜ now (w .exit) ≡ clearedFrom (now (w .entry)) from n ⌝ }
+{
+    let mut i = 0;
+    while i < n {
+        w[from + i] = 0;
+        i += 1;
+    }
+}
+
+// n words from `from` up made 0, as far as w reaches.
 pub fn clear(w: &mut [u32], from: usize, n: u16)
     requires { ⌜ from < 1099511627776 ⌝ }
     ensures { λ r. ⌜ now (w .exit) ≡ clearedFrom (now (w .entry)) from n ⌝ }
 {
-    let mut i: u16 = 0;
-    while i < n {
-        put(w, from + i as usize, 0);
-        i += 1;
+    let wanted = n as usize;
+    if from + wanted <= w.len() {
+        clear_within(w, from, wanted);
+        return;
+    }
+    if from < w.len() {
+        clear_within(w, from, w.len() - from);
     }
 }

@@ -1,60 +1,52 @@
--- `clear` goes up: the words before number i are 0.
-use borrow.Author.Needs.{needs}
-use Rattle.run_store.proofs.Laws.{cleared-more}
-use Rattle.run_store.specs.StoreCode.{clearedFrom}
-use lib.ListN.{length}
-use mathlib.Core.Path.{_≡_, refl, _∙_, subst}
+-- `clear` stops where w ends: the words beyond are not there.
+use Prim.Native.Nat.{_-_}
+use mathlib.Core.Path.{_∙_}
 use native.Mathlib.Omega.{arith}
-use Prim.Native.Nat.{ℕ, _≤_, _-_}
+use lib.ListN.{length}
+use Rattle.run_store.specs.StoreCode.{clearedFrom}
+use Rattle.run_store.proofs.Laws.{cleared-beyond}
+use borrow.Author.Needs.{needs}
 use Rattle.run_store.proofs.blocks.clear.Statement.{statement}
 use Rattle.run_store.proofs.blocks.clear.Tie as tie
 
-abbrev Inv-loop : tie.InvT-loop
-Inv-loop w₀ from n i₀ w i = (i ≤ n) × (w ≡ clearedFrom w₀ from i) × (length w ≡ length w₀)
+add-if1 : tie.Need-add-if1
+add-if1 c = search needs
 
-abbrev μ-loop : tie.MeasureT-loop
-μ-loop w₀ from n i₀ w i = n - i
+clear-within-requires : tie.Need-clear-within-requires
+clear-within-requires c κs = search needs
 
-loop-holds : tie.Need-loop-holds Inv-loop μ-loop
-unfolding clearedFrom
-loop-holds c = (search needs, refl, refl)
-
-cast-put : tie.Need-cast-put Inv-loop μ-loop
-cast-put c = search needs
-
-add-put : tie.Need-add-put Inv-loop μ-loop
-add-put c = search needs
-
-put-requires : tie.Need-put-requires Inv-loop μ-loop
-put-requires c κs = search needs
-
-add-i : tie.Need-add-i Inv-loop μ-loop
-add-i c = search needs
-
-loop-less : tie.Need-loop-less Inv-loop μ-loop
-loop-less c = search needs
-
-loop-again : tie.Need-loop-again Inv-loop μ-loop
-loop-again c = (search needs, cleared-more (c .before .before .before .before .before .before .before .args .w .now) (c .before .before .before .before .before .before .before .args .from) (c .before .before .before .before .before .loop .i) (c .before .before .before .before .before .loop .inv .1) (c .before .before .put .ensures), c .before .before .put .kept .0 ∙ c .before .before .before .before .before .loop .inv .2)
-
-same-length : tie.Need-same-length Inv-loop μ-loop
+same-length : tie.Need-same-length
 same-length c = search needs
 
-returns : tie.Need-returns Inv-loop μ-loop
-returns c = let e : c .before .loop .i ≡ c .before .before .before .args .n = omega arith in subst (λ (i : ℕ). c .before .loop .w ≡ clearedFrom (c .before .before .before .args .w .now) (c .before .before .before .args .from) i) e (c .before .loop .inv .1)
+returns : tie.Need-returns
+returns c = search needs
+
+sub-clear-within : tie.Need-sub-clear-within
+sub-clear-within c = search needs
+
+clear-within-requires-2 : tie.Need-clear-within-requires-2
+clear-within-requires-2 c κs = search needs
+
+same-length-2 : tie.Need-same-length-2
+same-length-2 c = search needs
+
+returns-2 : tie.Need-returns-2
+returns-2 c = c .before .before .clear-within2 .ensures ∙ cleared-beyond (c .before .before .before .before .before .before .before .args .w .now) (c .before .before .before .before .before .before .before .args .from) (length (c .before .before .before .before .before .before .before .args .w .now) - c .before .before .before .before .before .before .before .args .from) (c .before .before .before .before .before .before .before .args .n) (omega arith) (omega arith)
+
+returns-3 : tie.Need-returns-3
+unfolding clearedFrom
+returns-3 c = cleared-beyond (c .before .before .before .args .w .now) (c .before .before .before .args .from) 0 (c .before .before .before .args .n) (omega arith) (omega arith)
 
 pub clear-spec : {M : Type 1} → statement M
 clear-spec =
     tie.close
     (tie.spec
-    Inv-loop
-    μ-loop
-    loop-holds
-    cast-put
-    add-put
-    put-requires
-    add-i
-    loop-less
-    loop-again
+    add-if1
+    clear-within-requires
     same-length
-    returns)
+    returns
+    sub-clear-within
+    clear-within-requires-2
+    same-length-2
+    returns-2
+    returns-3)
