@@ -8,10 +8,10 @@ use mathlib.Core.Path.{_≡_, refl, sym, ap, _∙_}
 use mathlib.Core.List.{List, [], _∷_, _++_}
 use lib.Dec.{T, eqb, ltb}
 use lib.ListN.{length, getD, set, length-set}
-use lib.Seq.{getD-set-same, getD-set-other}
+use lib.Seq.{getD-set-same, getD-set-other, set-getD}
 use borrow.Author.Tests.{eq-eqb, ne-eqb}
 use Rattle.lists.specs.Lists.{any, below}
-use Rattle.lists.proofs.Tests.{cond-both}
+use Rattle.lists.proofs.Tests.{cond-both, passes}
 use Rattle.table.specs.Table.{methods, instructions, offsetOf, endOf, opAt, argAt, ownerOf}
 use Rattle.table.specs.Ops.{opOf}
 use Rattle.table.specs.Reading.{opThere, jumpsTo, isTarget}
@@ -21,7 +21,7 @@ use Rattle.table.proofs.Owners.{end-within, owner-inside}
 use Rattle.check_instructions.specs.OwnersCode.{ownerAt}
 use Rattle.check_arguments.specs.MarksCode.{marks, marked}
 use Rattle.check_instructions.specs.declared.owner.Owner.{Owner}
-use Rattle.table.proofs.Ops.{jumps-inside}
+use Rattle.table.proofs.Ops.{jumps-op, jumps-inside}
 use Rattle.check_instructions.proofs.Owners.{owner-method, owner-start}
 
 -- Instruction i
@@ -44,6 +44,24 @@ module _ (p : List ℕ) (i op a : ℕ) (o : Owner) (q : op ≡ opAt p i) (r : a 
       omega (arith, start, jumps-inside op p (o .method) a t g, end-within p s k (o .method) method, s .instructions-most)
 
 -- Marks
+
+-- one mark, written without a test: at the target where the op jumps, else as it was
+
+module _ (op at i : ℕ) (ts : List ℕ) {k : ℕ} (e : k ≡ cond (eqb op 17 || eqb op 18) at i) where
+  pub mark-lands : (T (opOf op .jumps) → at < length ts) → i < length ts → k < length ts
+  mark-lands f h = rw e (go (eqb op 17 || eqb op 18) (jumps-op op))
+    where
+      go : (b : Bool) → opOf op .jumps ≡ b → cond b at i < length ts
+      go true j = f (passes j)
+      go false j = h
+
+  pub mark-so : {v : ℕ} → v ≡ cond (eqb op 17 || eqb op 18) 1 (getD ts k 0) → set ts k v ≡ marks op at ts
+  unfolding marks
+  mark-so {v} q = rw (jumps-op op) (go (eqb op 17 || eqb op 18) e q)
+    where
+      go : (b : Bool) → k ≡ cond b at i → v ≡ cond b 1 (getD ts k 0) → set ts k v ≡ cond b (set ts at 1) ts
+      go true j u = ap (λ (n : ℕ). set ts n v) j ∙ ap (set ts at) u
+      go false j u = ap (set ts k) u ∙ set-getD ts k 0
 
 pub marked-begins : (p ts : List ℕ) → ts ≡ marked p 0 ts
 unfolding marked

@@ -1,1 +1,2 @@
+pub mod LimitsCode
 pub mod MarksCode

@@ -1,49 +1,34 @@
 -- `mark` marks the target of ops 17 and 18 alone.
-use borrow.Author.Tests.{ne-eqb}
-use Rattle.check_arguments.specs.MarksCode.{marks}
-use Rattle.table.proofs.Ops.{ops-opened, jumps-op}
+use Rattle.check_arguments.proofs.Marks.{mark-lands, mark-so}
 use borrow.Author.Needs.{needs}
 use Rattle.check_arguments.proofs.mark.Statement.{statement}
 use Rattle.check_arguments.proofs.mark.Tie as tie
 
+chosen-requires : tie.Need-chosen-requires
+chosen-requires c κs = search needs
+
+slice-read-was : tie.Need-slice-read-was
+slice-read-was c = mark-lands (c .before .before .before .args .op) (c .before .before .before .args .at) (c .before .before .before .args .i) (c .before .before .before .args .targets .now) (c .before .chosen .ensures) (c .before .before .before .pre .0) (c .before .before .before .pre .1)
+
+chosen-byte-requires : tie.Need-chosen-byte-requires
+chosen-byte-requires c κs = search needs
+
 slice-write-targets : tie.Need-slice-write-targets
-unfolding ops-opened
-slice-write-targets c = c .before .pre (rw (c .if1 .taken) tt)
+slice-write-targets c = mark-lands (c .before .before .before .before .args .op) (c .before .before .before .before .args .at) (c .before .before .before .before .args .i) (c .before .before .before .before .args .targets .now) (c .before .before .chosen .ensures) (c .before .before .before .before .pre .0) (c .before .before .before .before .pre .1)
 
 same-length : tie.Need-same-length
 same-length c = search needs
 
 returns : tie.Need-returns
-unfolding marks ops-opened
-returns c = rw (c .if1 .taken)
-
-slice-write-targets-2 : tie.Need-slice-write-targets-2
-unfolding ops-opened
-slice-write-targets-2 c =
-    let pre = c .before .before .pre in
-    pre (rw (c .if2 .taken) tt)
-
-same-length-2 : tie.Need-same-length-2
-same-length-2 c = search needs
-
-returns-2 : tie.Need-returns-2
-unfolding marks ops-opened
-returns-2 c = rw (c .if2 .taken)
-
-returns-3 : tie.Need-returns-3
-unfolding marks
-returns-3 c =
-    let args = c .before .before .args in
-    rw (jumps-op (args .op), ne-eqb _ 17 (c .before .if1 .left), ne-eqb _ 18 (c .if2 .left))
+returns c = mark-so (c .before .before .before .before .args .op) (c .before .before .before .before .args .at) (c .before .before .before .before .args .i) (c .before .before .before .before .args .targets .now) (c .before .before .chosen .ensures) (c .chosen-byte .ensures)
 
 pub mark-spec : {M : Type 1} → statement M
 mark-spec =
     tie.close
     (tie.spec
+    chosen-requires
+    slice-read-was
+    chosen-byte-requires
     slice-write-targets
     same-length
-    returns
-    slice-write-targets-2
-    same-length-2
-    returns-2
-    returns-3)
+    returns)
