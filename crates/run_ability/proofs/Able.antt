@@ -34,9 +34,9 @@ use Rattle.layout.proofs.Frames.{tagOf, numberOf}
 use Rattle.run_store.specs.declared.values.Val.{Val}
 use Rattle.run_store.specs.declared.head.Head.{Head}
 use Rattle.run_store.specs.StoreCode.{valueAt, topAt}
-use Rattle.run_ops.specs.OpsCode.{emptyTwo}
-use Rattle.run_ops.specs.OpsCode as did
-use Rattle.run_ops.proofs.Places.{headIn, head-is}
+use Rattle.run_values.specs.ValuesCode.{emptyTwo}
+use Rattle.run_values.specs.ValuesCode as did
+use Rattle.run_values.proofs.Places.{headIn, head-is}
 use Rattle.run_store.proofs.Vals.{valOf}
 use Rattle.run_parts.specs.PartsCode.{partOf}
 use Rattle.run_parts.proofs.Encoded.{Laid, laid-sound, part-is, part-unmade}

@@ -4,7 +4,7 @@ use mathlib.Core.Bool.{cond}
 use mathlib.Core.List.{List}
 use lib.Dec.{eqb, leb, ltb}
 use Rattle.run_store.specs.declared.values.Val.{Val}
-use Rattle.run_ops.specs.OpsCode.{emptyVal}
+use Rattle.run_values.specs.ValuesCode.{emptyVal}
 use Rattle.run_parts.specs.PartsCode.{partOf}
 use Rattle.run_holders.specs.HoldersCode.{holderIn}
 use Rattle.run_parts.specs.declared.readiness.Readiness.{Readiness}

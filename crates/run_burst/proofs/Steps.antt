@@ -8,7 +8,8 @@ use native.Mathlib.Omega.{arith}
 use lib.ListN.{getD, length}
 use lib.Dec.{eqb}
 use borrow.Author.Tests.{eqb-true, eq-eqb, ne-eqb, le-leb, lt-leb}
-use Rattle.run_ops.specs.OpsCode.{AfterStep, afterStep, stepOp}
+use Rattle.run_values.specs.ValuesCode.{AfterStep, afterStep}
+use Rattle.run_ops.specs.OpsCode.{stepOp}
 use Rattle.run_ops.proofs.Returns.{took, passed-by}
 use Rattle.run_parts.specs.PartsCode.{partOf, onPart}
 use Rattle.run_ability.specs.declared.pairing.Pairing.{Pairing}

@@ -4,7 +4,8 @@ use mathlib.Core.Bool.{Bool, true, false, cond, _&&_, not}
 use mathlib.Core.List.{List}
 use lib.ListN.{getD}
 use lib.Dec.{eqb, leb}
-use Rattle.run_ops.specs.OpsCode.{AfterStep, afterStep, stepOp}
+use Rattle.run_values.specs.ValuesCode.{AfterStep, afterStep}
+use Rattle.run_ops.specs.OpsCode.{stepOp}
 use Rattle.run_parts.specs.PartsCode.{partOf, onPart}
 use Rattle.run_ability.specs.declared.pairing.Pairing.{Pairing}
 use Rattle.run_ability.specs.PairingCode.{unpaired}

@@ -4,7 +4,7 @@ ghost use mathlib.Core.Path.{_≡_};
 ghost use Prim.Native.Nat.{_+_, _-_, _*_, _<_, _≤_};
 ghost use lib.ListN.{length};
 ghost use Rattle.table.specs.Table.{methods};
-ghost use Rattle.run_ops.specs.OpsCode.{afterStep};
+ghost use Rattle.run_values.specs.ValuesCode.{afterStep};
 ghost use Rattle.run_burst.specs.KnowledgeCode.{alone, knownAfterStep};
 ghost use Rattle.run_burst.specs.BurstCode.{stopsAt, namedOp, isDone, namedBefore, stopsHere, burstOp};
 use super::knowledge::Knowledge;

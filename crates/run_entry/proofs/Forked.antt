@@ -26,7 +26,7 @@ use Rattle.machine.proofs.Sound.{frame-sound, callers-sound}
 use Rattle.layout.specs.Layout.{processWords, encode}
 use Rattle.run_store.specs.declared.head.Head.{Head}
 use Rattle.run_store.specs.StoreCode.{headOf, topAt, emptyDown}
-use Rattle.run_ops.proofs.Places.{head-is}
+use Rattle.run_values.proofs.Places.{head-is}
 use Rattle.run_ops.proofs.Meaning.{act-is, taken-by, argument-kept, empty-args}
 use Rattle.trace_lines.proofs.LineWritten as written
 use Rattle.run_parts.specs.PartsCode.{partOf}

@@ -30,7 +30,7 @@ use Rattle.machine.specs.Answer.{traceAfter}
 use Rattle.layout.specs.Layout.{encode}
 use Rattle.run_store.specs.declared.head.Head.{Head}
 use Rattle.run_store.specs.StoreCode.{headOf}
-use Rattle.run_ops.proofs.Places.{headIn, head-is}
+use Rattle.run_values.proofs.Places.{headIn, head-is}
 use Rattle.run_ops.proofs.Meaning.{act-one, act-two, act-short, taken-by, scene}
 use Rattle.run_parts.specs.PartsCode.{partOf}
 use Rattle.run_holders.proofs.Holding.{Holding}

@@ -33,7 +33,8 @@ use Rattle.machine.proofs.Partner.{unmade-idle}
 use Rattle.machine.proofs.Ownership as own
 use Rattle.layout.specs.Layout.{padded, statusWords, processWords, encode}
 use Rattle.run_store.specs.StoreCode.{headOf}
-use Rattle.run_ops.specs.OpsCode.{AfterStep, afterStep, actOp, stepOp}
+use Rattle.run_values.specs.ValuesCode.{AfterStep, afterStep}
+use Rattle.run_ops.specs.OpsCode.{actOp, stepOp}
 use Rattle.run_ops.proofs.Meaning.{Agrees, Height, isLeft, step-agrees, step-left}
 use Rattle.run_parts.specs.PartsCode.{partOf, withPart}
 use Rattle.run_parts.proofs.Encoded.{part-is, part-put, part-unmade}

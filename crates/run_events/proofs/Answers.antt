@@ -30,8 +30,8 @@ use Rattle.run_store.specs.declared.values.Val.{Val}
 use Rattle.run_store.specs.declared.head.Head.{Head}
 use Rattle.run_store.specs.StoreCode.{valueAt, topAt, popped}
 use Rattle.run_store.proofs.Vals.{valOf}
-use Rattle.run_ops.specs.OpsCode.{intVal, pushOn, onTop, dropTop, emptyTwo}
-use Rattle.run_ops.proofs.Places.{headIn, push-words, drop-words, drop-to-words, top-words}
+use Rattle.run_values.specs.ValuesCode.{intVal, pushOn, onTop, dropTop, emptyTwo}
+use Rattle.run_values.proofs.Places.{headIn, push-words, drop-words, drop-to-words, top-words}
 use Rattle.run_ops.proofs.Meaning.{Height, w, hd, a, scene, act, act-zero, act-one, act-two, act-short, taken-by, tag-test, read-top, read-second}
 use Rattle.run_events.specs.declared.event.EventResult.{EventResult}
 use Rattle.run_events.specs.EventsCode.{AfterEvent, afterEvent, faultEvent, lineEvent, measuredEvent, qubitAt, newqOp, newcOp, dropTwo, gateOne, gateTwo, gateOp, clipped, nextIn, measuredAs, measOp}

@@ -19,8 +19,8 @@ use Rattle.layout.specs.Layout.{processWords}
 use Rattle.layout.proofs.RoundTrip.{process-length}
 use Rattle.run_store.specs.declared.head.Head.{Head}
 use Rattle.run_store.specs.StoreCode.{valueAt, headOf, topAt}
-use Rattle.run_ops.specs.OpsCode.{emptyTwo}
-use Rattle.run_ops.proofs.Places.{head-is}
+use Rattle.run_values.specs.ValuesCode.{emptyTwo}
+use Rattle.run_values.proofs.Places.{head-is}
 use Rattle.run_ops.proofs.Meaning.{Height, w, hd, act}
 use Rattle.run_events.specs.EventsCode.{AfterEvent, afterEvent, faultEvent, lineEvent, qubitAt, newqOp, newcOp, gateOne, gateTwo, gateOp, nextIn, measuredAs, measOp}
 use Rattle.run_events.specs.ConcludeCode.{performOp, withStatus, concludeOp}

@@ -7,7 +7,7 @@ use Rattle.run_store.specs.declared.values.Val.{Val}
 use Rattle.run_store.specs.declared.head.Head.{Head}
 use Rattle.run_store.specs.StoreCode.{putValue, headAt, putTop, topAt, movedTo, stepped, popped}
 use Rattle.run_store.proofs.Laws.{top-twice}
-use Rattle.run_ops.specs.OpsCode.{emptyVal, dropTop, dropTo}
+use Rattle.run_values.specs.ValuesCode.{emptyVal, dropTop, dropTo}
 use Rattle.run_events.specs.EventsCode.{dropTwo}
 
 -- pending values stand after the heads of the frames

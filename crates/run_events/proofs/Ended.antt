@@ -10,7 +10,7 @@ use Rattle.layout.specs.Layout.{padded, statusWords, processWords}
 use Rattle.run_store.specs.declared.head.Head.{Head}
 use Rattle.run_store.specs.StoreCode.{finishedHead, stoppedHead, putStatus}
 use Rattle.run_store.proofs.Cleared.{all-cleared}
-use Rattle.run_ops.proofs.Places.{head-is}
+use Rattle.run_values.proofs.Places.{head-is}
 use Rattle.run_events.specs.EndsCode.{stoppedWords, finishedWords}
 
 pub stopped-words : {p : List ℕ} {c : Config} {f : Frame} {fs : List Frame} → Stack p c f fs → (n : ℕ)

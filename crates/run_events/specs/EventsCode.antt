@@ -9,7 +9,7 @@ use lib.Dec.{eqb, ltb}
 use Rattle.table.specs.Ops.{oneQubit}
 use Rattle.run_store.specs.declared.head.Head.{Head}
 use Rattle.run_store.specs.StoreCode.{valueAt, topAt, popped}
-use Rattle.run_ops.specs.OpsCode.{intVal, pushOn, onTop, dropTop, dropTo, emptyTwo}
+use Rattle.run_values.specs.ValuesCode.{intVal, pushOn, onTop, dropTop, dropTo, emptyTwo}
 use Rattle.run_events.specs.declared.event.EventResult.{EventResult}
 
 -- the answer, and the words left

@@ -6,15 +6,15 @@ ghost use Rattle.run_events.specs.EventsCode.{afterEvent, dropTwo, gateO
 use super::event::EventResult;
 use super::event::fault;
 use super::event::line;
-use run_ops::moves::discard;
-use run_ops::numbers::number;
-use run_ops::numbers::two_empty;
 use run_store::head::Head;
 use run_store::head::put_top;
 use run_store::references::QubitNo;
 use run_store::values::empty;
 use run_store::values::put_value;
 use run_store::values::value;
+use run_values::moves::discard;
+use run_values::numbers::number;
+use run_values::numbers::two_empty;
 
 // The number of the value n below the next free one, as a line has it.
 pub fn qubit_no(w: &[u32], h: Head, n: u16) -> QubitNo

@@ -4,9 +4,9 @@ ghost use Rattle.run_events.specs.EventsCode.{afterEvent, newqOp, newcOp
 use super::event::EventResult;
 use super::event::fault;
 use super::event::line;
-use run_ops::moves::push;
 use run_store::head::Head;
 use run_store::values::Val;
+use run_values::moves::push;
 
 // "push a new qubit"; "22 qubit beyond 32".
 pub fn op_newq(w: &mut [u32], h: Head, made: u32) -> EventResult

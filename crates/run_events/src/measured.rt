@@ -8,11 +8,11 @@ use super::event::measured;
 use super::gates::qubit_no;
 use super::outcome::Outcome;
 use super::outcome::next_outcome;
-use run_ops::moves::replace;
 use run_store::head::Head;
 use run_store::references::QubitNo;
 use run_store::values::Val;
 use run_store::values::value;
+use run_values::moves::replace;
 
 // "qubit off, next outcome on as int"
 fn measure(w: &mut [u32], h: Head, outcome: u8) -> EventResult

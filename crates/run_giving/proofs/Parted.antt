@@ -23,8 +23,8 @@ use Rattle.run_store.specs.declared.head.Head.{Head}
 use Rattle.run_store.specs.StoreCode.{valueAt, putValue, headAt, headOf, putTop, slotAt, movedTo, stepped, startedHead, putStatus, emptiedBy}
 use Rattle.run_store.proofs.Vals.{valOf}
 use Rattle.run_store.proofs.Given.{Sized, given-words}
-use Rattle.run_ops.specs.OpsCode.{onTop, dropTo}
-use Rattle.run_ops.proofs.Places.{headIn, head-is, place-small, slot-read, slot-put, drop-to-words, top-words, move-words}
+use Rattle.run_values.specs.ValuesCode.{onTop, dropTo}
+use Rattle.run_values.proofs.Places.{headIn, head-is, place-small, slot-read, slot-put, drop-to-words, top-words, move-words}
 use Rattle.run_events.specs.EventsCode.{dropTwo}
 use Rattle.run_events.proofs.Answers.{dropped-two}
 use Rattle.run_giving.specs.GivingCode.{thingGiven, givenWords, sentWords, receivedWords, startedWords, beganWords, poppedOnce, poppedBy, stayed, argumentsPopped}

@@ -9,7 +9,7 @@ use Rattle.table.specs.Table.{offsetOf}
 use Rattle.run_store.specs.declared.values.Val.{Val}
 use Rattle.run_store.specs.declared.head.Head.{Head}
 use Rattle.run_store.specs.StoreCode.{headOf, putTop, stepped, startedHead, putStatus, emptiedBy}
-use Rattle.run_ops.specs.OpsCode.{onTop, dropTo}
+use Rattle.run_values.specs.ValuesCode.{onTop, dropTo}
 use Rattle.run_events.specs.EventsCode.{dropTwo}
 
 unfoldable pub thingGiven : List ℕ → Val → List ℕ

@@ -4,8 +4,6 @@ ghost use mathlib.Core.Path.{_≡_};
 ghost use Prim.Native.Nat.{_+_, _*_};
 ghost use Rattle.run_giving.specs.GivingCode.{thingGiven, givenWords, sentWords, receivedWords, beganWords, poppedOnce, poppedBy, argumentsPopped};
 use run_events::gates::discard_two;
-use run_ops::jumps::discard_to;
-use run_ops::moves::replace;
 use run_store::giving::give_away;
 use run_store::giving::give_qubit;
 use run_store::head::Head;
@@ -14,6 +12,8 @@ use run_store::head::put_top;
 use run_store::head::read_head;
 use run_store::values::Val;
 use run_store::values::put;
+use run_values::jumps::discard_to;
+use run_values::moves::replace;
 use table::words::word_at;
 
 // "Every slot and every pending value of the giver, in all frames, that holds the thing is emptied."

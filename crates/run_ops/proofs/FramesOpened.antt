@@ -19,9 +19,10 @@ use Rattle.run_store.specs.declared.values.Val.{Val}
 use Rattle.run_store.specs.declared.head.Head.{Head}
 use Rattle.run_store.specs.StoreCode.{valueAt, putValue, headAt, putTop, topAt, stepped, pushed, lessBy, moveOne, movedDown, clearedFrom}
 use Rattle.run_store.proofs.Cleared.{blank, blank-all, values-cleared, heads-cleared}
-use Rattle.run_ops.specs.OpsCode.{emptyVal, frameAt, begun, opened, closed, handed}
+use Rattle.run_values.specs.ValuesCode.{emptyVal}
+use Rattle.run_ops.specs.OpsCode.{frameAt, begun, opened, closed, handed}
 use Rattle.run_store.proofs.Vals.{valOf}
-use Rattle.run_ops.proofs.Places.{headIn, head-is, place-small, push-back}
+use Rattle.run_values.proofs.Places.{headIn, head-is, place-small, push-back}
 
 -- RET
 

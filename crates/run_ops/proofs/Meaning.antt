@@ -29,11 +29,12 @@ use Rattle.layout.proofs.Frames.{tagOf, numberOf}
 use Rattle.run_store.specs.declared.values.Val.{Val}
 use Rattle.run_store.specs.declared.head.Head.{Head}
 use Rattle.run_store.specs.StoreCode.{valueAt, slotAt, topAt, emptyDown}
-use Rattle.run_ops.specs.OpsCode.{AfterStep, afterStep, emptyVal, intVal, boolVal, unlessEmpty, pushOn, onTop, dropTop, dropTo, overTwo, inSlot, signExtended, getOp, putOp, dropOp, endOp, targetOf, jumpOp, jfalseOp, biased, resultOp, emptyTwo, twoOp, addOp, subOp, bit, eqOp, lessOp, notOp, opened, callOp, closed, handed, retOp, intOp, boolOp, clearOp, opFunctions, actOp, stepOp}
-use Rattle.run_ops.proofs.Ints.{Shifted, sum-shifted, difference-shifted, less-same, words-same}
+use Rattle.run_values.specs.ValuesCode.{AfterStep, afterStep, emptyVal, intVal, boolVal, unlessEmpty, pushOn, onTop, dropTop, dropTo, overTwo, inSlot, signExtended, getOp, putOp, dropOp, endOp, targetOf, jumpOp, jfalseOp, biased, resultOp, emptyTwo, twoOp, addOp, subOp, bit, eqOp, lessOp, notOp, intOp, boolOp, clearOp}
+use Rattle.run_ops.specs.OpsCode.{opened, callOp, closed, handed, retOp, opFunctions, actOp, stepOp}
+use Rattle.run_values.proofs.Ints.{Shifted, sum-shifted, difference-shifted, less-same, words-same}
 use Rattle.run_ops.proofs.FramesOpened.{opened-words, closed-words, handed-words}
 use Rattle.run_store.proofs.Vals.{valOf}
-use Rattle.run_ops.proofs.Places.{headIn, head-is, slot-read, top-read, push-words, slot-words, drop-words, drop-to-words, move-words, top-words, two-words}
+use Rattle.run_values.proofs.Places.{headIn, head-is, slot-read, top-read, push-words, slot-words, drop-words, drop-to-words, move-words, top-words, two-words}
 
 -- What an act within one process that writes no line leaves, as code and words; the root frame's return is left to the
 -- caller, as 113. No other act agrees with anything.

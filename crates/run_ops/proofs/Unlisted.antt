@@ -3,7 +3,8 @@ use Prim.Native.Nat.{ℕ, zero, suc}
 use mathlib.Core.Path.{_≡_, refl}
 use mathlib.Core.List.{List}
 use Rattle.run_store.specs.declared.head.Head.{Head}
-use Rattle.run_ops.specs.OpsCode.{afterStep, noOp, opFunctions, actOp}
+use Rattle.run_values.specs.ValuesCode.{afterStep}
+use Rattle.run_ops.specs.OpsCode.{noOp, opFunctions, actOp}
 
 -- op is none of 1 to 23, as a match that has passed them all says it
 abbrev Others : ℕ → Type 0

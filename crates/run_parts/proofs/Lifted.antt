@@ -4,7 +4,7 @@ use mathlib.Core.Path.{_≡_, _∙_, ap}
 use mathlib.Core.List.{List}
 use native.Mathlib.Omega.{arith}
 use borrow.Rule.Slice.PartMut.{midOf, putMid}
-use Rattle.run_ops.specs.OpsCode.{AfterStep, afterStep}
+use Rattle.run_values.specs.ValuesCode.{AfterStep, afterStep}
 use Rattle.run_parts.specs.PartsCode.{partOf, withPart, onPart}
 
 size : (a : ℕ) → a + 512 - a ≡ 512

@@ -11,7 +11,7 @@ use Rattle.table.specs.Table.{word, methods, opAt}
 use Rattle.run_store.specs.declared.head.Head.{Head}
 use Rattle.run_store.specs.StoreCode.{headAt, headOf, topAt}
 use Rattle.run_ops.proofs.Returns.{took, passed-by}
-use Rattle.run_ops.specs.OpsCode.{emptyTwo}
+use Rattle.run_values.specs.ValuesCode.{emptyTwo}
 use Rattle.run_parts.specs.declared.readiness.Readiness.{Readiness}
 use Rattle.run_parts.specs.ReadinessCode.{noOffer, sendOf, receiveOf, readinessOp, offerOf, offersNothing, eitherWay, meetsOp}
 

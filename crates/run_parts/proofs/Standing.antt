@@ -24,9 +24,9 @@ use Rattle.run_store.specs.declared.values.Val.{Val}
 use Rattle.run_store.specs.declared.head.Head.{Head}
 use Rattle.run_store.specs.StoreCode.{headOf}
 use Rattle.run_store.proofs.Vals.{valOf}
-use Rattle.run_ops.specs.OpsCode.{emptyTwo}
-use Rattle.run_ops.specs.OpsCode as did
-use Rattle.run_ops.proofs.Places.{head-is}
+use Rattle.run_values.specs.ValuesCode.{emptyTwo}
+use Rattle.run_values.specs.ValuesCode as did
+use Rattle.run_values.proofs.Places.{head-is}
 use Rattle.run_ops.proofs.Meaning.{w, hd, scene, act, act-one, act-two, act-short, taken-by, tag-test, read-top, read-second}
 use Rattle.run_parts.specs.declared.readiness.Readiness.{Readiness}
 use Rattle.run_parts.specs.ReadinessCode.{noOffer, sendOf, receiveOf, readinessOp, eitherWay, meetsOp}

@@ -2,7 +2,7 @@
 use Prim.Native.Nat.{ℕ, _+_, _*_}
 use mathlib.Core.List.{List, _++_}
 use lib.ListN.{take, drop}
-use Rattle.run_ops.specs.OpsCode.{AfterStep, afterStep}
+use Rattle.run_values.specs.ValuesCode.{AfterStep, afterStep}
 
 -- where part n begins; it has 512 words
 abbrev pub partAt : ℕ → ℕ

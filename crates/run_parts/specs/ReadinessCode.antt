@@ -7,7 +7,7 @@ use lib.Dec.{eqb}
 use Rattle.table.specs.Table.{opAt}
 use Rattle.run_store.specs.declared.head.Head.{Head}
 use Rattle.run_store.specs.StoreCode.{valueAt, headOf, topAt}
-use Rattle.run_ops.specs.OpsCode.{emptyVal, emptyTwo}
+use Rattle.run_values.specs.ValuesCode.{emptyVal, emptyTwo}
 use Rattle.run_parts.specs.declared.readiness.Readiness.{Readiness}
 
 abbrev pub noOffer : ℕ → Readiness

@@ -4,13 +4,13 @@ ghost use Prim.Native.Nat.{_+_, _*_};
 ghost use Rattle.table.specs.Table.{methods};
 ghost use Rattle.run_store.specs.StoreCode.{headOf};
 ghost use Rattle.run_parts.specs.ReadinessCode.{noOffer, sendOf, receiveOf, readinessOp, offerOf, offersNothing, eitherWay, meetsOp};
-use run_ops::numbers::two_empty;
 use run_store::head::Head;
 use run_store::head::read_head;
 use run_store::values::Val;
 use run_store::values::empty;
 use run_store::values::get;
 use run_store::values::value;
+use run_values::numbers::two_empty;
 use table::words::word_at;
 
 // Kind 0 is over or not made, 1 moves by itself, by a step or a fault, 2 offers to send, 3 to receive. An offer has

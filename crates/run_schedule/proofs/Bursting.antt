@@ -13,7 +13,8 @@ use Rattle.machine.specs.Act.{goes}
 use Rattle.machine.specs.Entry.{able}
 use Rattle.machine.proofs.Steps.{ending}
 use Rattle.machine.proofs.Ownership as own
-use Rattle.run_ops.specs.OpsCode.{AfterStep, afterStep, stepOp}
+use Rattle.run_values.specs.ValuesCode.{AfterStep, afterStep}
+use Rattle.run_ops.specs.OpsCode.{stepOp}
 use Rattle.run_parts.specs.PartsCode.{partOf, withPart, onPart}
 use Rattle.run_parts.proofs.Apart.{part-kept, part-other}
 use Rattle.run_parts.specs.ReadinessCode.{readinessOp}

@@ -26,7 +26,8 @@ use Rattle.machine.proofs.Steps.{unable-nothing, after-nothing, stateAt, ending
 use Rattle.machine.proofs.Ownership as own
 use Rattle.layout.specs.Layout.{encode}
 use Rattle.layout.proofs.RoundTrip.{encode-length}
-use Rattle.run_ops.specs.OpsCode.{AfterStep, afterStep, stepOp}
+use Rattle.run_values.specs.ValuesCode.{AfterStep, afterStep}
+use Rattle.run_ops.specs.OpsCode.{stepOp}
 use Rattle.run_parts.specs.PartsCode.{partOf, withPart, onPart}
 use Rattle.run_parts.proofs.Apart.{part-same}
 use Rattle.run_parts.specs.ReadinessCode.{readinessOp}

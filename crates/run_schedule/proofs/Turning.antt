@@ -17,7 +17,7 @@ use Rattle.machine.specs.Run.{Result, run}
 use Rattle.machine.proofs.Steps.{stateAt}
 use Rattle.layout.specs.Layout.{encode, storeAfter}
 use Rattle.layout.proofs.RoundTrip.{encode-length}
-use Rattle.run_ops.specs.OpsCode.{AfterStep}
+use Rattle.run_values.specs.ValuesCode.{AfterStep}
 use Rattle.run_holders.specs.HoldersCode.{holdersAfterLines, changedFrom, nobody}
 use Rattle.run_ability.specs.EndingCode.{endingOp}
 use Rattle.run_entry.specs.EntryCode.{offerAt}

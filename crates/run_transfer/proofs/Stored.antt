@@ -25,7 +25,7 @@ use Rattle.run_store.specs.declared.values.Val.{Val}
 use Rattle.run_store.specs.declared.head.Head.{Head}
 use Rattle.run_store.specs.StoreCode.{valueAt, putValue, headOf, topAt}
 use Rattle.run_store.proofs.Vals.{valOf}
-use Rattle.run_ops.proofs.Places.{headIn, head-is, top-read}
+use Rattle.run_values.proofs.Places.{headIn, head-is, top-read}
 use Rattle.run_parts.specs.PartsCode.{partAt, partOf, withPart}
 use Rattle.run_parts.proofs.Encoded.{Laid, laid-set, laid-joined, part-is, part-put, part-unmade, part-joined}
 use Rattle.run_giving.specs.GivingCode.{givenWords, sentWords, receivedWords, beganWords, argumentsPopped}

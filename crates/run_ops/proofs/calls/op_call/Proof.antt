@@ -1,6 +1,7 @@
 -- `op_call` tests the arguments, then the number of frames.
 use Rattle.run_ops.proofs.Returns.{took, passed-by}
-use Rattle.run_ops.specs.OpsCode.{callOp, afterStep, opened}
+use Rattle.run_values.specs.ValuesCode.{afterStep}
+use Rattle.run_ops.specs.OpsCode.{callOp, opened}
 use Rattle.run_store.specs.StoreCode.{emptyDown}
 use borrow.Author.Tests.{le-leb, lt-leb}
 use mathlib.Core.Path.{_∙_, ap, ap₂, refl}

@@ -1,6 +1,8 @@
 -- `op_ret` goes by whether the method is void, whether the value is emptied, and whether it is the root frame.
-use Rattle.run_ops.proofs.Returns.{took, passed-by, empty-stops, full-goes}
-use Rattle.run_ops.specs.OpsCode.{retOp, afterStep, handed}
+use Rattle.run_values.proofs.Returns.{empty-stops, full-goes}
+use Rattle.run_ops.proofs.Returns.{took, passed-by}
+use Rattle.run_values.specs.ValuesCode.{afterStep}
+use Rattle.run_ops.specs.OpsCode.{retOp, handed}
 use Rattle.run_store.specs.StoreCode.{valueAt}
 use borrow.Author.Tests.{eq-eqb, ne-eqb}
 use mathlib.Core.Path.{_∙_, ap, ap₂, refl}

@@ -1,0 +1,60 @@
+-- `op_jfalse` goes by whether the value is emptied, and whether it is false.
+use Rattle.run_values.specs.ValuesCode.{jfalseOp, afterStep, dropTo}
+use Rattle.run_values.proofs.Returns.{empty-stops, full-goes, jfalse-jumps, jfalse-goes}
+use Rattle.run_store.specs.StoreCode.{valueAt}
+use mathlib.Core.Path.{_∙_, ap}
+use borrow.Author.Needs.{needs}
+use Rattle.run_values.proofs.jumps.op_jfalse.Statement.{statement}
+use Rattle.run_values.proofs.jumps.op_jfalse.Tie as tie
+
+top-requires : tie.Need-top-requires
+top-requires c κs = search needs
+
+value-requires : tie.Need-value-requires
+value-requires c κs = search needs
+
+same-length : tie.Need-same-length
+same-length c = search needs
+
+returns : tie.Need-returns
+unfolding jfalseOp
+returns c = empty-stops _ _ _ (c .before .before .value .ensures ∙ ap (valueAt (c .before .before .before .before .before .before .before .args .w .now)) (c .before .before .before .top .ensures)) (c .if1 .taken)
+
+target-requires : tie.Need-target-requires
+target-requires c κs = search needs
+
+discard-to-requires : tie.Need-discard-to-requires
+discard-to-requires c κs = search needs
+
+same-length-2 : tie.Need-same-length-2
+same-length-2 c = search needs
+
+returns-2 : tie.Need-returns-2
+unfolding jfalseOp
+returns-2 c = full-goes _ _ _ (c .before .before .before .before .before .before .before .before .before .value .ensures ∙ ap (valueAt (c .before .before .before .before .before .before .before .before .before .before .before .before .before .before .args .w .now)) (c .before .before .before .before .before .before .before .before .before .before .top .ensures)) (c .before .before .before .before .before .before .before .if1 .left) (jfalse-jumps _ _ _ (c .before .before .before .before .before .before .before .before .before .value .ensures ∙ ap (valueAt (c .before .before .before .before .before .before .before .before .before .before .before .before .before .before .args .w .now)) (c .before .before .before .before .before .before .before .before .before .before .top .ensures)) (c .before .before .before .before .before .if2 .taken) (ap (afterStep 0) (c .before .before .discard-to .ensures ∙ ap (dropTo (c .before .before .before .before .before .before .before .before .before .before .before .before .before .before .args .w .now) (c .before .before .before .before .before .before .before .before .before .before .before .before .before .before .args .h)) (c .before .before .before .target .ensures))))
+
+discard-requires : tie.Need-discard-requires
+discard-requires c κs = search needs
+
+same-length-3 : tie.Need-same-length-3
+same-length-3 c = search needs
+
+returns-3 : tie.Need-returns-3
+unfolding jfalseOp
+returns-3 c = full-goes _ _ _ (c .before .before .before .before .before .before .before .before .value .ensures ∙ ap (valueAt (c .before .before .before .before .before .before .before .before .before .before .before .before .before .args .w .now)) (c .before .before .before .before .before .before .before .before .before .top .ensures)) (c .before .before .before .before .before .before .if1 .left) (jfalse-goes _ _ _ (c .before .before .before .before .before .before .before .before .value .ensures ∙ ap (valueAt (c .before .before .before .before .before .before .before .before .before .before .before .before .before .args .w .now)) (c .before .before .before .before .before .before .before .before .before .top .ensures)) (c .before .before .before .before .if2 .left) (ap (afterStep 0) (c .before .before .discard .ensures)))
+
+pub op-jfalse-spec : {M : Type 1} → statement M
+op-jfalse-spec =
+    tie.close
+    (tie.spec
+    top-requires
+    value-requires
+    same-length
+    returns
+    target-requires
+    discard-to-requires
+    same-length-2
+    returns-2
+    discard-requires
+    same-length-3
+    returns-3)

@@ -1,0 +1,27 @@
+-- `op_jump` writes the new place alone.
+use Rattle.run_values.specs.ValuesCode.{jumpOp, afterStep}
+use Rattle.run_store.specs.StoreCode.{putTop, movedTo}
+use mathlib.Core.Path.{_∙_, ap}
+use borrow.Author.Needs.{needs}
+use Rattle.run_values.proofs.jumps.op_jump.Statement.{statement}
+use Rattle.run_values.proofs.jumps.op_jump.Tie as tie
+
+target-requires : tie.Need-target-requires
+target-requires c κs = search needs
+
+to-requires : tie.Need-to-requires
+to-requires c κs = search needs
+
+put-top-requires : tie.Need-put-top-requires
+put-top-requires c κs = search needs
+
+same-length : tie.Need-same-length
+same-length c = search needs
+
+returns : tie.Need-returns
+unfolding jumpOp
+returns c = ap (afterStep 0) (c .before .before .put-top .ensures ∙ ap (putTop (c .before .before .before .before .before .before .before .before .args .w .now)) (c .before .before .before .to .ensures ∙ ap (movedTo (c .before .before .before .before .before .before .before .before .args .h)) (c .before .before .before .before .target .ensures)))
+
+pub op-jump-spec : {M : Type 1} → statement M
+op-jump-spec =
+    tie.close (tie.spec target-requires to-requires put-top-requires same-length returns)

@@ -1,0 +1,19 @@
+-- `op_bool` pushes the argument as a boolean.
+use Rattle.run_values.specs.ValuesCode.{boolOp, afterStep}
+use mathlib.Core.Path.{ap}
+use borrow.Author.Needs.{needs}
+use Rattle.run_values.proofs.moves.op_bool.Statement.{statement}
+use Rattle.run_values.proofs.moves.op_bool.Tie as tie
+
+push-requires : tie.Need-push-requires
+push-requires c κs = search needs
+
+same-length : tie.Need-same-length
+same-length c = search needs
+
+returns : tie.Need-returns
+unfolding boolOp
+returns c = ap (afterStep 0) (c .before .before .push .ensures)
+
+pub op-bool-spec : {M : Type 1} → statement M
+op-bool-spec = tie.close (tie.spec push-requires same-length returns)

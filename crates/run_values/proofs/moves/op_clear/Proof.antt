@@ -1,0 +1,22 @@
+-- `op_clear` stores the empty value.
+use Rattle.run_values.specs.ValuesCode.{clearOp, afterStep, inSlot}
+use mathlib.Core.Path.{_∙_, ap}
+use borrow.Author.Needs.{needs}
+use Rattle.run_values.proofs.moves.op_clear.Statement.{statement}
+use Rattle.run_values.proofs.moves.op_clear.Tie as tie
+
+empty-requires : tie.Need-empty-requires
+empty-requires c κs = search needs
+
+store-slot-requires : tie.Need-store-slot-requires
+store-slot-requires c κs = search needs
+
+same-length : tie.Need-same-length
+same-length c = search needs
+
+returns : tie.Need-returns
+unfolding clearOp
+returns c = ap (afterStep 0) (c .before .before .store-slot .ensures ∙ ap (inSlot (c .before .before .before .before .before .before .before .args .w .now) (c .before .before .before .before .before .before .before .args .h) (c .before .before .before .before .before .before .before .args .a)) (c .before .before .before .empty .ensures))
+
+pub op-clear-spec : {M : Type 1} → statement M
+op-clear-spec = tie.close (tie.spec empty-requires store-slot-requires same-length returns)

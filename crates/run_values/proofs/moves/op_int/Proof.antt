@@ -1,0 +1,23 @@
+-- `op_int` pushes the extended argument.
+use Rattle.run_values.specs.ValuesCode.{intOp, afterStep, pushOn, intVal}
+use mathlib.Core.Path.{_∙_, ap}
+use Prim.Native.Nat.{ℕ}
+use borrow.Author.Needs.{needs}
+use Rattle.run_values.proofs.moves.op_int.Statement.{statement}
+use Rattle.run_values.proofs.moves.op_int.Tie as tie
+
+extend-requires : tie.Need-extend-requires
+extend-requires c κs = search needs
+
+push-requires : tie.Need-push-requires
+push-requires c κs = search needs
+
+same-length : tie.Need-same-length
+same-length c = search needs
+
+returns : tie.Need-returns
+unfolding intOp
+returns c = ap (afterStep 0) (c .before .before .push .ensures ∙ ap (λ (n : ℕ). pushOn (c .before .before .before .before .before .before .before .args .w .now) (c .before .before .before .before .before .before .before .args .h) (intVal n)) (c .before .before .before .extend .ensures))
+
+pub op-int-spec : {M : Type 1} → statement M
+op-int-spec = tie.close (tie.spec extend-requires push-requires same-length returns)

@@ -1,0 +1,50 @@
+-- `op_eq` goes by whether an operand is emptied, and compares the words.
+use Rattle.run_values.specs.ValuesCode.{eqOp, afterStep, overTwo}
+use Rattle.run_values.proofs.Returns.{two-stop, two-go}
+use mathlib.Core.Path.{_∙_, ap}
+use borrow.Author.Needs.{needs}
+use Rattle.run_values.proofs.numbers.op_eq.Statement.{statement}
+use Rattle.run_values.proofs.numbers.op_eq.Tie as tie
+
+two-empty-requires : tie.Need-two-empty-requires
+two-empty-requires c κs = search needs
+
+same-length : tie.Need-same-length
+same-length c = search needs
+
+returns : tie.Need-returns
+unfolding eqOp
+returns c = two-stop (c .before .before .before .before .args .w .now) (c .before .before .before .before .args .h) _ (c .before .two-empty .ensures) (c .if1 .taken)
+
+number-requires : tie.Need-number-requires
+number-requires c κs = search needs
+
+number-requires-2 : tie.Need-number-requires-2
+number-requires-2 c κs = search needs
+
+flag-requires : tie.Need-flag-requires
+flag-requires c κs = search needs
+
+replace-two-requires : tie.Need-replace-two-requires
+replace-two-requires c κs = search needs
+
+same-length-2 : tie.Need-same-length-2
+same-length-2 c = search needs
+
+returns-2 : tie.Need-returns-2
+unfolding eqOp
+returns-2 c = two-go (c .before .before .before .before .before .before .before .before .before .before .before .before .before .args .w .now) (c .before .before .before .before .before .before .before .before .before .before .before .before .before .args .h) _ (c .before .before .before .before .before .before .before .before .before .before .two-empty .ensures) (c .before .before .before .before .before .before .before .before .before .if1 .left) (c .before .before .before .before .before .before .before .number .ensures) (c .before .before .before .before .before .number2 .ensures) (ap (afterStep 0) (c .before .before .replace-two .ensures ∙ ap (overTwo (c .before .before .before .before .before .before .before .before .before .before .before .before .before .args .w .now) (c .before .before .before .before .before .before .before .before .before .before .before .before .before .args .h)) (c .before .before .before .flag .ensures)))
+
+pub op-eq-spec : {M : Type 1} → statement M
+op-eq-spec =
+    tie.close
+    (tie.spec
+    two-empty-requires
+    same-length
+    returns
+    number-requires
+    number-requires-2
+    flag-requires
+    replace-two-requires
+    same-length-2
+    returns-2)

@@ -1,0 +1,60 @@
+-- `op_less` goes by whether an operand is emptied, and compares what was moved up.
+use Rattle.run_values.specs.ValuesCode.{lessOp, afterStep, overTwo, boolVal, bit}
+use Rattle.run_values.proofs.Returns.{two-stop, two-go}
+use Prim.Native.Nat.{ℕ}
+use mathlib.Core.Path.{_∙_, ap, ap₂}
+use borrow.Author.Needs.{needs}
+use lib.Dec.{ltb}
+use Rattle.run_values.proofs.numbers.op_less.Statement.{statement}
+use Rattle.run_values.proofs.numbers.op_less.Tie as tie
+
+two-empty-requires : tie.Need-two-empty-requires
+two-empty-requires c κs = search needs
+
+same-length : tie.Need-same-length
+same-length c = search needs
+
+returns : tie.Need-returns
+unfolding lessOp
+returns c = two-stop (c .before .before .before .before .args .w .now) (c .before .before .before .before .args .h) _ (c .before .two-empty .ensures) (c .if1 .taken)
+
+number-requires : tie.Need-number-requires
+number-requires c κs = search needs
+
+number-requires-2 : tie.Need-number-requires-2
+number-requires-2 c κs = search needs
+
+bias-requires : tie.Need-bias-requires
+bias-requires c κs = search needs
+
+bias-requires-2 : tie.Need-bias-requires-2
+bias-requires-2 c κs = search needs
+
+flag-requires : tie.Need-flag-requires
+flag-requires c κs = search needs
+
+replace-two-requires : tie.Need-replace-two-requires
+replace-two-requires c κs = search needs
+
+same-length-2 : tie.Need-same-length-2
+same-length-2 c = search needs
+
+returns-2 : tie.Need-returns-2
+unfolding lessOp
+returns-2 c = two-go (c .before .before .before .before .before .before .before .before .before .before .before .before .before .before .before .args .w .now) (c .before .before .before .before .before .before .before .before .before .before .before .before .before .before .before .args .h) _ (c .before .before .before .before .before .before .before .before .before .before .before .before .two-empty .ensures) (c .before .before .before .before .before .before .before .before .before .before .before .if1 .left) (c .before .before .before .before .before .before .before .before .before .number .ensures) (c .before .before .before .before .before .before .before .number2 .ensures) (ap (afterStep 0) (c .before .before .replace-two .ensures ∙ ap (overTwo (c .before .before .before .before .before .before .before .before .before .before .before .before .before .before .before .args .w .now) (c .before .before .before .before .before .before .before .before .before .before .before .before .before .before .before .args .h)) (c .before .before .before .flag .ensures ∙ ap₂ (λ (a b : ℕ). boolVal (bit (ltb a b))) (c .before .before .before .before .before .bias .ensures .0) (c .before .before .before .before .bias2 .ensures .0))))
+
+pub op-less-spec : {M : Type 1} → statement M
+op-less-spec =
+    tie.close
+    (tie.spec
+    two-empty-requires
+    same-length
+    returns
+    number-requires
+    number-requires-2
+    bias-requires
+    bias-requires-2
+    flag-requires
+    replace-two-requires
+    same-length-2
+    returns-2)

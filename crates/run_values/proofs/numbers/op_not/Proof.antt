@@ -1,0 +1,49 @@
+-- `op_not` goes by whether the operand is emptied.
+use Rattle.run_store.specs.declared.values.Val.{Val}
+use lib.Dec.{eqb}
+use Rattle.run_values.specs.ValuesCode.{notOp, afterStep, onTop, boolVal, bit}
+use Rattle.run_values.proofs.Returns.{empty-stops, full-goes}
+use Rattle.run_store.specs.StoreCode.{valueAt}
+use mathlib.Core.Path.{_∙_, ap}
+use borrow.Author.Needs.{needs}
+use Rattle.run_values.proofs.numbers.op_not.Statement.{statement}
+use Rattle.run_values.proofs.numbers.op_not.Tie as tie
+
+top-requires : tie.Need-top-requires
+top-requires c κs = search needs
+
+value-requires : tie.Need-value-requires
+value-requires c κs = search needs
+
+same-length : tie.Need-same-length
+same-length c = search needs
+
+returns : tie.Need-returns
+unfolding notOp
+returns c = empty-stops _ _ _ (c .before .before .value .ensures ∙ ap (valueAt (c .before .before .before .before .before .before .args .w .now)) (c .before .before .before .top .ensures)) (c .if1 .taken)
+
+flag-requires : tie.Need-flag-requires
+flag-requires c κs = search needs
+
+replace-requires : tie.Need-replace-requires
+replace-requires c κs = search needs
+
+same-length-2 : tie.Need-same-length-2
+same-length-2 c = search needs
+
+returns-2 : tie.Need-returns-2
+unfolding notOp
+returns-2 c = full-goes _ _ _ (c .before .before .before .before .before .before .before .before .value .ensures ∙ ap (valueAt (c .before .before .before .before .before .before .before .before .before .before .before .before .args .w .now)) (c .before .before .before .before .before .before .before .before .before .top .ensures)) (c .before .before .before .before .before .before .if1 .left) (ap (afterStep 0) (c .before .before .replace .ensures ∙ ap (onTop (c .before .before .before .before .before .before .before .before .before .before .before .before .args .w .now) (c .before .before .before .before .before .before .before .before .before .before .before .before .args .h)) (c .before .before .before .flag .ensures ∙ ap (λ (v : Val). boolVal (bit (eqb (v .number) 0))) (c .before .before .before .before .before .before .before .before .value .ensures ∙ ap (valueAt (c .before .before .before .before .before .before .before .before .before .before .before .before .args .w .now)) (c .before .before .before .before .before .before .before .before .before .top .ensures)))))
+
+pub op-not-spec : {M : Type 1} → statement M
+op-not-spec =
+    tie.close
+    (tie.spec
+    top-requires
+    value-requires
+    same-length
+    returns
+    flag-requires
+    replace-requires
+    same-length-2
+    returns-2)

@@ -1,0 +1,152 @@
+// Values pushed, taken and stored. Each function that can fault answers 20 and changes nothing, or 0.
+ghost use mathlib.Core.Path.{_≡_};
+ghost use Rattle.run_values.specs.ValuesCode.{afterStep, pushOn, onTop, dropTop, overTwo, inSlot, signExtended, intOp, boolOp, clearOp, getOp, putOp, dropOp, endOp};
+use run_store::head::Head;
+use run_store::head::put_top;
+use run_store::values::Val;
+use run_store::values::empty;
+use run_store::values::put_value;
+use run_store::values::value;
+
+// A value pushed.
+pub fn push(w: &mut [u32], h: Head, v: Val)
+    ensures { λ r. ⌜ now (w .exit) ≡ pushOn (now (w .entry)) h v ⌝ }
+{
+    put_value(w, h.top(0), v);
+    put_top(w, h.push().step());
+}
+
+// The top value replaced.
+pub fn replace(w: &mut [u32], h: Head, v: Val)
+    ensures { λ r. ⌜ now (w .exit) ≡ onTop (now (w .entry)) h v ⌝ }
+{
+    put_value(w, h.top(1), v);
+    put_top(w, h.step());
+}
+
+// The top value off.
+pub fn discard(w: &mut [u32], h: Head)
+    ensures { λ r. ⌜ now (w .exit) ≡ dropTop (now (w .entry)) h ⌝ }
+{
+    put_value(w, h.top(1), empty());
+    put_top(w, h.pop().step());
+}
+
+// Two values off, one on.
+pub fn replace_two(w: &mut [u32], h: Head, v: Val)
+    ensures { λ r. ⌜ now (w .exit) ≡ overTwo (now (w .entry)) h v ⌝ }
+{
+    put_value(w, h.top(1), empty());
+    put_value(w, h.top(2), v);
+    put_top(w, h.pop().step());
+}
+
+// A slot written: CLEAR where v is empty.
+pub fn store_slot(w: &mut [u32], h: Head, a: u16, v: Val)
+    ensures { λ r. ⌜ now (w .exit) ≡ inSlot (now (w .entry)) h a v ⌝ }
+{
+    put_value(w, h.slot(a), v);
+    put_top(w, h.step());
+}
+
+// The word of a 16-bit int: "two's complement, -32768 to 32767".
+pub fn extend(a: u16) -> u32
+    ensures { λ r. ⌜ r ≡ signExtended a ⌝ }
+{
+    if a < 32768 {
+        return a as u32;
+    }
+    a as u32 + 4294901760
+}
+
+// INT and BOOL: "push it".
+pub fn op_int(p: &[u16], w: &mut [u32], h: Head, a: u16) -> u32
+    ensures { λ r. ⌜ afterStep r (now (w .exit)) ≡ intOp (now (p .entry)) (now (w .entry)) h a ⌝ }
+{
+    push(
+        w,
+        h,
+        Val {
+            tag: 1,
+            number: extend(a),
+        },
+    );
+    0
+}
+
+pub fn op_bool(p: &[u16], w: &mut [u32], h: Head, a: u16) -> u32
+    ensures { λ r. ⌜ afterStep r (now (w .exit)) ≡ boolOp (now (p .entry)) (now (w .entry)) h a ⌝ }
+{
+    push(
+        w,
+        h,
+        Val {
+            tag: 2,
+            number: a as u32,
+        },
+    );
+    0
+}
+
+// CLEAR: "empty it".
+pub fn op_clear(p: &[u16], w: &mut [u32], h: Head, a: u16) -> u32
+    ensures { λ r. ⌜ afterStep r (now (w .exit)) ≡ clearOp (now (p .entry)) (now (w .entry)) h a ⌝ }
+{
+    store_slot(w, h, a, empty());
+    0
+}
+
+// GET: "push its value".
+pub fn op_get(w: &mut [u32], h: Head, a: u16) -> u32
+    ensures { λ r. ⌜ afterStep r (now (w .exit)) ≡ getOp (now (w .entry)) h a ⌝ }
+{
+    let v = value(w, h.slot(a));
+    if v.tag == 0 {
+        return 20;
+    }
+    push(w, h, v);
+    0
+}
+
+// PUT: "store the top, leave it on top".
+pub fn op_put(w: &mut [u32], h: Head, a: u16) -> u32
+    ensures { λ r. ⌜ afterStep r (now (w .exit)) ≡ putOp (now (w .entry)) h a ⌝ }
+{
+    let v = value(w, h.top(1));
+    if v.tag == 0 {
+        return 20;
+    }
+    store_slot(w, h, a, v);
+    0
+}
+
+// DROP: "take the top away".
+pub fn op_drop(w: &mut [u32], h: Head) -> u32
+    ensures { λ r. ⌜ afterStep r (now (w .exit)) ≡ dropOp (now (w .entry)) h ⌝ }
+{
+    let v = value(w, h.top(1));
+    if v.tag == 0 {
+        return 20;
+    }
+    discard(w, h);
+    0
+}
+
+// END: "channel off, that end on". An end has the tag 5 or 6, by its side, and the channel's number.
+pub fn op_end(w: &mut [u32], h: Head, a: u16) -> u32
+    ensures { λ r. ⌜ afterStep r (now (w .exit)) ≡ endOp (now (w .entry)) h a ⌝ }
+{
+    let v = value(w, h.top(1));
+    if v.tag == 0 {
+        return 20;
+    }
+    replace(
+        w,
+        h,
+        Val {
+            tag: 5 + a as u32,
+            number: v.number,
+        },
+    );
+    0
+}

@@ -1,0 +1,122 @@
+// ADD, SUB, EQ, LESS and NOT. Ints are words in two's complement; moved up by 2^31 they keep their order and are not
+// negative, so that sums and differences are taken in 64 bits with one test of range.
+ghost use mathlib.Core.Path.{_≡_};
+ghost use Prim.Native.Nat.{_+_, _-_, _<_};
+ghost use Rattle.run_store.specs.StoreCode.{valueAt, topAt};
+ghost use Rattle.run_values.specs.ValuesCode.{afterStep, boolVal, bit, biased, emptyTwo, resultOp, addOp, subOp, eqOp, lessOp, notOp};
+use super::moves::replace;
+use super::moves::replace_two;
+use run_store::head::Head;
+use run_store::values::Val;
+use run_store::values::value;
+
+pub fn bias(x: u32) -> u64
+    ensures { λ r. ⌜ (r ≡ biased x) × (r < 4294967296) ⌝ }
+{
+    (x as u64 + 2147483648) % 4294967296
+}
+
+// One of the two operands is emptied.
+pub fn two_empty(w: &[u32], h: Head) -> bool
+    ensures { λ r. ⌜ r ≡ emptyTwo (now (w .entry)) h ⌝ }
+{
+    let x = value(w, h.top(2));
+    let y = value(w, h.top(1));
+    (x.tag == 0) | (y.tag == 0)
+}
+
+// The number of the value n below the next free one.
+pub fn number(w: &[u32], h: Head, n: u16) -> u32
+    ensures { λ r. ⌜ r ≡ valueAt (now (w .entry)) (topAt h n) .number ⌝ }
+{
+    let v = value(w, h.top(n));
+    v.number
+}
+
+// A truth value.
+pub fn flag(b: bool) -> Val
+    ensures { λ r. ⌜ r ≡ boolVal (bit b) ⌝ }
+{
+    if b {
+        return Val { tag: 2, number: 1 };
+    }
+    Val { tag: 2, number: 0 }
+}
+
+// The int whose number, moved up by 2^32, is s, in place of two operands; 26 where it is out of range.
+pub fn result(w: &mut [u32], h: Head, s: u64) -> u32
+    ensures { λ r. ⌜ afterStep r (now (w .exit)) ≡ resultOp (now (w .entry)) h s ⌝ }
+{
+    if s < 2147483648 {
+        return 26;
+    }
+    if 6442450944 <= s {
+        return 26;
+    }
+    replace_two(
+        w,
+        h,
+        Val {
+            tag: 1,
+            number: (s % 4294967296) as u32,
+        },
+    );
+    0
+}
+
+pub fn op_add(w: &mut [u32], h: Head) -> u32
+    ensures { λ r. ⌜ afterStep r (now (w .exit)) ≡ addOp (now (w .entry)) h ⌝ }
+{
+    if two_empty(w, h) {
+        return 20;
+    }
+    let x = number(w, h, 2);
+    let y = number(w, h, 1);
+    result(w, h, bias(x) + bias(y))
+}
+
+pub fn op_sub(w: &mut [u32], h: Head) -> u32
+    ensures { λ r. ⌜ afterStep r (now (w .exit)) ≡ subOp (now (w .entry)) h ⌝ }
+{
+    if two_empty(w, h) {
+        return 20;
+    }
+    let x = number(w, h, 2);
+    let y = number(w, h, 1);
+    result(w, h, bias(x) + 4294967296 - bias(y))
+}
+
+pub fn op_eq(w: &mut [u32], h: Head) -> u32
+    ensures { λ r. ⌜ afterStep r (now (w .exit)) ≡ eqOp (now (w .entry)) h ⌝ }
+{
+    if two_empty(w, h) {
+        return 20;
+    }
+    let x = number(w, h, 2);
+    let y = number(w, h, 1);
+    replace_two(w, h, flag(x == y));
+    0
+}
+
+pub fn op_less(w: &mut [u32], h: Head) -> u32
+    ensures { λ r. ⌜ afterStep r (now (w .exit)) ≡ lessOp (now (w .entry)) h ⌝ }
+{
+    if two_empty(w, h) {
+        return 20;
+    }
+    let x = number(w, h, 2);
+    let y = number(w, h, 1);
+    replace_two(w, h, flag(bias(x) < bias(y)));
+    0
+}
+
+pub fn op_not(w: &mut [u32], h: Head) -> u32
+    ensures { λ r. ⌜ afterStep r (now (w .exit)) ≡ notOp (now (w .entry)) h ⌝ }
+{
+    let v = value(w, h.top(1));
+    if v.tag == 0 {
+        return 20;
+    }
+    replace(w, h, flag(v.number == 0));
+    0
+}
