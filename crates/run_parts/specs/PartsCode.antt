@@ -4,7 +4,7 @@ use mathlib.Core.List.{List, _++_}
 use lib.ListN.{take, drop}
 use Rattle.run_values.specs.ValuesCode.{AfterStep, afterStep}
 
--- where part n begins; it has 512 words
+-- where part n begins; it has 512 words. Everyone else goes by this name
 abbrev pub partAt : ℕ → ℕ
 partAt n = 512 + 512 * n
 

@@ -1,18 +1,17 @@
 -- What the functions of an entry with one line have done at their returns, from what their callees did and how their tests
 -- came out.
-use Prim.Native.Nat.{ℕ, _+_, _*_, _-_, _%_, _≤_, _<_}
+use Prim.Native.Nat.{ℕ, _+_, _%_, _≤_, _<_}
 use mathlib.Core.Path.{_≡_, refl, _∙_, ap, ap₂}
 use mathlib.Core.List.{List}
 use lib.ListN.{getD, set}
 use borrow.Author.Tests.{eq-eqb, ne-eqb, le-leb, lt-leb}
-use borrow.Rule.Slice.PartMut.{midOf, putMid}
 use Rattle.trace_lines.specs.declared.TraceLine.{TraceLine}
 use Rattle.trace_lines.specs.WrittenCode.{withLine}
 use Rattle.run_ops.proofs.Returns.{took, passed-by}
 use Rattle.run_events.specs.declared.event.EventResult.{EventResult}
 use Rattle.run_events.specs.EventsCode.{AfterEvent, afterEvent}
-use Rattle.run_parts.specs.PartsCode.{partOf}
-use Rattle.run_parts.proofs.Lifted.{lifted-words, part-read}
+use Rattle.run_parts.specs.PartsCode.{partAt, partOf}
+use Rattle.run_parts.proofs.Lifted.{lent, returned, lifted-words, part-lent}
 use Rattle.run_single.specs.declared.result.Count.{Count}
 use Rattle.run_single.specs.declared.result.EntryResult.{EntryResult}
 use Rattle.run_single.specs.ResultCode.{afterEntry, takenTo, fullAt}
@@ -23,14 +22,13 @@ pub came-to : {m l : EntryResult} {t u v w : List ℕ} → m ≡ l → t ≡ u �
 came-to {l = l} {u = u} {v = v} e f h = ap₂ (λ (x : EntryResult) (y : List ℕ). afterEntry x y v) e f ∙ ap (afterEntry l u) h
 
 -- the event of a part that was lent, as that of the store
-pub lifted-left : (work : List ℕ) (n : ℕ) {t : EventResult} (ys : List ℕ) (f : List ℕ → AfterEvent)
-    → afterEvent t ys ≡ f (midOf (512 + 512 * n) (512 + 512 * n + 512 - (512 + 512 * n)) work)
-    → afterEvent t (putMid (512 + 512 * n) (512 + 512 * n + 512 - (512 + 512 * n)) work ys) ≡ inPart work n (f (partOf work n))
+pub lifted-left : (work : List ℕ) (n : ℕ) {from : ℕ} → from ≡ partAt n → {t : EventResult} (ys : List ℕ) (f : List ℕ → AfterEvent)
+    → afterEvent t ys ≡ f (lent work from) → afterEvent t (returned work from ys) ≡ inPart work n (f (partOf work n))
 unfolding inPart
-lifted-left work n ys f e =
+lifted-left work n at ys f e =
     ap₂ afterEvent
-    (ap (λ (l : AfterEvent). l .event) e ∙ ap (λ (w : List ℕ). f w .event) (part-read work n))
-    (lifted-words work n ys (λ w. f w .words) (ap (λ (l : AfterEvent). l .words) e))
+    (ap (λ (l : AfterEvent). l .event) e ∙ ap (λ (w : List ℕ). f w .event) (part-lent work n at))
+    (lifted-words work n at ys (λ w. f w .words) (ap (λ (l : AfterEvent). l .words) e))
 
 -- a thing made is counted
 

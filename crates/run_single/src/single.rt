@@ -12,6 +12,7 @@ use super::result::full;
 use super::result::taken;
 use run_events::conclude::conclude;
 use run_events::event::EventResult;
+use run_parts::part::part_at;
 use run_store::references::ProcessNo;
 use run_store::values::get;
 use run_store::values::low;
@@ -34,7 +35,7 @@ fn conclude_at(
 {
     let qubits = get(work, 1);
     let channels = get(work, 2);
-    let from = 512 + 512 * (n.0 as usize);
+    let from = part_at(n);
     let to = from + 512;
     conclude(
         p,

@@ -9,6 +9,7 @@ ghost use Rattle.run_giving.specs.GivingCode.{givenWords, beganWords, arguments
 use run_giving::begin;
 use run_giving::give;
 use run_giving::pop_arguments;
+use run_parts::part::part_at;
 use run_store::head::Head;
 use run_store::head::read_head;
 use run_store::references::ProcessNo;
@@ -30,7 +31,7 @@ pub fn operand_of(work: &[u32], n: ProcessNo, d: u16) -> Val
     requires { ⌜ (8192 ≤ length (now work)) × (n .0 < 8) ⌝ }
     ensures { λ r. ⌜ r ≡ operandOf (now (work .entry)) (n .0) d ⌝ }
 {
-    let from = 512 + 512 * (n.0 as usize);
+    let from = part_at(n);
     let to = from + 512;
     operand(&work[from..to], d)
 }
@@ -41,7 +42,7 @@ fn hand_arg(work: &mut [u32], n: ProcessNo, child: ProcessNo, args: u16, j: u16)
     ensures { λ r. ⌜ now (work .exit) ≡ argHanded (now (work .entry)) (n .0) (child .0) args j ⌝ }
 {
     let v = operand_of(work, n, args - j);
-    let from = 512 + 512 * (child.0 as usize);
+    let from = part_at(child);
     let to = from + 512;
     put_value(&mut work[from..to], 64 + 2 * (j as usize), v);
 }
@@ -61,7 +62,7 @@ pub fn begin_at(p: &[u16], work: &mut [u32], child: ProcessNo, m: u16)
     requires { ⌜ (8192 ≤ length (now work)) × (child .0 < 8) ⌝ }
     ensures { λ r. ⌜ now (work .exit) ≡ withPart (now (work .entry)) (child .0) (beganWords (now (p .entry)) (partOf (now (work .entry)) (child .0)) m) ⌝ }
 {
-    let from = 512 + 512 * (child.0 as usize);
+    let from = part_at(child);
     let to = from + 512;
     begin(p, &mut work[from..to], m);
 }
@@ -70,7 +71,7 @@ fn pop_arguments_at(work: &mut [u32], n: ProcessNo, args: u16)
     requires { ⌜ (8192 ≤ length (now work)) × (n .0 < 8) ⌝ }
     ensures { λ r. ⌜ now (work .exit) ≡ withPart (now (work .entry)) (n .0) (argumentsPopped (partOf (now (work .entry)) (n .0)) args) ⌝ }
 {
-    let from = 512 + 512 * (n.0 as usize);
+    let from = part_at(n);
     let to = from + 512;
     pop_arguments(&mut work[from..to], args);
 }
@@ -79,7 +80,7 @@ fn give_at(work: &mut [u32], n: ProcessNo, v: Val)
     requires { ⌜ (8192 ≤ length (now work)) × (n .0 < 8) ⌝ }
     ensures { λ r. ⌜ now (work .exit) ≡ withPart (now (work .entry)) (n .0) (givenWords (partOf (now (work .entry)) (n .0)) v) ⌝ }
 {
-    let from = 512 + 512 * (n.0 as usize);
+    let from = part_at(n);
     let to = from + 512;
     give(&mut work[from..to], v);
 }
@@ -89,7 +90,7 @@ fn slot_of(work: &[u32], child: ProcessNo, j: u16) -> Val
     requires { ⌜ (8192 ≤ length (now work)) × (child .0 < 8) ⌝ }
     ensures { λ r. ⌜ r ≡ valueAt (partOf (now (work .entry)) (child .0)) (64 + 2 * j) ⌝ }
 {
-    let from = 512 + 512 * (child.0 as usize);
+    let from = part_at(child);
     let to = from + 512;
     value(&work[from..to], 64 + 2 * (j as usize))
 }

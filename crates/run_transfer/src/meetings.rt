@@ -7,6 +7,7 @@ ghost use Rattle.run_giving.specs.GivingCode.{sentWords, receivedWords};
 ghost use Rattle.run_transfer.specs.TransferCode.{metWords};
 use run_giving::receive;
 use run_giving::send;
+use run_parts::part::part_at;
 use run_store::references::ProcessNo;
 use run_store::values::Val;
 
@@ -14,7 +15,7 @@ fn send_from(work: &mut [u32], n: ProcessNo, v: Val)
     requires { ⌜ (8192 ≤ length (now work)) × (n .0 < 8) ⌝ }
     ensures { λ r. ⌜ now (work .exit) ≡ withPart (now (work .entry)) (n .0) (sentWords (partOf (now (work .entry)) (n .0)) v) ⌝ }
 {
-    let from = 512 + 512 * (n.0 as usize);
+    let from = part_at(n);
     let to = from + 512;
     send(&mut work[from..to], v);
 }
@@ -23,7 +24,7 @@ fn receive_at(work: &mut [u32], n: ProcessNo, v: Val)
     requires { ⌜ (8192 ≤ length (now work)) × (n .0 < 8) ⌝ }
     ensures { λ r. ⌜ now (work .exit) ≡ withPart (now (work .entry)) (n .0) (receivedWords (partOf (now (work .entry)) (n .0)) v) ⌝ }
 {
-    let from = 512 + 512 * (n.0 as usize);
+    let from = part_at(n);
     let to = from + 512;
     receive(&mut work[from..to], v);
 }

@@ -5,14 +5,8 @@ use borrow.Author.Needs.{needs}
 use Rattle.run_parts.proofs.part.step_process.Statement.{statement}
 use Rattle.run_parts.proofs.part.step_process.Tie as tie
 
-cast-from : tie.Need-cast-from
-cast-from c = search needs
-
-mul-from : tie.Need-mul-from
-mul-from c = search needs
-
-add-from : tie.Need-add-from
-add-from c = search needs
+part-at-requires : tie.Need-part-at-requires
+part-at-requires c κs = search needs
 
 add-to : tie.Need-add-to
 add-to c = search needs
@@ -38,15 +32,13 @@ same-length c = search needs
 returns : tie.Need-returns
 returns c =
     let args = c .before .before .before .before .before .before .before .args in
-    lifted (args .work .now) (args .n .0) (c .before .before .step .result) (c .before .before .step .last .1 .1 .0) (stepOp (args .p .now)) (c .before .before .step .ensures)
+    lifted (args .work .now) (args .n .0) (c .before .before .before .before .part-at .ensures) (c .before .before .step .result) (c .before .before .step .last .1 .1 .0) (stepOp (args .p .now)) (c .before .before .step .ensures)
 
 pub step-process-spec : {M : Type 1} → statement M
 step-process-spec =
     tie.close
     (tie.spec
-    cast-from
-    mul-from
-    add-from
+    part-at-requires
     add-to
     mul-step
     sub-step

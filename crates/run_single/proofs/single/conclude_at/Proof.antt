@@ -16,14 +16,8 @@ get-requires c κs = search needs
 get-requires-2 : tie.Need-get-requires-2
 get-requires-2 c κs = search needs
 
-cast-from : tie.Need-cast-from
-cast-from c = search needs
-
-mul-from : tie.Need-mul-from
-mul-from c = search needs
-
-add-from : tie.Need-add-from
-add-from c = search needs
+part-at-requires : tie.Need-part-at-requires
+part-at-requires c κs = search needs
 
 add-to : tie.Need-add-to
 add-to c = search needs
@@ -50,7 +44,7 @@ returns : tie.Need-returns
 unfolding concludedAt
 returns c =
     let args = c .before .before .before .before .before .before .before .before .before .before .before .before .args in
-    lifted-left (args .work .now) (args .n .0) (c .before .before .conclude .last .1 .1 .0)
+    lifted-left (args .work .now) (args .n .0) (c .before .before .before .before .part-at .ensures) (c .before .before .conclude .last .1 .1 .0)
     (λ (l : List ℕ). concludeOp (args .p .now) l (args .code) (c .before .before .before .before .before .before .before .get .result) (c .before .before .before .before .before .get2 .result) (args .outcomes .now) (args .used))
     (c .before .before .conclude .ensures)
     ∙ ap₂ (λ (q c : ℕ). inPart (args .work .now) (args .n .0) (concludeOp (args .p .now) (partOf (args .work .now) (args .n .0)) (args .code) q c (args .outcomes .now) (args .used)))
@@ -62,9 +56,7 @@ conclude-at-spec =
     (tie.spec
     get-requires
     get-requires-2
-    cast-from
-    mul-from
-    add-from
+    part-at-requires
     add-to
     mul-conclude
     sub-conclude

@@ -17,14 +17,8 @@ sub-operand-of c = search needs
 operand-of-requires : tie.Need-operand-of-requires
 operand-of-requires c κs = search needs
 
-cast-from : tie.Need-cast-from
-cast-from c = search needs
-
-mul-from : tie.Need-mul-from
-mul-from c = search needs
-
-add-from : tie.Need-add-from
-add-from c = search needs
+part-at-requires : tie.Need-part-at-requires
+part-at-requires c κs = search needs
 
 add-to : tie.Need-add-to
 add-to c = search needs
@@ -57,7 +51,7 @@ returns : tie.Need-returns
 unfolding argHanded
 returns c =
     let args = c .before .before .before .before .before .before .before .before .args in
-    lifted-words (args .work .now) (args .child .0) (c .before .before .put-value .last .0)
+    lifted-words (args .work .now) (args .child .0) (c .before .before .before .before .part-at .ensures) (c .before .before .put-value .last .0)
     (λ (l : List ℕ). putValue l (64 + 2 * args .j) (c .before .before .before .before .before .operand-of .result))
     (c .before .before .put-value .ensures)
     ∙ ap (λ (v : Val). withPart (args .work .now) (args .child .0) (putValue (partOf (args .work .now) (args .child .0)) (64 + 2 * args .j) v))
@@ -69,9 +63,7 @@ hand-arg-spec =
     (tie.spec
     sub-operand-of
     operand-of-requires
-    cast-from
-    mul-from
-    add-from
+    part-at-requires
     add-to
     mul-put-value
     sub-put-value

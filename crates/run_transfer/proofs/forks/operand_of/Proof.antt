@@ -1,6 +1,6 @@
 -- `operand_of` lends the process's part for reading.
 use Rattle.run_transfer.specs.TransferCode.{operandOf}
-use Rattle.run_parts.proofs.Lifted.{part-read}
+use Rattle.run_parts.proofs.Lifted.{part-lent}
 use Rattle.run_store.specs.StoreCode.{valueAt, headOf, topAt}
 use mathlib.Core.Path.{_∙_, ap}
 use mathlib.Core.List.{List}
@@ -9,14 +9,8 @@ use borrow.Author.Needs.{needs}
 use Rattle.run_transfer.proofs.forks.operand_of.Statement.{statement}
 use Rattle.run_transfer.proofs.forks.operand_of.Tie as tie
 
-cast-from : tie.Need-cast-from
-cast-from c = search needs
-
-mul-from : tie.Need-mul-from
-mul-from c = search needs
-
-add-from : tie.Need-add-from
-add-from c = search needs
+part-at-requires : tie.Need-part-at-requires
+part-at-requires c κs = search needs
 
 add-to : tie.Need-add-to
 add-to c = search needs
@@ -40,15 +34,13 @@ returns : tie.Need-returns
 unfolding operandOf
 returns c =
     let args = c .before .before .before .before .args in
-    c .operand .ensures ∙ ap (λ (l : List ℕ). valueAt l (topAt (headOf l) (args .d))) (part-read (args .work .now) (args .n .0))
+    c .operand .ensures ∙ ap (λ (l : List ℕ). valueAt l (topAt (headOf l) (args .d))) (part-lent (args .work .now) (args .n .0) (c .before .before .part-at .ensures))
 
 pub operand-of-spec : {M : Type 1} → statement M
 operand-of-spec =
     tie.close
     (tie.spec
-    cast-from
-    mul-from
-    add-from
+    part-at-requires
     add-to
     mul-operand
     sub-operand

@@ -1,5 +1,5 @@
 -- `slot_of` lends the child's part for reading.
-use Rattle.run_parts.proofs.Lifted.{part-read}
+use Rattle.run_parts.proofs.Lifted.{part-lent}
 use Rattle.run_store.specs.StoreCode.{valueAt}
 use mathlib.Core.Path.{_∙_, ap}
 use mathlib.Core.List.{List}
@@ -8,14 +8,8 @@ use borrow.Author.Needs.{needs}
 use Rattle.run_transfer.proofs.forks.slot_of.Statement.{statement}
 use Rattle.run_transfer.proofs.forks.slot_of.Tie as tie
 
-cast-from : tie.Need-cast-from
-cast-from c = search needs
-
-mul-from : tie.Need-mul-from
-mul-from c = search needs
-
-add-from : tie.Need-add-from
-add-from c = search needs
+part-at-requires : tie.Need-part-at-requires
+part-at-requires c κs = search needs
 
 add-to : tie.Need-add-to
 add-to c = search needs
@@ -44,15 +38,13 @@ value-requires c κs = search needs
 returns : tie.Need-returns
 returns c =
     let args = c .before .before .before .before .args in
-    c .value .ensures ∙ ap (λ (l : List ℕ). valueAt l (64 + 2 * args .j)) (part-read (args .work .now) (args .child .0))
+    c .value .ensures ∙ ap (λ (l : List ℕ). valueAt l (64 + 2 * args .j)) (part-lent (args .work .now) (args .child .0) (c .before .before .part-at .ensures))
 
 pub slot-of-spec : {M : Type 1} → statement M
 slot-of-spec =
     tie.close
     (tie.spec
-    cast-from
-    mul-from
-    add-from
+    part-at-requires
     add-to
     mul-value
     sub-value
