@@ -41,7 +41,8 @@ module _ (p : List ℕ) (i op a : ℕ) (o : Owner) (q : op ≡ opAt p i) (r : a 
   target-within s k h t g =
       let method : o .method < methods p = rw (owner-method p (ownerOf p i) o e) (owner-inside p s k i h .method) in
       let start = owner-start p (ownerOf p i) o e ∙ ap (offsetOf p) (sym (owner-method p (ownerOf p i) o e)) in
-      omega (arith, start, jumps-inside op p (o .method) a t g, end-within p s k (o .method) method, s .instructions-most)
+      omega
+      (arith, start, jumps-inside op p (o .method) a t g, end-within p s k (o .method) method, s .instructions-most)
 
 -- Marks
 

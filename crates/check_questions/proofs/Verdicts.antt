@@ -1,4 +1,5 @@
--- One question after the other: what a passed or failed question makes of the verdict, and what is known once it is passed.
+-- One question after the other: what a passed or failed question makes of the verdict, and what is known once it is
+-- passed.
 use Prim.Native.Nat.{ℕ, zero, suc, _-_, _≤_, _<_}
 use native.Mathlib.Omega.{arith}
 use mathlib.Core.Bool.{Bool, true, false}
@@ -33,7 +34,8 @@ pub whole-no : (number place : ℕ) {kept : Bool} (rest : Verdict) → kept ≡ 
 unfolding whole andThen
 whole-no number place rest e = rw e
 
-pub whole-yes : (number place : ℕ) {kept : Bool} (rest : Verdict) → kept ≡ true → rest ≡ andThen (whole number kept place) rest
+pub whole-yes : (number place : ℕ) {kept : Bool} (rest : Verdict) → kept ≡ true
+    → rest ≡ andThen (whole number kept place) rest
 unfolding whole andThen
 whole-yes number place rest e = rw e
 
@@ -50,7 +52,8 @@ module _ (number : ℕ) (ok : ℕ → Bool) (n m i : ℕ) (q : n ≡ m) (e : i �
 
 -- question 2, whose place is the last method where the sum alone is wrong
 
-module _ (p : List ℕ) (count n i : ℕ) (c : count ≡ methods p) (d : n ≡ instructions p) (e : i ≡ firstFalse (pairKept p) count)
+module _ (p : List ℕ) (count n i : ℕ) (c : count ≡ methods p) (d : n ≡ instructions p)
+    (e : i ≡ firstFalse (pairKept p) count)
     (rest : Verdict) where
   in-turn : (sum : Verdict) → andThen (firstOf 2 (pairKept p) (methods p)) (andThen sum rest)
       ≡ andThen (andThen (firstOf 2 (pairKept p) (methods p)) sum) rest

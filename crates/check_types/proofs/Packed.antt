@@ -37,7 +37,8 @@ data Shape : ℕ → ℕ → Type 0 where
   full : (n w : ℕ) → n < 8 → w < 256 ^ suc n → Shape (suc n) w
 
 shape : (n w : ℕ) → Packed n w → Shape n w
-shape n w h = ⊎-elim (λ e. few n (leb-true n 8 e) (h .within (leb-true n 8 e))) (λ e. many (leb-false n 8 e)) (decide (leb n 8))
+shape n w h =
+    ⊎-elim (λ e. few n (leb-true n 8 e) (h .within (leb-true n 8 e))) (λ e. many (leb-false n 8 e)) (decide (leb n 8))
   where
     many : 8 < n → Shape n w
     many l = subst (Shape n) (sym (h .nothing l)) (faulty n l)
@@ -100,7 +101,8 @@ module _ (n w : ℕ) (h : Packed n w) where
   -- A value on
 
   on-low : n < 8 → w < 256 ^ 7
-  on-low l = lt-of-lt-of-le (h .within (omega arith)) (pow-le-pow-right {n = 256} (omega arith) {i = n} {j = 7} (omega arith))
+  on-low l =
+      lt-of-lt-of-le (h .within (omega arith)) (pow-le-pow-right {n = 256} (omega arith) {i = n} {j = 7} (omega arith))
 
   pub on-fits : n < 8 → (g : ℕ) → g < 256 → w * 256 + g < 2 ^ 64
   on-fits l g k = let low : w < 72057594037927936 = on-low l in omega arith
@@ -141,7 +143,8 @@ take-none t e = ap (takeOff t) e
 
 module _ (n w : ℕ) (h : Packed n w) (g : ℕ) (k : g < 256) where
   few-found : (t : ℕ) → 1 ≤ t → w % 256 ≡ t → n ≤ 8
-  few-found t l e = ⊎-elim (λ q. leb-true n 8 q) (λ q. absurd (omega (arith, h .nothing (leb-false n 8 q)))) (decide (leb n 8))
+  few-found t l e =
+      ⊎-elim (λ q. leb-true n 8 q) (λ q. absurd (omega (arith, h .nothing (leb-false n 8 q)))) (decide (leb n 8))
 
   pub one-found : (t : ℕ) → 1 ≤ t → w % 256 ≡ t
       → (resultOf n (w / 256 * 256 + g) ≡ putOn g (takeOff t (resultOf n w))) × Packed n (w / 256 * 256 + g)

@@ -38,19 +38,23 @@ both-pass false y true o = refl
 both-pass false y false o = refl
 
 settle-passes : (g : Option (List ℕ)) (rest : List ℕ) (bare b : Bool)
-    → cond (not (isNone g) && (leb (length (Option·getD g [] ++ rest)) 8 && ((not bare || isNil (Option·getD g [] ++ rest)) && b)))
+    → cond
+    (not (isNone g) &&
+    (leb (length (Option·getD g [] ++ rest)) 8 && ((not bare || isNil (Option·getD g [] ++ rest)) && b)))
     (some (Option·getD g [] ++ rest)) none
     ≡ cond b (ruleResult bare rest g) none
 unfolding ruleResult
 settle-passes none rest bare true = refl
 settle-passes none rest bare false = refl
-settle-passes (some gs) rest bare b = both-pass (leb (length (gs ++ rest)) 8) (not bare || isNil (gs ++ rest)) b (some (gs ++ rest))
+settle-passes (some gs) rest bare b =
+    both-pass (leb (length (gs ++ rest)) 8) (not bare || isNil (gs ++ rest)) b (some (gs ++ rest))
 
 -- those that the operands do not decide
 abbrev free : List ℕ → ℕ → Bool
 free p i = (not (isTarget p i) || isNil (before p i)) && (not (isLast p i) || opThere p i .closes)
 
-read-on : (p : List ℕ) (i : ℕ) → readOn p i ≡ cond (free p i) (stepped p (ownerOf p i) (opAt p i) (argAt p i) (before p i)) none
+read-on : (p : List ℕ) (i : ℕ)
+    → readOn p i ≡ cond (free p i) (stepped p (ownerOf p i) (opAt p i) (argAt p i) (before p i)) none
 unfolding readOn reads after stepped stepOf givenAt takenAt
 read-on p i = settle-passes (givenAt p i (before p i)) (drop (takenAt p i) (before p i)) (opThere p i .bare) (free p i)
 
@@ -170,7 +174,8 @@ module _ (p : List ℕ) (i : ℕ) (q : Pending) (e : resultIn q ≡ readOn p i) 
       by false t r = absurd (Option·none-ne-some _ (sym r))
 
 -- an instruction of a table that has passed questions 1 to 4
-pub to-read : (p : List ℕ) (count n : ℕ) (targets : List ℕ) → Passed p count n targets → (o : Owner) (i : ℕ) (q : Pending)
+pub to-read : (p : List ℕ) (count n : ℕ) (targets : List ℕ) → Passed p count n targets
+    → (o : Owner) (i : ℕ) (q : Pending)
     → i < n → o ≡ ownerAt p i → q .count ≤ 8 → Held q → typesOf q ≡ before p i → Before p count o i (getD targets i 0) q
 to-read p count n targets h o i q l e few held types =
     let within : i < instructions p = omega (arith, h .instructions-count) in

@@ -67,11 +67,17 @@ module _ (p : List ℕ) (m at : ℕ) (h : RowAt p m at) where
 
   -- one argument more
   one-more : (j : ℕ) (o : Option (List ℕ)) → j < 16
-      → takeOffs (reverse (take (suc j) (slotTypes p m))) o ≡ takeOffs (reverse (take j (slotTypes p m))) (takeOff (slotType p m j) o)
+      → takeOffs (reverse (take (suc j) (slotTypes p m))) o ≡ takeOffs (reverse (take j (slotTypes p m)))
+      (takeOff (slotType p m j) o)
   unfolding takeOffs
   one-more j o l =
       let long = slotTypes-length p (h .sizes) m (h .method) in
-      rw (take-suc (slotTypes p m) j 0 (omega arith), slotTypes-at p m j l, reverse-append (take j (slotTypes p m)) (slotType p m j ∷ []))
+      rw (
+        take-suc (slotTypes p m) j 0 (omega arith),
+        slotTypes-at p m j l,
+        reverse-append (take j (slotTypes p m))
+            (slotType p m j ∷ []),
+      )
 
   pub pass-goes-on : (n w : ℕ) (o o′ x : Option (List ℕ)) → 1 ≤ n → n ≤ paramsOf p m → w ≡ word p (at + 2 + (n - 1))
       → o′ ≡ takeOff w o → takeOffs (reverse (take n (slotTypes p m))) o ≡ x
@@ -128,7 +134,8 @@ settled bare gs none = none
 settled bare gs (some rest) = ruleResult bare rest (some gs)
 
 settle-taken : (bare : Bool) (gs rest : List ℕ) (b c : Bool)
-    → ruleResult bare rest (cond b (cond c (some gs) none) none) ≡ settled bare gs (cond b (cond c (some rest) none) none)
+    → ruleResult bare rest (cond b (cond c (some gs) none) none) ≡ settled bare gs
+    (cond b (cond c (some rest) none) none)
 unfolding ruleResult settled
 settle-taken bare gs rest true true = refl
 settle-taken bare gs rest true false = refl
@@ -214,7 +221,8 @@ carried-end x y e = by (ℕ-discrete y (x + 32))
 none-carried : (x y : ℕ) → isCarried x ≡ false → (isEnd y && eqb x (carriedBy y)) ≡ false
 none-carried x y e =
     failed _ (λ t. let c = end-carries x y t in
-    clash e (and-both (leb 1 x) (leb x 3) (yes-leb {a = 1} {b = x} (omega arith)) (yes-leb {a = x} {b = 3} (omega arith))))
+    clash e (and-both (leb 1 x) (leb x 3) (yes-leb {a = 1} {b = x} (omega arith))
+    (yes-leb {a = x} {b = 3} (omega arith))))
 
 send-rule : (ts : List ℕ) → sent (some ts)
     ≡ stepOf 2 (λ xs. cond (isEnd (getD xs 1 0) && eqb (getD xs 0 0) (carriedBy (getD xs 1 0))) (some []) none) true ts
@@ -260,7 +268,8 @@ module _ (q : Pending) (few : q .count ≤ 8) where
       ap (takeOffs ws) found
       ∙ sym (step-wants ws [] false (typesOf q) ∙ settled-plain _ (few-offs ws (some (typesOf q)) low))
 
-  pub leaves-nothing : (ws : List ℕ) → bared (takeOffs ws (resultIn q)) ≡ stepOf (length ws) (wants ws []) true (typesOf q)
+  pub leaves-nothing : (ws : List ℕ)
+      → bared (takeOffs ws (resultIn q)) ≡ stepOf (length ws) (wants ws []) true (typesOf q)
   leaves-nothing ws =
       ap (λ o. bared (takeOffs ws o)) found
       ∙ sym (step-wants ws [] true (typesOf q) ∙ settled-bare (takeOffs ws (some (typesOf q))))
@@ -271,14 +280,17 @@ module _ (q : Pending) (few : q .count ≤ 8) where
 
   -- END and RECV, by the type on top
   pub top-changes : (test : ℕ → Bool) (f : ℕ → ℕ) → test 0 ≡ false
-      → cond (test (topOf (resultIn q))) (putOn (f (topOf (resultIn q))) (takeOff (topOf (resultIn q)) (resultIn q))) none
+      → cond (test (topOf (resultIn q))) (putOn (f (topOf (resultIn q))) (takeOff (topOf (resultIn q)) (resultIn q)))
+      none
       ≡ stepOf 1 (λ xs. cond (test (getD xs 0 0)) (some (f (getD xs 0 0) ∷ [])) none) false (typesOf q)
   top-changes test f e =
-      ap (λ o. cond (test (topOf o)) (putOn (f (topOf o)) (takeOff (topOf o) o)) none) found ∙ top-rule test f e (typesOf q)
+      ap (λ o. cond (test (topOf o)) (putOn (f (topOf o)) (takeOff (topOf o) o)) none) found
+      ∙ top-rule test f e (typesOf q)
 
   -- SEND
   pub sends : sent (resultIn q)
-      ≡ stepOf 2 (λ xs. cond (isEnd (getD xs 1 0) && eqb (getD xs 0 0) (carriedBy (getD xs 1 0))) (some []) none) true (typesOf q)
+      ≡ stepOf 2 (λ xs. cond (isEnd (getD xs 1 0) && eqb (getD xs 0 0) (carriedBy (getD xs 1 0))) (some []) none) true
+      (typesOf q)
   sends = ap sent found ∙ send-rule (typesOf q)
 
   -- GATE
@@ -293,7 +305,8 @@ module _ (q : Pending) (few : q .count ≤ 8) where
       by false = gives-nothing (3 ∷ 3 ∷ [])
 
   -- RET
-  pub leaves : (t : ℕ) → returnedFrom t (resultIn q) ≡ stepOf (length (returned t)) (wants (returned t) []) true (typesOf q)
+  pub leaves : (t : ℕ)
+      → returnedFrom t (resultIn q) ≡ stepOf (length (returned t)) (wants (returned t) []) true (typesOf q)
   unfolding returnedFrom
   leaves t = ap bared (sym (offs-returned t (resultIn q))) ∙ leaves-nothing (returned t)
 
@@ -306,7 +319,8 @@ module _ (q : Pending) (few : q .count ≤ 8) where
         length-reverse (paramTypes p m) ∙ length-take-le (paramsOf p m) (slotTypes p m) (omega arith)
 
     -- FORK
-    pub forks : bared (passedTo p m (resultIn q)) ≡ stepOf (paramsOf p m) (wants (reverse (paramTypes p m)) []) true (typesOf q)
+    pub forks :
+        bared (passedTo p m (resultIn q)) ≡ stepOf (paramsOf p m) (wants (reverse (paramTypes p m)) []) true (typesOf q)
     unfolding passedTo
     forks =
         leaves-nothing (reverse (paramTypes p m))
@@ -317,7 +331,8 @@ module _ (q : Pending) (few : q .count ≤ 8) where
         ≡ stepOf (paramsOf p m) (wants (reverse (paramTypes p m)) (returned (returnOf p m))) false (typesOf q)
     unfolding called passedTo returned
     calls = by (eqb (returnOf p m) 0)
-        ∙ ap (λ n. stepOf n (wants (reverse (paramTypes p m)) (returned (returnOf p m))) false (typesOf q)) params-length
+        ∙ ap (λ n. stepOf n (wants (reverse (paramTypes p m)) (returned (returnOf p m))) false (typesOf q))
+        params-length
       where
         ws : List ℕ
         ws = reverse (paramTypes p m)

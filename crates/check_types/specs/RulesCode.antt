@@ -1,5 +1,6 @@
--- Each op's rule of types, on the pending types or a fault; and `stepped`, which says the same of every op by the table's
--- own rules: operands found, at most eight values, none left where none may be. These definitions follow the code.
+-- Each op's rule of types, on the pending types or a fault; and `stepped`, which says the same of every op by the
+-- table's own rules: operands found, at most eight values, none left where none may be. These definitions follow the
+-- code.
 use Prim.Native.Nat.{ℕ, _+_, _≤_, _<_}
 use mathlib.Core.Bool.{Bool, cond, _&&_, _||_, not}
 use mathlib.Core.Path.{_≡_}

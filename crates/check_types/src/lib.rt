@@ -1,5 +1,5 @@
-// Question 5: the methods read from first to last with types alone, and the first instruction at fault. Asked is that questions
-// 1 to 4 are passed and the targets of jumps marked.
+// Question 5: the methods read from first to last with types alone, and the first instruction at fault. Asked is that
+// questions 1 to 4 are passed and the targets of jumps marked.
 ghost use mathlib.Core.Path.{_≡_};
 ghost use Rattle.lists.specs.Lists.{firstFalse};
 ghost use Rattle.table.specs.Ops.{opOf};

@@ -47,7 +47,8 @@ unfolding run-of
 run-length vs = values-size vs ∙ omega arith
 
 -- a value of a run, read and written
-pub run-get : (vs : List Value) (s j : ℕ) → s < length vs → j < 2 → getD (run-of vs) (2 * s + j) 0 ≡ getD (valueWords (getD vs s empty)) j 0
+pub run-get : (vs : List Value) (s j : ℕ) → s < length vs → j < 2
+    → getD (run-of vs) (2 * s + j) 0 ≡ getD (valueWords (getD vs s empty)) j 0
 unfolding run-of flatten
 run-get [] s j h k = absurd (not-suc-le-zero h)
 run-get (v ∷ vs) zero j h k =
@@ -93,7 +94,8 @@ pub run-append : (xs ys : List Value) → run-of (xs ++ ys) ≡ run-of xs ++ run
 unfolding run-of flatten
 run-append [] ys = refl
 run-append (x ∷ xs) ys =
-    ap (λ (ws : List ℕ). valueWords x ++ ws) (run-append xs ys) ∙ sym (append-assoc (valueWords x) (run-of xs) (run-of ys))
+    ap (λ (ws : List ℕ). valueWords x ++ ws) (run-append xs ys)
+    ∙ sym (append-assoc (valueWords x) (run-of xs) (run-of ys))
 
 run-one : (v : Value) → run-of (v ∷ []) ≡ valueWords v
 unfolding run-of flatten
@@ -101,7 +103,8 @@ run-one v = append-nil (valueWords v)
 
 -- lists in reverse
 
-pub getD-reverse : (vs : List Value) (d : ℕ) → d < length vs → getD (reverse vs) (length vs - suc d) empty ≡ getD vs d empty
+pub getD-reverse : (vs : List Value) (d : ℕ) → d < length vs
+    → getD (reverse vs) (length vs - suc d) empty ≡ getD vs d empty
 getD-reverse [] d h = absurd (not-suc-le-zero h)
 getD-reverse (v ∷ vs) zero h =
     ap₂ (λ (l : List Value) (i : ℕ). getD l i empty) (reverse-cons v vs) last ∙ getD-append-seam (reverse vs) v [] empty
@@ -119,7 +122,8 @@ getD-reverse (v ∷ vs) (suc d) h =
     inside : length vs - suc d < length (reverse vs)
     inside = omega (arith, length-reverse vs, h)
 
-set-reverse : (vs : List Value) (d : ℕ) (v : Value) → d < length vs → set (reverse vs) (length vs - suc d) v ≡ reverse (set vs d v)
+set-reverse : (vs : List Value) (d : ℕ) (v : Value) → d < length vs
+    → set (reverse vs) (length vs - suc d) v ≡ reverse (set vs d v)
 set-reverse [] d v h = absurd (not-suc-le-zero h)
 set-reverse (u ∷ vs) zero v h =
     ap₂ (λ (l : List Value) (i : ℕ). set l i v) (reverse-cons u vs) last
@@ -153,7 +157,9 @@ pending-length vs = run-length (reverse vs) ∙ ap (λ (n : ℕ). 2 * n) (length
 pending-cons : (v : Value) (vs : List Value) → pending-run (v ∷ vs) ≡ pending-run vs ++ valueWords v
 unfolding pending-run
 pending-cons v vs =
-    ap run-of (reverse-cons v vs) ∙ run-append (reverse vs) (v ∷ []) ∙ ap (λ (ws : List ℕ). run-of (reverse vs) ++ ws) (run-one v)
+    ap run-of (reverse-cons v vs)
+    ∙ run-append (reverse vs) (v ∷ [])
+    ∙ ap (λ (ws : List ℕ). run-of (reverse vs) ++ ws) (run-one v)
 
 -- the value at depth d, read and written
 pub pending-get : (vs : List Value) (d j i : ℕ) → d < length vs → j < 2 → i ≡ 2 * (length vs - suc d) + j
@@ -172,11 +178,13 @@ pending-get vs d j i h k e =
     within = omega (arith, run-length (reverse vs), length-reverse vs, h, k)
 
 -- a write within a padded list
-write-padded : (n : ℕ) (ws : List ℕ) (i : ℕ) (v : Value) → i + 1 < length ws → write (padded n ws) i v ≡ padded n (write ws i v)
+write-padded : (n : ℕ) (ws : List ℕ) (i : ℕ) (v : Value) → i + 1 < length ws
+    → write (padded n ws) i v ≡ padded n (write ws i v)
 unfolding write
 write-padded n ws i v h =
     ap (λ (l : List ℕ). set l (i + 1) (numberOf v)) (padded-set n ws i (tagOf v) (omega arith))
-    ∙ padded-set n (set ws i (tagOf v)) (i + 1) (numberOf v) (subst (λ (k : ℕ). i + 1 < k) (sym (length-set ws i (tagOf v))) h)
+    ∙ padded-set n (set ws i (tagOf v)) (i + 1) (numberOf v)
+    (subst (λ (k : ℕ). i + 1 < k) (sym (length-set ws i (tagOf v))) h)
 
 pub pending-set : (vs : List Value) (d i : ℕ) (v : Value) → d < length vs → i ≡ 2 * (length vs - suc d)
     → write (padded 16 (pending-run vs)) i v ≡ padded 16 (pending-run (set vs d v))
@@ -197,7 +205,8 @@ pub pending-push : (vs : List Value) (i : ℕ) (v : Value) → length vs < 8 →
     → write (padded 16 (pending-run vs)) i v ≡ padded 16 (pending-run (v ∷ vs))
 unfolding write
 pending-push vs i v h e =
-    ap (λ (l : List ℕ). set l (i + 1) (numberOf v)) (padded-next 16 (pending-run vs) i (tagOf v) (e ∙ sym (pending-length vs)) (omega arith))
+    ap (λ (l : List ℕ). set l (i + 1) (numberOf v))
+    (padded-next 16 (pending-run vs) i (tagOf v) (e ∙ sym (pending-length vs)) (omega arith))
     ∙ padded-next 16 (pending-run vs ++ (tagOf v ∷ [])) (i + 1) (numberOf v) longer (omega arith)
     ∙ ap (padded 16)
     (append-assoc (pending-run vs) (tagOf v ∷ []) (numberOf v ∷ [])
@@ -229,7 +238,8 @@ write-left : (xs ys : List ℕ) (i : ℕ) (v : Value) → i + 1 < length xs → 
 unfolding write
 write-left xs ys i v h =
     ap (λ (l : List ℕ). set l (i + 1) (numberOf v)) (set-append-left xs ys i (tagOf v) (omega arith))
-    ∙ set-append-left (set xs i (tagOf v)) ys (i + 1) (numberOf v) (subst (λ (k : ℕ). i + 1 < k) (sym (length-set xs i (tagOf v))) h)
+    ∙ set-append-left (set xs i (tagOf v)) ys (i + 1) (numberOf v)
+    (subst (λ (k : ℕ). i + 1 < k) (sym (length-set xs i (tagOf v))) h)
 
 -- the two stretches of a frame's words
 pub frame-parts : (f : Frame) → frameValues f ≡ padded 32 (run-of (f .slots)) ++ padded 16 (pending-run (f .pending))
@@ -243,32 +253,39 @@ module _ (f : Frame) (wide : length (f .slots) ≡ 16) where
   slots-padded : length (padded 32 (run-of (f .slots))) ≡ 32
   slots-padded = padded-length 32 (run-of (f .slots)) (omega (arith, slots-length))
 
-  pub frame-slot-get : (s j i : ℕ) → s < 16 → j < 2 → i ≡ 2 * s + j → getD (frameValues f) i 0 ≡ getD (valueWords (getD (f .slots) s empty)) j 0
+  pub frame-slot-get : (s j i : ℕ) → s < 16 → j < 2 → i ≡ 2 * s + j
+      → getD (frameValues f) i 0 ≡ getD (valueWords (getD (f .slots) s empty)) j 0
   frame-slot-get s j i h k e =
       ap₂ (λ (l : List ℕ) (n : ℕ). getD l n 0) (frame-parts f) e
-      ∙ List·getD-append (padded 32 (run-of (f .slots))) (padded 16 (pending-run (f .pending))) 0 (2 * s + j) (omega (arith, slots-padded))
+      ∙ List·getD-append (padded 32 (run-of (f .slots))) (padded 16 (pending-run (f .pending))) 0 (2 * s + j)
+      (omega (arith, slots-padded))
       ∙ padded-get 32 (run-of (f .slots)) (2 * s + j) (omega (arith, slots-length))
       ∙ run-get (f .slots) s j (subst (λ (n : ℕ). s < n) (sym wide) h) k
 
-  pub frame-slot-set : (s i : ℕ) (v : Value) → s < 16 → i ≡ 2 * s → write (frameValues f) i v ≡ frameValues (withSlot s v f)
+  pub frame-slot-set : (s i : ℕ) (v : Value) → s < 16 → i ≡ 2 * s
+      → write (frameValues f) i v ≡ frameValues (withSlot s v f)
   frame-slot-set s i v h e =
       ap₂ (λ (l : List ℕ) (n : ℕ). write l n v) (frame-parts f) e
-      ∙ write-left (padded 32 (run-of (f .slots))) (padded 16 (pending-run (f .pending))) (2 * s) v (omega (arith, slots-padded))
+      ∙ write-left (padded 32 (run-of (f .slots))) (padded 16 (pending-run (f .pending))) (2 * s) v
+      (omega (arith, slots-padded))
       ∙ ap (λ (l : List ℕ). l ++ padded 16 (pending-run (f .pending)))
       (write-padded 32 (run-of (f .slots)) (2 * s) v (omega (arith, slots-length))
       ∙ ap (padded 32) (run-set (f .slots) s v (subst (λ (n : ℕ). s < n) (sym wide) h)))
       ∙ sym (frame-parts (withSlot s v f))
 
-  pub frame-pending-get : (d j i : ℕ) → d < length (f .pending) → j < 2 → i ≡ 32 + (2 * (length (f .pending) - suc d) + j)
+  pub frame-pending-get : (d j i : ℕ) → d < length (f .pending) → j < 2
+      → i ≡ 32 + (2 * (length (f .pending) - suc d) + j)
       → getD (frameValues f) i 0 ≡ getD (valueWords (getD (f .pending) d empty)) j 0
   frame-pending-get d j i h k e =
       ap₂ (λ (l : List ℕ) (n : ℕ). getD l n 0) (frame-parts f) e
-      ∙ get-after (padded 32 (run-of (f .slots))) (padded 16 (pending-run (f .pending))) 32 (2 * (length (f .pending) - suc d) + j) slots-padded
+      ∙ get-after (padded 32 (run-of (f .slots))) (padded 16 (pending-run (f .pending))) 32
+      (2 * (length (f .pending) - suc d) + j) slots-padded
       ∙ pending-get (f .pending) d j (2 * (length (f .pending) - suc d) + j) h k refl
 
   -- a write among the pending values, by what it makes of them
   frame-pending : (i j : ℕ) (v : Value) (vs : List Value) → i ≡ 32 + j
-      → write (padded 16 (pending-run (f .pending))) j v ≡ padded 16 (pending-run vs) → write (frameValues f) i v ≡ frameValues (withPending vs f)
+      → write (padded 16 (pending-run (f .pending))) j v ≡ padded 16 (pending-run vs)
+      → write (frameValues f) i v ≡ frameValues (withPending vs f)
   frame-pending i j v vs e h =
       ap₂ (λ (l : List ℕ) (n : ℕ). write l n v) (frame-parts f) e
       ∙ write-after (padded 32 (run-of (f .slots))) (padded 16 (pending-run (f .pending))) 32 j v slots-padded
@@ -284,17 +301,20 @@ module _ (f : Frame) (wide : length (f .slots) ≡ 16) where
   pub frame-push : (i : ℕ) (v : Value) → length (f .pending) < 8 → i ≡ 32 + 2 * length (f .pending)
       → write (frameValues f) i v ≡ frameValues (push v f)
   frame-push i v h e =
-      frame-pending i (2 * length (f .pending)) v (v ∷ f .pending) e (pending-push (f .pending) (2 * length (f .pending)) v h refl)
+      frame-pending i (2 * length (f .pending)) v (v ∷ f .pending) e
+      (pending-push (f .pending) (2 * length (f .pending)) v h refl)
 
   pub frame-pop : (i : ℕ) (v : Value) (vs : List Value) → f .pending ≡ v ∷ vs → length vs < 8 → i ≡ 32 + 2 * length vs
       → write (frameValues f) i empty ≡ frameValues (withPending vs f)
   frame-pop i v vs p h e =
       frame-pending i (2 * length vs) empty vs e
-      (ap (λ (l : List Value). write (padded 16 (pending-run l)) (2 * length vs) empty) p ∙ pending-pop v vs (2 * length vs) h refl)
+      (ap (λ (l : List Value). write (padded 16 (pending-run l)) (2 * length vs) empty) p
+      ∙ pending-pop v vs (2 * length vs) h refl)
 
 -- the words of a frame are 48
 pub frame-size : (f : Frame) → length (f .slots) ≡ 16 → length (f .pending) ≤ 8 → length (frameValues f) ≡ 48
 frame-size f wide high =
     ap length (frame-parts f)
     ∙ length-append (padded 32 (run-of (f .slots))) (padded 16 (pending-run (f .pending)))
-    ∙ ap₂ _+_ (slots-padded f wide) (padded-length 16 (pending-run (f .pending)) (omega (arith, pending-length (f .pending), high)))
+    ∙ ap₂ _+_ (slots-padded f wide)
+    (padded-length 16 (pending-run (f .pending)) (omega (arith, pending-length (f .pending), high)))

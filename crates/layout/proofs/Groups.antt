@@ -14,18 +14,23 @@ use Rattle.layout.specs.Layout.{padded, groups}
 pub padded-length : (n : ℕ) (ws : List ℕ) → length ws ≤ n → length (padded n ws) ≡ n
 unfolding padded
 padded-length n ws h =
-    length-append ws (replicate (n - length ws) 0) ∙ ap (λ (k : ℕ). length ws + k) (length-replicate (n - length ws) 0) ∙ omega arith
+    length-append ws (replicate (n - length ws) 0)
+    ∙ ap (λ (k : ℕ). length ws + k) (length-replicate (n - length ws) 0)
+    ∙ omega arith
 
 pub padded-drop : (n : ℕ) (ws rest : List ℕ) → length ws ≤ n → drop n (padded n ws ++ rest) ≡ rest
 padded-drop n ws rest h = drop-at (padded n ws) rest n (padded-length n ws h)
 
 -- groups
 
-pub flatten-length : (size : ℕ) (gs : List (List ℕ)) → All (λ g. length g ≡ size) gs → length (flatten gs) ≡ length gs * size
+pub flatten-length : (size : ℕ) (gs : List (List ℕ)) → All (λ g. length g ≡ size) gs
+    → length (flatten gs) ≡ length gs * size
 unfolding flatten
 flatten-length size [] a = sym (zero-mul size)
 flatten-length size (g ∷ gs) a =
-    length-append g (flatten gs) ∙ ap₂ _+_ (a .0) (flatten-length size gs (a .1)) ∙ omega (arith, suc-mul (length gs) size)
+    length-append g (flatten gs)
+    ∙ ap₂ _+_ (a .0) (flatten-length size gs (a .1))
+    ∙ omega (arith, suc-mul (length gs) size)
 
 groups-flatten : (size : ℕ) (gs : List (List ℕ)) (rest : List ℕ) → All (λ g. length g ≡ size) gs
     → groups size (length gs) (flatten gs ++ rest) ≡ gs
@@ -34,7 +39,8 @@ groups-flatten size [] rest a = refl
 groups-flatten size (g ∷ gs) rest a =
     ap₂ {C = List (List ℕ)} (λ h hs. h ∷ hs)
     (ap (take size) (append-assoc g (flatten gs) rest) ∙ take-at g (flatten gs ++ rest) size (a .0))
-    (ap (groups size (length gs)) (ap (drop size) (append-assoc g (flatten gs) rest) ∙ drop-at g (flatten gs ++ rest) size (a .0))
+    (ap (groups size (length gs))
+    (ap (drop size) (append-assoc g (flatten gs) rest) ∙ drop-at g (flatten gs ++ rest) size (a .0))
     ∙ groups-flatten size gs rest (a .1))
 
 pub groups-padded : (size n k : ℕ) (gs : List (List ℕ)) (rest : List ℕ) → All (λ g. length g ≡ size) gs → k ≡ length gs

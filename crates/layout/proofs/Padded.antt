@@ -13,7 +13,8 @@ use Rattle.layout.specs.Layout.{padded}
 set-append-add : (xs ys : List ℕ) (i x : ℕ) → set (xs ++ ys) (length xs + i) x ≡ xs ++ set ys i x
 set-append-add [] ys i x = ap (λ (k : ℕ). set ys k x) (zero-add i)
 set-append-add (y ∷ xs) ys i x =
-    ap (λ (k : ℕ). set (y ∷ (xs ++ ys)) k x) (suc-add (length xs) i) ∙ ap {B = List ℕ} (λ r. y ∷ r) (set-append-add xs ys i x)
+    ap (λ (k : ℕ). set (y ∷ (xs ++ ys)) k x) (suc-add (length xs) i)
+    ∙ ap {B = List ℕ} (λ r. y ∷ r) (set-append-add xs ys i x)
 
 pub set-after : (xs ys : List ℕ) (n i x : ℕ) → length xs ≡ n → set (xs ++ ys) (n + i) x ≡ xs ++ set ys i x
 set-after xs ys n i x e = ap (λ (k : ℕ). set (xs ++ ys) (k + i) x) (sym e) ∙ set-append-add xs ys i x
@@ -44,7 +45,8 @@ padded-short : (n : ℕ) (ws : List ℕ) → length ws < n → padded n ws ≡ w
 unfolding padded
 padded-short n ws h = ap (λ (r : List ℕ). ws ++ r) (padding-cons n (length ws) h)
 
-padded-longer : (n : ℕ) (ws : List ℕ) (x : ℕ) → padded n (ws ++ (x ∷ [])) ≡ ws ++ (x ∷ replicate (n - suc (length ws)) 0)
+padded-longer : (n : ℕ) (ws : List ℕ) (x : ℕ)
+    → padded n (ws ++ (x ∷ [])) ≡ ws ++ (x ∷ replicate (n - suc (length ws)) 0)
 unfolding padded
 padded-longer n ws x =
     append-assoc ws (x ∷ []) (replicate (n - length (ws ++ (x ∷ []))) 0)
@@ -54,14 +56,16 @@ padded-longer n ws x =
     longer = omega (arith, length-append ws (x ∷ []))
 
 -- the first padding word written: the list is one longer
-pub padded-next : (n : ℕ) (ws : List ℕ) (i x : ℕ) → i ≡ length ws → i < n → set (padded n ws) i x ≡ padded n (ws ++ (x ∷ []))
+pub padded-next : (n : ℕ) (ws : List ℕ) (i x : ℕ) → i ≡ length ws → i < n
+    → set (padded n ws) i x ≡ padded n (ws ++ (x ∷ []))
 padded-next n ws i x e h =
     ap₂ (λ (l : List ℕ) (k : ℕ). set l k x) (padded-short n ws (subst (λ (k : ℕ). k < n) e h)) e
     ∙ set-append-seam ws 0 (replicate (n - suc (length ws)) 0) x
     ∙ sym (padded-longer n ws x)
 
 -- the last word made 0: the list is one shorter
-pub padded-last : (n : ℕ) (ws : List ℕ) (x i : ℕ) → i ≡ length ws → i < n → set (padded n (ws ++ (x ∷ []))) i 0 ≡ padded n ws
+pub padded-last : (n : ℕ) (ws : List ℕ) (x i : ℕ) → i ≡ length ws → i < n
+    → set (padded n (ws ++ (x ∷ []))) i 0 ≡ padded n ws
 padded-last n ws x i e h =
     ap₂ (λ (l : List ℕ) (k : ℕ). set l k 0) (padded-longer n ws x) e
     ∙ set-append-seam ws x (replicate (n - suc (length ws)) 0) 0

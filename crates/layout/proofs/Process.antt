@@ -61,16 +61,19 @@ module _ (k : ℕ) (heads head values vs : List ℕ) (fit : Fitting k heads head
   pub part-head-get : (i j : ℕ) → j < 4 → i ≡ 8 + (4 * k + j) → getD (part k heads head values vs) i 0 ≡ getD head j 0
   unfolding part
   part-head-get i j h e =
-      List·getD-append (padded 8 (1 ∷ 0 ∷ suc k ∷ []) ++ padded 56 (heads ++ head)) (padded 448 (values ++ vs)) 0 i (omega (arith, front-length, fit .depth))
+      List·getD-append (padded 8 (1 ∷ 0 ∷ suc k ∷ []) ++ padded 56 (heads ++ head)) (padded 448 (values ++ vs)) 0 i
+      (omega (arith, front-length, fit .depth))
       ∙ ap (λ (n : ℕ). getD (padded 8 (1 ∷ 0 ∷ suc k ∷ []) ++ padded 56 (heads ++ head)) n 0) e
       ∙ get-after (padded 8 (1 ∷ 0 ∷ suc k ∷ [])) (padded 56 (heads ++ head)) 8 (4 * k + j) state-length
       ∙ padded-get 56 (heads ++ head) (4 * k + j) (omega (arith, heads-length))
       ∙ get-after heads head (4 * k) j (fit .headsLong)
 
-  pub part-head-set : (i j x : ℕ) → j < 4 → i ≡ 8 + (4 * k + j) → set (part k heads head values vs) i x ≡ part k heads (set head j x) values vs
+  pub part-head-set : (i j x : ℕ) → j < 4 → i ≡ 8 + (4 * k + j)
+      → set (part k heads head values vs) i x ≡ part k heads (set head j x) values vs
   unfolding part
   part-head-set i j x h e =
-      set-append-left (padded 8 (1 ∷ 0 ∷ suc k ∷ []) ++ padded 56 (heads ++ head)) (padded 448 (values ++ vs)) i x (omega (arith, front-length, fit .depth))
+      set-append-left (padded 8 (1 ∷ 0 ∷ suc k ∷ []) ++ padded 56 (heads ++ head)) (padded 448 (values ++ vs)) i x
+      (omega (arith, front-length, fit .depth))
       ∙ ap (λ (l : List ℕ). l ++ padded 448 (values ++ vs))
       (ap (λ (n : ℕ). set (padded 8 (1 ∷ 0 ∷ suc k ∷ []) ++ padded 56 (heads ++ head)) n x) e
       ∙ set-after (padded 8 (1 ∷ 0 ∷ suc k ∷ [])) (padded 56 (heads ++ head)) 8 (4 * k + j) x state-length
@@ -81,16 +84,21 @@ module _ (k : ℕ) (heads head values vs : List ℕ) (fit : Fitting k heads head
   pub part-value-get : (i j : ℕ) → j < 48 → i ≡ 64 + (48 * k + j) → getD (part k heads head values vs) i 0 ≡ getD vs j 0
   unfolding part
   part-value-get i j h e =
-      ap (λ (n : ℕ). getD (padded 8 (1 ∷ 0 ∷ suc k ∷ []) ++ padded 56 (heads ++ head) ++ padded 448 (values ++ vs)) n 0) e
-      ∙ get-after (padded 8 (1 ∷ 0 ∷ suc k ∷ []) ++ padded 56 (heads ++ head)) (padded 448 (values ++ vs)) 64 (48 * k + j) front-length
+      ap (λ (n : ℕ). getD (padded 8 (1 ∷ 0 ∷ suc k ∷ []) ++ padded 56 (heads ++ head) ++ padded 448 (values ++ vs)) n 0)
+      e
+      ∙ get-after (padded 8 (1 ∷ 0 ∷ suc k ∷ []) ++ padded 56 (heads ++ head)) (padded 448 (values ++ vs)) 64
+      (48 * k + j) front-length
       ∙ padded-get 448 (values ++ vs) (48 * k + j) (omega (arith, values-length))
       ∙ get-after values vs (48 * k) j (fit .valuesLong)
 
-  pub part-value-set : (i j x : ℕ) → j < 48 → i ≡ 64 + (48 * k + j) → set (part k heads head values vs) i x ≡ part k heads head values (set vs j x)
+  pub part-value-set : (i j x : ℕ) → j < 48 → i ≡ 64 + (48 * k + j)
+      → set (part k heads head values vs) i x ≡ part k heads head values (set vs j x)
   unfolding part
   part-value-set i j x h e =
-      ap (λ (n : ℕ). set (padded 8 (1 ∷ 0 ∷ suc k ∷ []) ++ padded 56 (heads ++ head) ++ padded 448 (values ++ vs)) n x) e
-      ∙ set-after (padded 8 (1 ∷ 0 ∷ suc k ∷ []) ++ padded 56 (heads ++ head)) (padded 448 (values ++ vs)) 64 (48 * k + j) x front-length
+      ap (λ (n : ℕ). set (padded 8 (1 ∷ 0 ∷ suc k ∷ []) ++ padded 56 (heads ++ head) ++ padded 448 (values ++ vs)) n x)
+      e
+      ∙ set-after (padded 8 (1 ∷ 0 ∷ suc k ∷ []) ++ padded 56 (heads ++ head)) (padded 448 (values ++ vs)) 64
+      (48 * k + j) x front-length
       ∙ ap (λ (l : List ℕ). padded 8 (1 ∷ 0 ∷ suc k ∷ []) ++ padded 56 (heads ++ head) ++ l)
       (padded-set 448 (values ++ vs) (48 * k + j) x (omega (arith, values-length))
       ∙ ap (padded 448) (set-after values vs (48 * k) j x (fit .valuesLong)))
@@ -107,7 +115,8 @@ valuesBelow fs = flatten (map frameValues (reverse fs))
 flatten-append : (xs ys : List (List ℕ)) → flatten (xs ++ ys) ≡ flatten xs ++ flatten ys
 unfolding flatten
 flatten-append [] ys = refl
-flatten-append (x ∷ xs) ys = ap (λ (l : List ℕ). x ++ l) (flatten-append xs ys) ∙ sym (append-assoc x (flatten xs) (flatten ys))
+flatten-append (x ∷ xs) ys =
+    ap (λ (l : List ℕ). x ++ l) (flatten-append xs ys) ∙ sym (append-assoc x (flatten xs) (flatten ys))
 
 map-append : (g : Frame → List ℕ) (xs ys : List Frame) → map g (xs ++ ys) ≡ map g xs ++ map g ys
 map-append g [] ys = refl
@@ -131,7 +140,8 @@ process-part f fs =
     (last-group headWords f fs)
     (last-group frameValues f fs)
 
-pub process-fitting : (p : List ℕ) (c : Config) (f : Frame) (fs : List Frame) → All (FrameSound p c) (f ∷ fs) → length fs < 8
+pub process-fitting : (p : List ℕ) (c : Config) (f : Frame) (fs : List Frame) → All (FrameSound p c) (f ∷ fs)
+    → length fs < 8
     → Fitting (length fs) (headsBelow fs) (headWords f) (valuesBelow fs) (frameValues f)
 unfolding headsBelow valuesBelow headWords
 process-fitting p c f fs h d = record {
@@ -143,7 +153,8 @@ process-fitting p c f fs h d = record {
   valuesLong =
       flatten-length 48 (map frameValues (reverse fs))
       (All-map (λ g. length g ≡ 48) frameValues (reverse fs)
-      (All-implies (FrameSound p c) (λ g. length (frameValues g) ≡ 48) (frame-length p c) (reverse fs) (All-reverse (FrameSound p c) fs (h .1))))
+      (All-implies (FrameSound p c) (λ g. length (frameValues g) ≡ 48) (frame-length p c) (reverse fs)
+      (All-reverse (FrameSound p c) fs (h .1))))
       ∙ omega (arith, length-map (reverse fs) frameValues, length-reverse fs);
   frameLong = frame-length p c f (h .0);
 }

@@ -59,7 +59,8 @@ value-lengths : (vs : List Value) → All (λ g. length g ≡ 2) (map valueWords
 value-lengths vs = All-map (λ g. length g ≡ 2) valueWords vs (all (λ v. length (valueWords v) ≡ 2) value-length vs)
 
 pub values-size : (vs : List Value) → length (flatten (map valueWords vs)) ≡ length vs * 2
-values-size vs = flatten-length 2 (map valueWords vs) (value-lengths vs) ∙ ap (λ (k : ℕ). k * 2) (length-map vs valueWords)
+values-size vs =
+    flatten-length 2 (map valueWords vs) (value-lengths vs) ∙ ap (λ (k : ℕ). k * 2) (length-map vs valueWords)
 
 -- values written and padded, read back by their number
 values-back : (c : Config) (n k : ℕ) (vs : List Value) (rest : List ℕ) → All (ValueSound c) vs → k ≡ length vs
@@ -67,11 +68,13 @@ values-back : (c : Config) (n k : ℕ) (vs : List Value) (rest : List ℕ) → A
 values-back c n k vs rest h e =
     ap (map valueFrom)
     (groups-padded 2 n k (map valueWords vs) rest (value-lengths vs) (e ∙ sym (length-map vs valueWords)))
-    ∙ map-back valueWords valueFrom vs (All-implies (ValueSound c) (λ v. valueFrom (valueWords v) ≡ v) (value-back c) vs h)
+    ∙ map-back valueWords valueFrom vs
+    (All-implies (ValueSound c) (λ v. valueFrom (valueWords v) ≡ v) (value-back c) vs h)
 
 -- frames
 
-slots-size : (p : List ℕ) (c : Config) (f : Frame) → FrameSound p c f → length (flatten (map valueWords (f .slots))) ≤ 32
+slots-size : (p : List ℕ) (c : Config) (f : Frame) → FrameSound p c f
+    → length (flatten (map valueWords (f .slots))) ≤ 32
 slots-size p c f h = omega (arith, values-size (f .slots), h .width)
 
 pending-size : (p : List ℕ) (c : Config) (f : Frame) → FrameSound p c f
@@ -81,7 +84,8 @@ pending-size p c f h = omega (arith, values-size (reverse (f .pending)), length-
 pub frame-length : (p : List ℕ) (c : Config) (f : Frame) → FrameSound p c f → length (frameValues f) ≡ 48
 unfolding frameValues
 frame-length p c f h =
-    length-append (padded 32 (flatten (map valueWords (f .slots)))) (padded 16 (flatten (map valueWords (reverse (f .pending)))))
+    length-append (padded 32 (flatten (map valueWords (f .slots))))
+    (padded 16 (flatten (map valueWords (reverse (f .pending)))))
     ∙ ap₂ _+_ (padded-length 32 (flatten (map valueWords (f .slots))) (slots-size p c f h))
     (padded-length 16 (flatten (map valueWords (reverse (f .pending)))) (pending-size p c f h))
 
@@ -91,9 +95,11 @@ unfolding frameValues
 pending-back p c f h =
     ap reverse
     (ap (λ (ws : List ℕ). map valueFrom (groups 2 (length (f .pending)) ws))
-    (padded-drop 32 (flatten (map valueWords (f .slots))) (padded 16 (flatten (map valueWords (reverse (f .pending))))) (slots-size p c f h)
+    (padded-drop 32 (flatten (map valueWords (f .slots))) (padded 16 (flatten (map valueWords (reverse (f .pending)))))
+    (slots-size p c f h)
     ∙ sym (append-nil (padded 16 (flatten (map valueWords (reverse (f .pending)))))))
-    ∙ values-back c 16 (length (f .pending)) (reverse (f .pending)) [] (All-reverse (ValueSound c) (f .pending) (h .pending)) (sym (length-reverse (f .pending))))
+    ∙ values-back c 16 (length (f .pending)) (reverse (f .pending)) []
+    (All-reverse (ValueSound c) (f .pending) (h .pending)) (sym (length-reverse (f .pending))))
     ∙ reverse-reverse (f .pending)
 
 frame-back : (p : List ℕ) (c : Config) (f : Frame) → FrameSound p c f → frameFrom (headWords f) (frameValues f) ≡ f
@@ -101,7 +107,9 @@ unfolding frameFrom headWords frameValues
 frame-back p c f h = λ i. record {
   method = f .method;
   place = f .place;
-  slots = values-back c 32 16 (f .slots) (padded 16 (flatten (map valueWords (reverse (f .pending))))) (h .slots) (sym (h .width)) i;
+  slots =
+      values-back c 32 16 (f .slots) (padded 16 (flatten (map valueWords (reverse (f .pending))))) (h .slots)
+      (sym (h .width)) i;
   pending = pending-back p c f h i;
 }
 
@@ -140,7 +148,8 @@ module _ (p : List ℕ) (c : Config) (pr : Process) (h : ProcessSound p c pr) wh
   frame-lengths : All (λ g. length g ≡ 48) (map frameValues (reverse (pr .frames)))
   frame-lengths =
       All-map (λ g. length g ≡ 48) frameValues (reverse (pr .frames))
-      (All-implies (FrameSound p c) (λ f. length (frameValues f) ≡ 48) (frame-length p c) (reverse (pr .frames)) frames-back-to-front)
+      (All-implies (FrameSound p c) (λ f. length (frameValues f) ≡ 48) (frame-length p c) (reverse (pr .frames))
+      frames-back-to-front)
 
   pub heads-size : length (flatten (map headWords (reverse (pr .frames)))) ≤ 56
   heads-size =
@@ -168,7 +177,9 @@ module _ (p : List ℕ) (c : Config) (pr : Process) (h : ProcessSound p c pr) wh
       length-append (stateOf pr ++ headsOf pr) (framesOf pr)
       ∙ ap₂ _+_
       (length-append (stateOf pr) (headsOf pr)
-      ∙ ap₂ _+_ (padded-length 8 (statusWords (pr .status) ++ (length (pr .frames) ∷ [])) (status-size (pr .status) (length (pr .frames))))
+      ∙ ap₂ _+_
+      (padded-length 8 (statusWords (pr .status) ++ (length (pr .frames) ∷ []))
+      (status-size (pr .status) (length (pr .frames))))
       (padded-length 56 (flatten (map headWords (reverse (pr .frames)))) heads-size))
       (padded-length 448 (flatten (map frameValues (reverse (pr .frames)))) values-fit)
 
@@ -176,7 +187,8 @@ module _ (p : List ℕ) (c : Config) (pr : Process) (h : ProcessSound p c pr) wh
   unfolding processWords
   part-heads =
       ap (drop 8) (append-assoc (stateOf pr) (headsOf pr) (framesOf pr))
-      ∙ padded-drop 8 (statusWords (pr .status) ++ (length (pr .frames) ∷ [])) (headsOf pr ++ framesOf pr) (status-size (pr .status) (length (pr .frames)))
+      ∙ padded-drop 8 (statusWords (pr .status) ++ (length (pr .frames) ∷ [])) (headsOf pr ++ framesOf pr)
+      (status-size (pr .status) (length (pr .frames)))
 
   part-values : drop 64 (processWords pr) ≡ framesOf pr
   part-values =
@@ -189,26 +201,34 @@ module _ (p : List ℕ) (c : Config) (pr : Process) (h : ProcessSound p c pr) wh
   values-count : length (pr .frames) ≡ length (map frameValues (reverse (pr .frames)))
   values-count = sym (length-map (reverse (pr .frames)) frameValues ∙ length-reverse (pr .frames))
 
-  frames-back : reverse (zipWith frameFrom (groups 4 (length (pr .frames)) (drop 8 (processWords pr))) (groups 48 (length (pr .frames)) (drop 64 (processWords pr)))) ≡ pr .frames
+  frames-back :
+      reverse
+      (zipWith frameFrom (groups 4 (length (pr .frames)) (drop 8 (processWords pr)))
+      (groups 48 (length (pr .frames)) (drop 64 (processWords pr)))) ≡ pr .frames
   frames-back =
       ap reverse
       (ap₂ (zipWith frameFrom)
       (ap (groups 4 (length (pr .frames))) part-heads
-      ∙ groups-padded 4 56 (length (pr .frames)) (map headWords (reverse (pr .frames))) (framesOf pr) (head-lengths (reverse (pr .frames))) frames-count)
+      ∙ groups-padded 4 56 (length (pr .frames)) (map headWords (reverse (pr .frames))) (framesOf pr)
+      (head-lengths (reverse (pr .frames))) frames-count)
       (ap (groups 48 (length (pr .frames))) (part-values ∙ sym (append-nil (framesOf pr)))
-      ∙ groups-padded 48 448 (length (pr .frames)) (map frameValues (reverse (pr .frames))) [] frame-lengths values-count)
+      ∙ groups-padded 48 448 (length (pr .frames)) (map frameValues (reverse (pr .frames))) [] frame-lengths
+      values-count)
       ∙ zip-back headWords frameValues frameFrom (reverse (pr .frames))
-      (All-implies (FrameSound p c) (λ f. frameFrom (headWords f) (frameValues f) ≡ f) (frame-back p c) (reverse (pr .frames)) frames-back-to-front))
+      (All-implies (FrameSound p c) (λ f. frameFrom (headWords f) (frameValues f) ≡ f) (frame-back p c)
+      (reverse (pr .frames)) frames-back-to-front))
       ∙ reverse-reverse (pr .frames)
 
 part-status : (st : Status) (n : ℕ) (heads values : List ℕ)
-    → statusFrom (getD (padded 8 (statusWords st ++ (n ∷ [])) ++ heads ++ values) 0 0) (getD (padded 8 (statusWords st ++ (n ∷ [])) ++ heads ++ values) 1 0) ≡ st
+    → statusFrom (getD (padded 8 (statusWords st ++ (n ∷ [])) ++ heads ++ values) 0 0)
+    (getD (padded 8 (statusWords st ++ (n ∷ [])) ++ heads ++ values) 1 0) ≡ st
 unfolding statusFrom statusWords padded
 part-status running n heads values = refl
 part-status finished n heads values = refl
 part-status (stopped f) n heads values = refl
 
-part-count : (st : Status) (n : ℕ) (heads values : List ℕ) → getD (padded 8 (statusWords st ++ (n ∷ [])) ++ heads ++ values) 2 0 ≡ n
+part-count : (st : Status) (n : ℕ) (heads values : List ℕ)
+    → getD (padded 8 (statusWords st ++ (n ∷ [])) ++ heads ++ values) 2 0 ≡ n
 unfolding statusWords padded
 part-count running n heads values = refl
 part-count finished n heads values = refl
@@ -220,7 +240,8 @@ process-back p c pr h = λ i. record {
   status = part-status (pr .status) (length (pr .frames)) (headsOf pr) (framesOf pr) i;
   frames =
       (ap
-      (λ (n : ℕ). reverse (zipWith frameFrom (groups 4 n (drop 8 (processWords pr))) (groups 48 n (drop 64 (processWords pr)))))
+      (λ (n : ℕ). reverse
+      (zipWith frameFrom (groups 4 n (drop 8 (processWords pr))) (groups 48 n (drop 64 (processWords pr)))))
       (part-count (pr .status) (length (pr .frames)) (headsOf pr) (framesOf pr))
       ∙ frames-back p c pr h) i;
 }
@@ -231,18 +252,25 @@ module _ (p : List ℕ) (c : Config) (h : ConfigSound p c) where
   process-lengths : All (λ g. length g ≡ 512) (map processWords (c .processes))
   process-lengths =
       All-map (λ g. length g ≡ 512) processWords (c .processes)
-      (All-implies (ProcessSound p c) (λ pr. length (processWords pr) ≡ 512) (process-length p c) (c .processes) (h .processes))
+      (All-implies (ProcessSound p c) (λ pr. length (processWords pr) ≡ 512) (process-length p c) (c .processes)
+      (h .processes))
 
   processes-size : length (flatten (map processWords (c .processes))) ≤ 7680
   processes-size =
-      omega
-      (arith, flatten-length 512 (map processWords (c .processes)) process-lengths, length-map (c .processes) processWords, h .processCount)
+      omega (
+        arith,
+        flatten-length 512 (map processWords (c .processes)) process-lengths,
+        length-map (c .processes)
+            processWords,
+        h .processCount,
+      )
 
   -- the words of a configuration are 8,192
   pub encode-length : length (encode c) ≡ 8192
   unfolding encode
   encode-length =
-      length-append (padded 512 (length (c .processes) ∷ c .qubits ∷ c .channels ∷ [])) (padded 7680 (flatten (map processWords (c .processes))))
+      length-append (padded 512 (length (c .processes) ∷ c .qubits ∷ c .channels ∷ []))
+      (padded 7680 (flatten (map processWords (c .processes))))
       ∙ ap₂ _+_ (padded-length 512 (length (c .processes) ∷ c .qubits ∷ c .channels ∷ []) (omega arith))
       (padded-length 7680 (flatten (map processWords (c .processes))) processes-size)
 
@@ -250,12 +278,15 @@ module _ (p : List ℕ) (c : Config) (h : ConfigSound p c) where
   unfolding encode
   processes-back =
       ap (λ (ws : List ℕ). map processFrom (groups 512 (length (c .processes)) ws))
-      (padded-drop 512 (length (c .processes) ∷ c .qubits ∷ c .channels ∷ []) (padded 7680 (flatten (map processWords (c .processes)))) (omega arith)
+      (padded-drop 512 (length (c .processes) ∷ c .qubits ∷ c .channels ∷ [])
+      (padded 7680 (flatten (map processWords (c .processes)))) (omega arith)
       ∙ sym (append-nil (padded 7680 (flatten (map processWords (c .processes))))))
       ∙ ap (map processFrom)
-      (groups-padded 512 7680 (length (c .processes)) (map processWords (c .processes)) [] process-lengths (sym (length-map (c .processes) processWords)))
+      (groups-padded 512 7680 (length (c .processes)) (map processWords (c .processes)) [] process-lengths
+      (sym (length-map (c .processes) processWords)))
       ∙ map-back processWords processFrom (c .processes)
-      (All-implies (ProcessSound p c) (λ pr. processFrom (processWords pr) ≡ pr) (process-back p c) (c .processes) (h .processes))
+      (All-implies (ProcessSound p c) (λ pr. processFrom (processWords pr) ≡ pr) (process-back p c) (c .processes)
+      (h .processes))
 
   -- a configuration is read back from its words
   pub decode-encode : decode (encode c) ≡ c

@@ -22,9 +22,11 @@ use Rattle.layout.proofs.RoundTrip.{all, value-length, values-size, fra
 
 -- words of concatenated and of padded lists
 
-zero-split : (xs ys : List ℕ) (n w : ℕ) → length xs ≡ n → (w < n → getD xs w 0 ≡ 0) → ((i : ℕ) → w ≡ n + i → getD ys i 0 ≡ 0)
+zero-split : (xs ys : List ℕ) (n w : ℕ) → length xs ≡ n → (w < n → getD xs w 0 ≡ 0)
+    → ((i : ℕ) → w ≡ n + i → getD ys i 0 ≡ 0)
     → getD (xs ++ ys) w 0 ≡ 0
-zero-split xs ys n w e first rest = ⊎-elim (λ h. left (ltb-true w n h)) (λ h. right (ltb-false w n h)) (decide (ltb w n))
+zero-split xs ys n w e first rest =
+    ⊎-elim (λ h. left (ltb-true w n h)) (λ h. right (ltb-false w n h)) (decide (ltb w n))
   where
     left : w < n → getD (xs ++ ys) w 0 ≡ 0
     left h = List·getD-append xs ys 0 w (omega (arith, e)) ∙ first h
@@ -37,15 +39,18 @@ zero-split xs ys n w e first rest = ⊎-elim (λ h. left (ltb-true w n h)) (λ h
 zeros : (n i : ℕ) → _≡_ {A = ℕ} (getD (replicate n 0) i 0) 0
 zeros n i =
     ⊎-elim (λ h. getD-replicate n i 0 0 (ltb-true i n h))
-    (λ h. List·getD-eq-default (replicate n 0) 0 (omega (arith, ltb-false i n h, length-replicate {A = ℕ} n 0))) (decide (ltb i n))
+    (λ h. List·getD-eq-default (replicate n 0) 0 (omega (arith, ltb-false i n h, length-replicate {A = ℕ} n 0)))
+    (decide (ltb i n))
 
 -- padding adds nothing but 0
 zero-padded : (n : ℕ) (ws : List ℕ) (w : ℕ) → getD ws w 0 ≡ 0 → getD (padded n ws) w 0 ≡ 0
 unfolding padded
-zero-padded n ws w e = zero-split ws (replicate (n - length ws) 0) (length ws) w refl (λ h. e) (λ i h. zeros (n - length ws) i)
+zero-padded n ws w e =
+    zero-split ws (replicate (n - length ws) 0) (length ws) w refl (λ h. e) (λ i h. zeros (n - length ws) i)
 
 -- words padded to n, and what follows them
-zero-stretch : (n : ℕ) (xs ys : List ℕ) (w : ℕ) → length xs ≤ n → (w < n → getD xs w 0 ≡ 0) → ((i : ℕ) → w ≡ n + i → getD ys i 0 ≡ 0)
+zero-stretch : (n : ℕ) (xs ys : List ℕ) (w : ℕ) → length xs ≤ n → (w < n → getD xs w 0 ≡ 0)
+    → ((i : ℕ) → w ≡ n + i → getD ys i 0 ≡ 0)
     → getD (padded n xs ++ ys) w 0 ≡ 0
 zero-stretch n xs ys w fit first rest =
     zero-split (padded n xs) ys n w (padded-length n xs fit) (λ h. zero-padded n xs w (first h)) rest
@@ -58,8 +63,10 @@ zero-groups : {A : Type 0} (g : A → List ℕ) (size : ℕ) (d : A) (P : A → 
 unfolding flatten
 zero-groups g size d P sized [] w a h = refl
 zero-groups g size d P sized (x ∷ xs) w a h =
-    zero-split (g x) (flatten (map g xs)) size w (sized x (a .0)) (λ l. h 0 w (omega arith) (omega (arith, zero-mul size)) (a .0))
-    (λ j e. zero-groups g size d P sized xs j (a .1) (λ n i l q. h (suc n) i (omega (arith, l)) (omega (arith, e, q, suc-mul n size))))
+    zero-split (g x) (flatten (map g xs)) size w (sized x (a .0))
+    (λ l. h 0 w (omega arith) (omega (arith, zero-mul size)) (a .0))
+    (λ j e. zero-groups g size d P sized xs j (a .1)
+    (λ n i l q. h (suc n) i (omega (arith, l)) (omega (arith, e, q, suc-mul n size))))
 
 -- values
 
@@ -76,7 +83,8 @@ zero-value v (suc (suc i)) h = List·getD-eq-default (valueWords v) 0 (omega (ar
 zero-run : (vs : List Value) (w : ℕ) → ((s i : ℕ) → s < length vs → w ≡ 2 * s + i → InValue (getD vs s empty) i → ⊥)
     → getD (flatten (map valueWords vs)) w 0 ≡ 0
 zero-run vs w h =
-    zero-groups valueWords 2 empty (λ v. length (valueWords v) ≡ 2) (λ v e. e) vs w (all (λ v. length (valueWords v) ≡ 2) value-length vs)
+    zero-groups valueWords 2 empty (λ v. length (valueWords v) ≡ 2) (λ v e. e) vs w
+    (all (λ v. length (valueWords v) ≡ 2) value-length vs)
     (λ s i l e q. zero-value (getD vs s empty) i (h s i l (omega (arith, e))))
 
 -- frames
@@ -85,13 +93,15 @@ module _ (p : List ℕ) (c : Config) (f : Frame) (sound : FrameSound p c f) wher
   zero-frame : (i : ℕ) → (InValues f i → ⊥) → getD (frameValues f) i 0 ≡ 0
   unfolding frameValues
   zero-frame i h =
-      zero-stretch 32 (flatten (map valueWords (f .slots))) (padded 16 (flatten (map valueWords (reverse (f .pending))))) i
+      zero-stretch 32 (flatten (map valueWords (f .slots)))
+      (padded 16 (flatten (map valueWords (reverse (f .pending))))) i
       (omega (arith, values-size (f .slots), sound .width))
       (λ l. zero-run (f .slots) i (λ s j m e u. h (subst (InValues f) (sym e) (slot s j m u))))
       (λ j e.
       zero-padded 16 (flatten (map valueWords (reverse (f .pending)))) j
       (zero-run (reverse (f .pending)) j (λ d k m q u.
-      h (subst (InValues f) (sym (e ∙ ap (λ (n : ℕ). 32 + n) q)) (pending d k (omega (arith, m, length-reverse (f .pending))) u)))))
+      h (subst (InValues f) (sym (e ∙ ap (λ (n : ℕ). 32 + n) q))
+      (pending d k (omega (arith, m, length-reverse (f .pending))) u)))))
 
 -- the head of a frame has a fourth word
 head-length : (f : Frame) → length (headWords f) ≡ 4
@@ -128,7 +138,8 @@ module _ (p : List ℕ) (c : Config) (pr : Process) (sound : ProcessSound p c pr
       ∙ zero-stretch 8 state (padded 56 heads ++ padded 448 frames) i (status-size (pr .status) (length (pr .frames)))
       (λ l. zero-status pr (pr .status) refl i h)
       (λ j e.
-      zero-stretch 56 heads (padded 448 frames) j (heads-size p c pr sound) (λ l. in-heads j e) (λ k q. zero-padded 448 frames k (in-frames k (omega (arith, e, q)))))
+      zero-stretch 56 heads (padded 448 frames) j (heads-size p c pr sound) (λ l. in-heads j e)
+      (λ k q. zero-padded 448 frames k (in-frames k (omega (arith, e, q)))))
     where
       state : List ℕ
       state = statusWords (pr .status) ++ (length (pr .frames) ∷ [])
@@ -144,7 +155,8 @@ module _ (p : List ℕ) (c : Config) (pr : Process) (sound : ProcessSound p c pr
 
       in-heads : (j : ℕ) → i ≡ 8 + j → getD heads j 0 ≡ 0
       in-heads j e =
-          zero-groups headWords 4 noFrame (λ f. length (headWords f) ≡ 4) (λ f m. m) (reverse (pr .frames)) j (all (λ f. length (headWords f) ≡ 4) head-length (reverse (pr .frames)))
+          zero-groups headWords 4 noFrame (λ f. length (headWords f) ≡ 4) (λ f m. m) (reverse (pr .frames)) j
+          (all (λ f. length (headWords f) ≡ 4) head-length (reverse (pr .frames)))
           (λ f k l q m. zero-head (frameAt pr f) k (λ u. h (subst (InPart pr) (place f k q) (head f k (within f l) u))))
         where
           place : (f k : ℕ) → j ≡ f * 4 + k → 8 + (4 * f + k) ≡ i
@@ -152,8 +164,10 @@ module _ (p : List ℕ) (c : Config) (pr : Process) (sound : ProcessSound p c pr
 
       in-frames : (j : ℕ) → i ≡ 64 + j → getD frames j 0 ≡ 0
       in-frames j e =
-          zero-groups frameValues 48 noFrame (FrameSound p c) (frame-length p c) (reverse (pr .frames)) j (All-reverse (FrameSound p c) (pr .frames) (sound .frames))
-          (λ f k l q m. zero-frame p c (frameAt pr f) m k (λ u. h (subst (InPart pr) (place f k q) (values f k (within f l) u))))
+          zero-groups frameValues 48 noFrame (FrameSound p c) (frame-length p c) (reverse (pr .frames)) j
+          (All-reverse (FrameSound p c) (pr .frames) (sound .frames))
+          (λ f k l q m. zero-frame p c (frameAt pr f) m k
+          (λ u. h (subst (InPart pr) (place f k q) (values f k (within f l) u))))
         where
           place : (f k : ℕ) → j ≡ f * 48 + k → 64 + (48 * f + k) ≡ i
           place f k q = omega (arith, e, q)
@@ -163,7 +177,8 @@ module _ (p : List ℕ) (c : Config) (pr : Process) (sound : ProcessSound p c pr
 pub unused-zero : (p : List ℕ) (c : Config) → ConfigSound p c → (w : ℕ) → (InStore c w → ⊥) → getD (encode c) w 0 ≡ 0
 unfolding encode processAt
 unused-zero p c sound w h =
-    zero-stretch 512 (length (c .processes) ∷ c .qubits ∷ c .channels ∷ []) (padded 7680 (flatten (map processWords (c .processes)))) w (omega arith)
+    zero-stretch 512 (length (c .processes) ∷ c .qubits ∷ c .channels ∷ [])
+    (padded 7680 (flatten (map processWords (c .processes)))) w (omega arith)
     (λ l. first w h) (λ j e. zero-padded 7680 (flatten (map processWords (c .processes))) j (rest j e))
   where
     first : (i : ℕ) → (InStore c i → ⊥) → getD (length (c .processes) ∷ c .qubits ∷ c .channels ∷ []) i 0 ≡ 0

@@ -1,5 +1,5 @@
--- The places of the layout that a configuration uses, as the head of Layout.antt and docs/LAYOUT.md name them. That every
--- other word of it is 0 ("unused places 0") is proved in proofs/Unused.antt.
+-- The places of the layout that a configuration uses, as the head of Layout.antt and docs/LAYOUT.md name them. That
+-- every other word of it is 0 ("unused places 0") is proved in proofs/Unused.antt.
 use Prim.Native.Nat.{ℕ, _+_, _*_, _<_}
 use mathlib.Core.Path.{_≡_}
 use mathlib.Core.Bool.{false}

@@ -74,7 +74,8 @@ module _ {A B : Type 0} {R : A → B → Type 0} where
   both-pad x f (suc n) k xs [] h nil = nil
   both-pad x f (suc n) k xs (y ∷ ys) h (cons r b) = cons r (both-pad x f n k _ ys (omega arith) b)
 
-  pub both-all : {P : A → Type 0} → ((x : A) (y : B) → R x y → P x) → {xs : List A} {ys : List B} → Both R xs ys → All P xs
+  pub both-all : {P : A → Type 0} → ((x : A) (y : B) → R x y → P x) → {xs : List A} {ys : List B} → Both R xs ys
+      → All P xs
   both-all f nil = tt
   both-all f (cons r h) = (f _ _ r, both-all f h)
 
@@ -85,7 +86,8 @@ module _ {A B : Type 0} {R : A → B → Type 0} where
   both-none f (cons {x} {xs} r h) t = let n = or-no (f x) (any f xs) t in cons (n .0, r) (both-none f h (n .1))
 
 -- another relation, along a map of the first list
-pub both-map : {A B C : Type 0} {R : A → B → Type 0} {S : C → B → Type 0} (g : A → C) → ((x : A) (y : B) → R x y → S (g x) y)
+pub both-map : {A B C : Type 0} {R : A → B → Type 0} {S : C → B → Type 0} (g : A → C)
+    → ((x : A) (y : B) → R x y → S (g x) y)
     → {xs : List A} {ys : List B} → Both R xs ys → Both S (map g xs) ys
 both-map g f nil = nil
 both-map g f (cons r h) = cons (f _ _ r) (both-map g f h)

@@ -1,5 +1,6 @@
 -- Tests at the indices below a number: the laws of `firstFalse`, `allBelow`, `firstSome` and `below`.
--- `firstFalse f n` is the one number up to n below which every test passes and at which, if it is below n, the test fails.
+-- `firstFalse f n` is the one number up to n below which every test passes and at which, if it is below n, the test
+-- fails.
 use Prim.Native.Nat.{ℕ, zero, suc, _+_, _≤_, _<_}
 use native.Mathlib.Omega.{arith}
 use native.Mathlib.Nat.{eq-or-lt-of-le, le-of-suc-le-suc}

@@ -30,16 +30,19 @@ put-then out at xs ys {mid} {end} {i} {j} (p, q) (s, t) = (
 )
 
 -- the same elements under another name
-pub put-same : (out : List ℕ) (at : ℕ) {xs ys : List ℕ} {end : List ℕ} {j : ℕ} → xs ≡ ys → Put out at xs end j → Put out at ys end j
+pub put-same : (out : List ℕ) (at : ℕ) {xs ys : List ℕ} {end : List ℕ} {j : ℕ} → xs ≡ ys → Put out at xs end j
+    → Put out at ys end j
 put-same out at e (p, q) = (p ∙ ap (putFrom out at) e, q ∙ ap (λ (l : List ℕ). at + length l) e)
 
 -- where they fit, they stand after what was there
 pub putFrom-take : (out : List ℕ) (at : ℕ) (bs : List ℕ) → at + length bs ≤ length out
     → take (at + length bs) (putFrom out at bs) ≡ take at out ++ bs
 unfolding putFrom
-putFrom-take out at [] h = ap (λ (i : ℕ). take i out) {x = at + 0} {y = at} (omega arith) ∙ sym (append-nil (take at out))
+putFrom-take out at [] h =
+    ap (λ (i : ℕ). take i out) {x = at + 0} {y = at} (omega arith) ∙ sym (append-nil (take at out))
 putFrom-take out at (b ∷ bs) h =
-    ap (λ (i : ℕ). take i (putFrom (set out at b) (suc at) bs)) {x = at + suc (length bs)} {y = suc at + length bs} (omega arith)
+    ap (λ (i : ℕ). take i (putFrom (set out at b) (suc at) bs)) {x = at + suc (length bs)} {y = suc at + length bs}
+    (omega arith)
     ∙ putFrom-take (set out at b) (suc at) bs (omega (arith, length-set out at b))
     ∙ ap (λ (l : List ℕ). l ++ bs) (take-suc-set out at b (omega arith))
     ∙ append-snoc (take at out) b bs

@@ -53,6 +53,7 @@ cond-both P true p q = p
 cond-both P false p q = q
 
 -- the same, where each branch may use how the test came out
-pub cond-each : {A : Type 0} (P : A → Type 0) (b : Bool) {x y : A} → (b ≡ true → P x) → (b ≡ false → P y) → P (cond b x y)
+pub cond-each : {A : Type 0} (P : A → Type 0) (b : Bool) {x y : A} → (b ≡ true → P x) → (b ≡ false → P y)
+    → P (cond b x y)
 cond-each P true p q = p refl
 cond-each P false p q = q refl

@@ -28,7 +28,8 @@ tests n o0 l0 o1 l1 o2 l2 =
     && eqb (l0 % 2) 0
 
 wellBuilt-tests : (bytes : List ℕ)
-    → tests (length bytes) (numberAt bytes 0) (numberAt bytes 4) (numberAt bytes 8) (numberAt bytes 12) (numberAt bytes 16)
+    → tests (length bytes) (numberAt bytes 0) (numberAt bytes 4) (numberAt bytes 8) (numberAt bytes 12)
+    (numberAt bytes 16)
     (numberAt bytes 20)
     ≡ wellBuilt bytes
 unfolding wellBuilt
@@ -56,7 +57,8 @@ wordsOf-at (b ∷ []) i h = absurd (not-suc-le-zero h)
 wordsOf-at (b ∷ d ∷ bytes) zero h = refl
 wordsOf-at (b ∷ d ∷ bytes) (suc i) h =
     wordsOf-at bytes i (omega arith)
-    ∙ ap₂ (λ (x y : ℕ). x + 256 * y) (byte (2 * i) (2 * suc i) (omega arith)) (byte (2 * i + 1) (2 * suc i + 1) (omega arith))
+    ∙ ap₂ (λ (x y : ℕ). x + 256 * y) (byte (2 * i) (2 * suc i) (omega arith))
+    (byte (2 * i + 1) (2 * suc i + 1) (omega arith))
   where
     byte : (i j : ℕ) → j ≡ 2 + i → getD bytes i 0 ≡ getD (b ∷ d ∷ bytes) j 0
     byte i j p = ap (λ (m : ℕ). getD (b ∷ d ∷ bytes) m 0) {x = suc (suc i)} {y = j} (omega arith)

@@ -1,6 +1,6 @@
-// The input file: "at most 65,536 bytes: three pairs (offset, length) of 32-bit numbers, lowest byte first". Answered are
-// whether a file is well built, the numbers in it, and the words of a part of it, for any bytes: a byte past the end reads
-// as 0, so that nothing is asked of the caller.
+// The input file: "at most 65,536 bytes: three pairs (offset, length) of 32-bit numbers, lowest byte first". Answered
+// are whether a file is well built, the numbers in it, and the words of a part of it, for any bytes: a byte past the
+// end reads as 0, so that nothing is asked of the caller.
 ghost use mathlib.Core.Path.{_≡_};
 ghost use Prim.Native.Nat.{_+_, _*_, _<_};
 ghost use lib.ListN.{getD, set, take, drop, length};

@@ -35,7 +35,8 @@ pub columnsText-length : (used : ℕ) (l : TraceLine) → length (columnsText us
 unfolding columnsText
 columnsText-length used l =
     simp length-append
-    (omega (arith, column-length (ltb 0 used) (l .a), column-length (ltb 1 used) (l .b), column-length (ltb 2 used) (l .c)))
+    (omega
+    (arith, column-length (ltb 0 used) (l .a), column-length (ltb 1 used) (l .b), column-length (ltb 2 used) (l .c)))
 
 -- a line is its two halves and a newline
 pub lineText-halves : (l : TraceLine)

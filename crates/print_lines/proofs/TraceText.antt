@@ -37,7 +37,8 @@ linesText-append : (ls ms : List Line) → linesText (ls ++ ms) ≡ linesText ls
 unfolding linesText
 linesText-append [] ms = refl
 linesText-append (l ∷ ls) ms =
-    ap (λ (t : List ℕ). lineText l ++ t) (linesText-append ls ms) ∙ sym (append-assoc (lineText l) (linesText ls) (linesText ms))
+    ap (λ (t : List ℕ). lineText l ++ t) (linesText-append ls ms)
+    ∙ sym (append-assoc (lineText l) (linesText ls) (linesText ms))
 
 -- one line more
 pub linesText-next : (ls : List Line) (i : ℕ) → i < length ls

@@ -80,7 +80,8 @@ fn put_columns(out: &mut [u8], at: usize, used: u16, l: TraceLine) -> usize
     put_column(out, j, 2 < used, l.c as u64)
 }
 
-// How many of the columns a, b and c a line uses, by its kind: a gate on one qubit, kind 3 with a from 1 to 5, has no c.
+// How many of the columns a, b and c a line uses, by its kind: a gate on one qubit, kind 3 with a from 1 to 5, has no
+// c.
 pub fn columns_used(l: TraceLine) -> u16
     ensures { λ r. ⌜ r ≡ columnsUsed (asLine l) ⌝ }
 {

@@ -42,6 +42,7 @@ printed-length bytes =
     (omega (arith, refusedText-length 9 0))
 
 -- so a buffer of 524,288 bytes holds it
-pub text-fits : (bytes out : List ℕ) {out' : List ℕ} {r : ℕ} → length out ≡ 524288 → Prints out (printed bytes) out' r → r ≤ length out'
+pub text-fits : (bytes out : List ℕ) {out' : List ℕ} {r : ℕ} → length out ≡ 524288 → Prints out (printed bytes) out' r
+    → r ≤ length out'
 text-fits bytes out h (p, q) =
     omega (arith, h, q, printed-length bytes, ap length p, putFrom-length out 0 (printed bytes))

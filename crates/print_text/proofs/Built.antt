@@ -67,13 +67,17 @@ module _ (bytes : List ℕ) (b : Built bytes) where
         ∙ putFrom-take buffer 0 words (omega (arith, few, room))
         ∙ ap₂ (λ (i k : ℕ). wordsOf (take k (drop i bytes))) p q
 
-  pub schedule-read : {a e : ℕ} → a ≡ offsetAt bytes 1 → e ≡ offsetAt bytes 2 → take (e - a) (drop a bytes) ≡ partOf bytes 1
+  pub schedule-read : {a e : ℕ} → a ≡ offsetAt bytes 1 → e ≡ offsetAt bytes 2
+      → take (e - a) (drop a bytes) ≡ partOf bytes 1
   unfolding partOf
-  schedule-read {a} {e} p q = ap₂ (λ (k i : ℕ). take k (drop i bytes)) {x = e - a} {y = lengthAt bytes 1} (omega (arith, p, q, b .outcomes)) p
+  schedule-read {a} {e} p q =
+      ap₂ (λ (k i : ℕ). take k (drop i bytes)) {x = e - a} {y = lengthAt bytes 1} (omega (arith, p, q, b .outcomes)) p
 
   pub outcomes-read : {a : ℕ} → a ≡ offsetAt bytes 2 → take (length bytes - a) (drop a bytes) ≡ partOf bytes 2
   unfolding partOf
-  outcomes-read {a} p = ap₂ (λ (k i : ℕ). take k (drop i bytes)) {x = length bytes - a} {y = lengthAt bytes 2} (omega (arith, p, b .end)) p
+  outcomes-read {a} p =
+      ap₂ (λ (k i : ℕ). take k (drop i bytes)) {x = length bytes - a} {y = lengthAt bytes 2} (omega (arith, p, b .end))
+      p
 
   -- the parts stand in the file one after the other
   pub in-order : {a e : ℕ} → a ≡ offsetAt bytes 1 → e ≡ offsetAt bytes 2 → (a ≤ e) × (e ≤ length bytes)
@@ -84,7 +88,8 @@ parts-text e f g = λ i. runText (e i) (f i) (g i)
 
 -- what is printed, by the file's being well built
 module _ (bytes : List ℕ) where
-  pub printed-run : wellBuilt bytes ≡ true → runText (wordsOf (partOf bytes 0)) (partOf bytes 1) (partOf bytes 2) ≡ printed bytes
+  pub printed-run : wellBuilt bytes ≡ true
+      → runText (wordsOf (partOf bytes 0)) (partOf bytes 1) (partOf bytes 2) ≡ printed bytes
   unfolding printed
   printed-run e = rw e
 

@@ -38,13 +38,15 @@ from-fits p outcomes room s k (n ∷ schedule) h =
     cond-both Fine (allOver s) h
     (cond-both Fine (noneAble p outcomes s) h
     (cond-each Fine (fits room s (effectOf p outcomes k s n))
-    (λ e. from-fits p outcomes room (afterEffect s (effectOf p outcomes k s n)) (suc k) schedule (taken p outcomes room s k n e))
+    (λ e. from-fits p outcomes room (afterEffect s (effectOf p outcomes k s n)) (suc k) schedule
+    (taken p outcomes room s k n e))
     (λ e. h)))
   where
     Fine : Result → Type 0
     Fine r = length (r .state .lines) ≤ room
 
-pub lines-fit : (p outcomes : List ℕ) (room : ℕ) (schedule : List ℕ) → length (run p outcomes room schedule .state .lines) ≤ room
+pub lines-fit : (p outcomes : List ℕ) (room : ℕ) (schedule : List ℕ)
+    → length (run p outcomes room schedule .state .lines) ≤ room
 unfolding runIn startWith
 lines-fit p outcomes room schedule = from-fits p outcomes room (start p) 0 schedule (omega arith)
 
@@ -53,7 +55,12 @@ module _ (ls : List Line) (trace : List ℕ) where
   pub lines-held : length ls ≤ length (linesOf (traceAfter ls trace))
   unfolding traceAfter
   lines-held =
-      omega (arith, linesOf-length (traceAfter ls trace), length-append (traceWords ls) (drop (length (traceWords ls)) trace), trace-length ls)
+      omega (
+        arith,
+        linesOf-length (traceAfter ls trace),
+        length-append (traceWords ls) (drop (length (traceWords ls)) trace),
+        trace-length ls,
+      )
 
   pub lines-read : take (length ls) (linesOf (traceAfter ls trace)) ≡ ls
   lines-read =

@@ -74,5 +74,6 @@ module _ (p schedule outcomes trace work : List ℕ) (t : length trace ≡ 24576
         text =
             rw (e, f)
             (text
-            ∙ ap₂ (λ (m n : ℕ). answerText (run p outcomes m schedule .state .lines) (answerOf p schedule outcomes m n)) lines w);
+            ∙ ap₂ (λ (m n : ℕ). answerText (run p outcomes m schedule .state .lines) (answerOf p schedule outcomes m n))
+            lines w);
       }

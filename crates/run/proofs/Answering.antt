@@ -39,7 +39,8 @@ module _ (p schedule outcomes trace work : List ℕ) where
   abbrev verdict : Verdict
   verdict = questions p schedule outcomes (length work)
 
-  pub accepts : (c : Check) {v : Refusal} → verdictOf c ≡ verdict → v ≡ refusalOf (verdictOf c) → v .number ≡ 0 → verdict ≡ accepted
+  pub accepts : (c : Check) {v : Refusal} → verdictOf c ≡ verdict → v ≡ refusalOf (verdictOf c) → v .number ≡ 0
+      → verdict ≡ accepted
   accepts c asked said e = sym asked ∙ number-zero c (sym (ap (λ (r : Refusal). r .number) said) ∙ e)
 
   pub refuses : (c : Check) {v : Refusal} → verdictOf c ≡ verdict → v ≡ refusalOf (verdictOf c) → (v .number ≡ 0 → ⊥)
@@ -50,21 +51,29 @@ module _ (p schedule outcomes trace work : List ℕ) where
     where
       go : (x : Verdict) → verdict ≡ x
           → (refusal (v .number) (v .place) ≡ machine.unlessRefused x (run p outcomes (linesIn (length trace)) schedule))
-          × (trace ≡ keptIfRefused x trace (traceAfter (run p outcomes (linesIn (length trace)) schedule .state .lines) trace))
-          × (work ≡ keptIfRefused x work (storeAfter (run p outcomes (linesIn (length trace)) schedule .state .config) work))
+          ×
+          (trace ≡ keptIfRefused x trace
+          (traceAfter (run p outcomes (linesIn (length trace)) schedule .state .lines) trace))
+          ×
+          (work ≡ keptIfRefused x work
+          (storeAfter (run p outcomes (linesIn (length trace)) schedule .state .config) work))
       go accepted e = absurd (ne (ap (λ (r : Refusal). r .number) (said ∙ ap refusalOf (asked ∙ e))))
-      go (refused n i) e = (ap (λ (r : Refusal). refusal (r .number) (r .place)) (said ∙ ap refusalOf (asked ∙ e)), refl, refl)
+      go (refused n i) e =
+          (ap (λ (r : Refusal). refusal (r .number) (r .place)) (said ∙ ap refusalOf (asked ∙ e)), refl, refl)
 
   pub ran-so : {o : RunSummary} {trace′ work′ : List ℕ} → verdict ≡ accepted
       → afterRun o trace′ work′ ≡ runLeaves (run p outcomes (linesIn (length trace)) schedule) trace work
-      → (ran (o .end) (o .entries) (o .lines) (o .used) ≡ answerOf p schedule outcomes (linesIn (length trace)) (length work))
+      → (ran (o .end) (o .entries) (o .lines) (o .used) ≡ answerOf p schedule outcomes (linesIn (length trace))
+      (length work))
       × (trace′ ≡ traceLeft p schedule outcomes trace work) × (work′ ≡ storeLeft p schedule outcomes trace work)
   unfolding answerOf resultAnswer machine.unlessRefused traceLeft storeLeft keptIfRefused runLeaves
   ran-so ok e = (
     ap (λ (l : AfterRun). ran (l .summary .end) (l .summary .entries) (l .summary .lines) (l .summary .used)) e
         ∙ sym (ap (λ (x : Verdict). machine.unlessRefused x (run p outcomes (linesIn (length trace)) schedule)) ok),
     ap (λ (l : AfterRun). l .trace) e
-        ∙ sym (ap (λ (x : Verdict). keptIfRefused x trace (traceAfter (run p outcomes (linesIn (length trace)) schedule .state .lines) trace)) ok),
+        ∙ sym
+        (ap (λ (x : Verdict). keptIfRefused x trace (traceAfter (run p outcomes (linesIn (length trace)) schedule .state .lines) trace)) ok),
     ap (λ (l : AfterRun). l .work) e
-        ∙ sym (ap (λ (x : Verdict). keptIfRefused x work (storeAfter (run p outcomes (linesIn (length trace)) schedule .state .config) work)) ok),
+        ∙ sym
+        (ap (λ (x : Verdict). keptIfRefused x work (storeAfter (run p outcomes (linesIn (length trace)) schedule .state .config) work)) ok),
   )

@@ -1,5 +1,5 @@
--- The answer and the lent buffers after `run`, by the verdict of the questions, and what is read back from them. The demands
--- (Demands.antt) are put together from these.
+-- The answer and the lent buffers after `run`, by the verdict of the questions, and what is read back from them. The
+-- demands (Demands.antt) are put together from these.
 use Prim.Native.Nat.{ℕ, suc, _*_, _≤_, _<_}
 use mathlib.Core.Path.{_≡_, refl, _∙_, ap, ap₂}
 use mathlib.Core.List.{List, [], _∷_, _++_}
@@ -31,7 +31,8 @@ lines-back [] = refl
 lines-back (l ∷ ls) = ap {B = List Line} (λ ms. l ∷ ms) (lines-back ls)
 
 -- a run from any state ends in one of four ways
-ends-from : (p outcomes : List ℕ) (room : ℕ) (s : State) (k : ℕ) (schedule : List ℕ) → runFrom p outcomes room s k schedule .end ≤ 3
+ends-from : (p outcomes : List ℕ) (room : ℕ) (s : State) (k : ℕ) (schedule : List ℕ)
+    → runFrom p outcomes room s k schedule .end ≤ 3
 unfolding runFromIn
 ends-from p outcomes room s k [] =
     cond-both (λ (r : Result). r .end ≤ 3) (allOver s) (omega arith)
@@ -89,7 +90,8 @@ module _ (p schedule outcomes trace work : List ℕ) where
 
     config-sound : ConfigSound p (result .state .config)
     config-sound =
-        sound p outcomes (linesIn (length trace)) schedule (table-kept p schedule outcomes (length work) ok) (outcomes-small p schedule outcomes (length work) ok) .config
+        sound p outcomes (linesIn (length trace)) schedule (table-kept p schedule outcomes (length work) ok)
+        (outcomes-small p schedule outcomes (length work) ok) .config
 
     words-whole : length (encode (result .state .config)) ≡ 8192
     words-whole = encode-length p (result .state .config) config-sound
@@ -98,7 +100,8 @@ module _ (p schedule outcomes trace work : List ℕ) where
     unfolding linesRead linesNo traceAfter
     lines-read =
         ap₂ (λ (a : Answer) (w : List ℕ). linesOf (take (6 * linesNo a) w)) answer-ran trace-is
-        ∙ ap linesOf (take-at (traceWords lines) (drop (length (traceWords lines)) trace) (6 * length lines) (trace-length lines))
+        ∙ ap linesOf
+        (take-at (traceWords lines) (drop (length (traceWords lines)) trace) (6 * length lines) (trace-length lines))
         ∙ lines-back lines
 
     pub rest-kept : drop (6 * length lines) (traceLeft p schedule outcomes trace work) ≡ drop (6 * length lines) trace
@@ -113,12 +116,14 @@ module _ (p schedule outcomes trace work : List ℕ) where
     config-read =
         ap (λ (w : List ℕ). decode (take 8192 w)) store-is
         ∙ ap decode (take-at (encode (result .state .config)) (drop 8192 work) 8192 words-whole)
-        ∙ run-back p outcomes (linesIn (length trace)) schedule (table-kept p schedule outcomes (length work) ok) (outcomes-small p schedule outcomes (length work) ok)
+        ∙ run-back p outcomes (linesIn (length trace)) schedule (table-kept p schedule outcomes (length work) ok)
+        (outcomes-small p schedule outcomes (length work) ok)
 
     pub beyond-kept : drop 8192 (storeLeft p schedule outcomes trace work) ≡ drop 8192 work
     beyond-kept = ap (drop 8192) store-is ∙ drop-at (encode (result .state .config)) (drop 8192 work) 8192 words-whole
 
-    pub unused-read : (w : ℕ) → w < 8192 → (InStore (result .state .config) w → ⊥) → getD (storeLeft p schedule outcomes trace work) w 0 ≡ 0
+    pub unused-read : (w : ℕ) → w < 8192 → (InStore (result .state .config) w → ⊥)
+        → getD (storeLeft p schedule outcomes trace work) w 0 ≡ 0
     unused-read w h free =
         ap (λ (ws : List ℕ). getD ws w 0) store-is
         ∙ List·getD-append (encode (result .state .config)) (drop 8192 work) 0 w (omega (arith, words-whole))

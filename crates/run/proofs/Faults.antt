@@ -24,10 +24,12 @@ module _ (p schedule outcomes trace work : List ℕ) (ok : questions p schedule 
   read k = stateRead p (take k schedule) outcomes trace work
 
   read-is : (k : ℕ) → read k ≡ run p outcomes room (take k schedule) .state
-  read-is k = state-read p (take k schedule) outcomes trace work (shorter-accepted p schedule outcomes (length work) k ok)
+  read-is k =
+      state-read p (take k schedule) outcomes trace work (shorter-accepted p schedule outcomes (length work) k ok)
 
   pub fault-read : (k f : ℕ) → k < run p outcomes room schedule .entries
-      → faultOf p outcomes (read k) (getD schedule k 0) ≡ some f → StoppedBy k (getD schedule k 0) f (read k) (read (suc k))
+      → faultOf p outcomes (read k) (getD schedule k 0) ≡ some f
+      → StoppedBy k (getD schedule k 0) f (read k) (read (suc k))
   fault-read k f h would =
       rw (read-is k, read-is (suc k)) (fault-alone p outcomes room schedule k f h (rw (read-is k) at would))
 

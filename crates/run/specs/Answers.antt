@@ -34,8 +34,8 @@ storeLeft p schedule outcomes trace work =
     keptIfRefused (questions p schedule outcomes (length work)) work
     (storeAfter (run p outcomes (linesIn (length trace)) schedule .state .config) work)
 
--- What stands after a run, read back: the configuration that the first 8,192 words of the store give, the lines that the
--- first words of the trace give, as many as the answer says, and the outcomes used, by the answer.
+-- What stands after a run, read back: the configuration that the first 8,192 words of the store give, the lines that
+-- the first words of the trace give, as many as the answer says, and the outcomes used, by the answer.
 unfoldable pub linesNo : machine.Answer → ℕ
 linesNo (refusal n i) = 0
 linesNo (ran e k l u) = l

@@ -1,8 +1,9 @@
 // The run of a program table with a schedule and an outcome list, over a lent trace and a lent work store.
-// `run` puts the questions and, where none says no, runs. Its contract is three equations, for inputs of any content and
-// length and whatever trace and work store held: the answer, the trace and the work store are those of the definitions
-// (specs/Answers.antt), where a question says no both buffers as they were. Nothing is asked of the caller. What follows for
-// the buffers, ownership with it, is in proofs/Demands.antt. The contract says nothing of the time taken.
+// `run` puts the questions and, where none says no, runs. Its contract is three equations, for inputs of any content
+// and length and whatever trace and work store held: the answer, the trace and the work store are those of the
+// definitions (specs/Answers.antt), where a question says no both buffers as they were. Nothing is asked of the caller.
+// What follows for the buffers, ownership with it, is in proofs/Demands.antt. The contract says nothing of the time
+// taken.
 ghost use mathlib.Core.Path.{_≡_};
 ghost use lib.ListN.{length};
 ghost use Rattle.machine.specs.Answer.{answerOf, linesIn};

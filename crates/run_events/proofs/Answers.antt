@@ -133,14 +133,16 @@ module _ {p : List ℕ} (outcomes : List ℕ) (s : State) {f : Frame} {fs : List
   pending-sound vs q = subst (All (ValueSound (s .config))) q (busy .stack .sound .0 .pending)
 
   -- too few pending values
-  short : (k n : ℕ) (d : AfterEvent) (vs : List Value) → opAt p (f .place) ≡ k → takenAt p (f .place) ≡ n → f .pending ≡ vs → length vs < n
+  short : (k n : ℕ) (d : AfterEvent) (vs : List Value) → opAt p (f .place) ≡ k → takenAt p (f .place) ≡ n
+      → f .pending ≡ vs → length vs < n
       → Good does d
   short k n d vs e t q h =
       by (act-short outcomes s busy k n e t (subst (λ (l : List Value). length l < n) (sym q) h)) refl (λ h. tt)
 
   -- an op of one operand, and of two
   one-op : (k : ℕ) (d : AfterEvent) → opAt p (f .place) ≡ k → takenAt p (f .place) ≡ 1
-      → ((u : Value) (us : List Value) → f .pending ≡ u ∷ us → Good (cond (isEmpty u || false) (faults 20) (doingOf k (stage 1 (u ∷ us)))) d)
+      → ((u : Value) (us : List Value) → f .pending ≡ u ∷ us → Good
+      (cond (isEmpty u || false) (faults 20) (doingOf k (stage 1 (u ∷ us)))) d)
       → Good does d
   one-op k d e t g = go (f .pending) refl
     where
@@ -171,7 +173,8 @@ module _ {p : List ℕ} (outcomes : List ℕ) (s : State) {f : Frame} {fs : List
 
   on-one : (u : Value) (us : List Value) → f .pending ≡ u ∷ us
       → Good (cond (isEmpty u || false) (faults 20) (doGateOne (stage 1 (u ∷ us))))
-      (cond (isEmpty u) (afterEvent (faultEvent 20) words) (afterEvent (lineEvent 3 arg (valOf u .number % 65536) 65535) (dropTop words top)))
+      (cond (isEmpty u) (afterEvent (faultEvent 20) words)
+      (afterEvent (lineEvent 3 arg (valOf u .number % 65536) 65535) (dropTop words top)))
   unfolding doGateOne valOf numberOf valueWords
   on-one empty us q h = refl
   on-one (int z) us q h = tt
@@ -248,10 +251,13 @@ module _ {p : List ℕ} (outcomes : List ℕ) (s : State) {f : Frame} {fs : List
   on-qubits : (n m : ℕ) (us : List Value) → f .pending ≡ ref (qubit n) ∷ ref (qubit m) ∷ us
       → Good
       (cond (eqb m n) (faults 27) (goes (atPlace (suc (f .place)) (withPending us f) ∷ fs) (gatedTwo arg m n ∷ []) 0))
-      (cond (eqb (m % 65536) (n % 65536)) (afterEvent (faultEvent 27) words) (afterEvent (lineEvent 3 arg (m % 65536) (n % 65536)) (dropTwo words top)))
+      (cond (eqb (m % 65536) (n % 65536)) (afterEvent (faultEvent 27) words)
+      (afterEvent (lineEvent 3 arg (m % 65536) (n % 65536)) (dropTwo words top)))
   on-qubits n m us q =
-      as-left (cond (eqb m n) (faults 27) (goes (atPlace (suc (f .place)) (withPending us f) ∷ fs) (gatedTwo arg m n ∷ []) 0))
-      (ap₂ (λ (x y : ℕ). cond (eqb x y) (afterEvent (faultEvent 27) words) (afterEvent (lineEvent 3 arg x y) (dropTwo words top)))
+      as-left
+      (cond (eqb m n) (faults 27) (goes (atPlace (suc (f .place)) (withPending us f) ∷ fs) (gatedTwo arg m n ∷ []) 0))
+      (ap₂ (λ (x y : ℕ). cond (eqb x y) (afterEvent (faultEvent 27) words)
+      (afterEvent (lineEvent 3 arg x y) (dropTwo words top)))
       (fits-line m (fine .1 .0)) (fits-line n (fine .0)))
       (same (eqb m n))
     where
@@ -259,7 +265,8 @@ module _ {p : List ℕ} (outcomes : List ℕ) (s : State) {f : Frame} {fs : List
       fine = pending-sound (ref (qubit n) ∷ ref (qubit m) ∷ us) q
 
       same : (b : Bool)
-          → Good (cond b (faults 27) (goes (atPlace (suc (f .place)) (withPending us f) ∷ fs) (gatedTwo arg m n ∷ []) 0))
+          → Good
+          (cond b (faults 27) (goes (atPlace (suc (f .place)) (withPending us f) ∷ fs) (gatedTwo arg m n ∷ []) 0))
           (cond b (afterEvent (faultEvent 27) words) (afterEvent (lineEvent 3 arg m n) (dropTwo words top)))
       same true h = refl
       same false h = ap (afterEvent (lineEvent 3 arg m n)) (dropped-two (ref (qubit n)) (ref (qubit m)) us q)
@@ -304,18 +311,26 @@ module _ {p : List ℕ} (outcomes : List ℕ) (s : State) {f : Frame} {fs : List
 
       single : leb arg 5 ≡ true → Good does (cond (leb arg 5) (gateOne words top arg) (gateTwo words top arg))
       single t =
-          one-op 10 (cond (leb arg 5) (gateOne words top arg) (gateTwo words top arg)) e (taken ∙ ap (λ (b : Bool). cond b 1 2) t)
+          one-op 10 (cond (leb arg 5) (gateOne words top arg) (gateTwo words top arg)) e
+          (taken ∙ ap (λ (b : Bool). cond b 1 2) t)
           (λ u us q.
-          by (ap (λ (b : Bool). cond (isEmpty u || false) (faults 20) (cond b (doGateOne (stage 1 (u ∷ us))) (doGateTwo (stage 1 (u ∷ us))))) t)
+          by
+          (ap
+          (λ (b : Bool). cond (isEmpty u || false) (faults 20)
+          (cond b (doGateOne (stage 1 (u ∷ us))) (doGateTwo (stage 1 (u ∷ us))))) t)
           (ap (λ (b : Bool). cond b (gateOne words top arg) (gateTwo words top arg)) t
           ∙ read-one u us (λ n. afterEvent (lineEvent 3 arg n 65535) (dropTop words top)) q)
           (on-one u us q))
 
       double : leb arg 5 ≡ false → Good does (cond (leb arg 5) (gateOne words top arg) (gateTwo words top arg))
       double t =
-          two-op 10 (cond (leb arg 5) (gateOne words top arg) (gateTwo words top arg)) e (taken ∙ ap (λ (b : Bool). cond b 1 2) t)
+          two-op 10 (cond (leb arg 5) (gateOne words top arg) (gateTwo words top arg)) e
+          (taken ∙ ap (λ (b : Bool). cond b 1 2) t)
           (λ y x us q.
-          by (ap (λ (b : Bool). cond (isEmpty y || (isEmpty x || false)) (faults 20) (cond b (doGateOne (stage 2 (y ∷ x ∷ us))) (doGateTwo (stage 2 (y ∷ x ∷ us))))) t)
+          by
+          (ap
+          (λ (b : Bool). cond (isEmpty y || (isEmpty x || false)) (faults 20)
+          (cond b (doGateOne (stage 2 (y ∷ x ∷ us))) (doGateTwo (stage 2 (y ∷ x ∷ us))))) t)
           (ap (λ (b : Bool). cond b (gateOne words top arg) (gateTwo words top arg)) t ∙ read-two y x us q)
           (on-two y x us q))
 
@@ -349,23 +364,29 @@ module _ {p : List ℕ} (outcomes : List ℕ) (s : State) {f : Frame} {fs : List
 
         onward : List ℕ → Act
         onward os =
-            withOutcome os (λ o. goes (push (int (pos o)) (atPlace (suc (f .place)) (withPending us f)) ∷ fs) (measured n o ∷ []) 1)
+            withOutcome os
+            (λ o. goes (push (int (pos o)) (atPlace (suc (f .place)) (withPending us f)) ∷ fs) (measured n o ∷ []) 1)
 
-        one-left : ltb (s .used) (length outcomes) ≡ true → Good (onward (drop (s .used) outcomes)) (answer (ltb (s .used) (length outcomes)))
+        one-left : ltb (s .used) (length outcomes) ≡ true
+            → Good (onward (drop (s .used) outcomes)) (answer (ltb (s .used) (length outcomes)))
         one-left t =
             by (ap onward (drop-some outcomes (s .used) (ltb-true (s .used) (length outcomes) t)))
-            (ap answer t ∙ ap (λ (o : ℕ). outcome-words (n % 65536) (some o)) (clipped-same next (All-getD (λ o. o ≤ 2) outcomes (s .used) 0 bytes (omega arith))))
+            (ap answer t ∙ ap (λ (o : ℕ). outcome-words (n % 65536) (some o))
+            (clipped-same next (All-getD (λ o. o ≤ 2) outcomes (s .used) 0 bytes (omega arith))))
             (λ h. ap₂ (λ (m : ℕ) (l : List ℕ). afterEvent (measuredEvent m next) l)
             (fits-line n (pending-sound (ref (qubit n) ∷ us) q .0))
             (top-words (busy .stack) (ref (qubit n)) (int (pos next)) us q))
 
-        none-left : ltb (s .used) (length outcomes) ≡ false → Good (onward (drop (s .used) outcomes)) (answer (ltb (s .used) (length outcomes)))
+        none-left : ltb (s .used) (length outcomes) ≡ false
+            → Good (onward (drop (s .used) outcomes)) (answer (ltb (s .used) (length outcomes)))
         none-left t =
-            by (ap onward (drop-none outcomes (s .used) (ltb-false (s .used) (length outcomes) t))) (ap answer t) (λ h. refl)
+            by (ap onward (drop-none outcomes (s .used) (ltb-false (s .used) (length outcomes) t))) (ap answer t)
+            (λ h. refl)
 
     on-measured : (u : Value) (us : List Value) → f .pending ≡ u ∷ us
         → Good (cond (isEmpty u || false) (faults 20) (doMeas (stage 1 (u ∷ us))))
-        (cond (isEmpty u) (afterEvent (faultEvent 20) words) (outcome-words (valOf u .number % 65536) (nextIn outcomes (s .used))))
+        (cond (isEmpty u) (afterEvent (faultEvent 20) words)
+        (outcome-words (valOf u .number % 65536) (nextIn outcomes (s .used))))
     unfolding doMeas valOf numberOf valueWords
     on-measured empty us q h = refl
     on-measured (int z) us q h = tt
@@ -380,6 +401,7 @@ module _ {p : List ℕ} (outcomes : List ℕ) (s : State) {f : Frame} {fs : List
         one-op 11 (measOp words top outcomes (s .used)) e (taken-by outcomes s busy 11 e)
         (λ u us q.
         as-left (cond (isEmpty u || false) (faults 20) (doMeas (stage 1 (u ∷ us))))
-        (ap (cond (eqb (valueAt words (topAt top 1) .tag) 0) (afterEvent (faultEvent 20) words)) (measured-words (nextIn outcomes (s .used)))
+        (ap (cond (eqb (valueAt words (topAt top 1) .tag) 0) (afterEvent (faultEvent 20) words))
+        (measured-words (nextIn outcomes (s .used)))
         ∙ read-one u us (λ n. outcome-words n (nextIn outcomes (s .used))) q)
         (on-measured u us q))

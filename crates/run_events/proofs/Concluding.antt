@@ -1,5 +1,5 @@
--- An entry that writes one line leaves the process as document 01 says: stopped by its fault, finished, or as its op left
--- it.
+-- An entry that writes one line leaves the process as document 01 says: stopped by its fault, finished, or as its op
+-- left it.
 use Prim.Native.Nat.{ℕ, zero, suc, _+_, _≤_, _<_}
 use mathlib.Core.Path.{_≡_, refl, sym, _∙_, ap, subst}
 use mathlib.Core.Bool.{Bool, true, false, true≢false}
@@ -49,9 +49,11 @@ gate-apart : (w : List ℕ) (h : Head) (a : ℕ) → Apart (gateOp w h a)
 unfolding gateOp gateOne gateTwo
 gate-apart w h a =
     cond-both Apart (leb a 5)
-    (cond-both Apart (eqb (valueAt w (topAt h 1) .tag) 0) (λ z. absurd (omega arith)) (λ z. (λ e. omega arith, λ e. omega arith)))
+    (cond-both Apart (eqb (valueAt w (topAt h 1) .tag) 0) (λ z. absurd (omega arith))
+    (λ z. (λ e. omega arith, λ e. omega arith)))
     (cond-both Apart (emptyTwo w h) (λ z. absurd (omega arith))
-    (cond-both Apart (eqb (qubitAt w h 2) (qubitAt w h 1)) (λ z. absurd (omega arith)) (λ z. (λ e. omega arith, λ e. omega arith))))
+    (cond-both Apart (eqb (qubitAt w h 2) (qubitAt w h 1)) (λ z. absurd (omega arith))
+    (λ z. (λ e. omega arith, λ e. omega arith))))
 
 measured-apart : (w : List ℕ) (h : Head) (o : Option ℕ) → Apart (measuredAs w h o)
 unfolding measuredAs
@@ -75,22 +77,29 @@ module _ {p : List ℕ} (outcomes : List ℕ) (s : State) {f : Frame} {fs : List
   does = act outcomes s busy
 
   pub concluded-fault : (n : ℕ) → 0 < n → n < 100 → (q c : ℕ) (os : List ℕ) (u : ℕ)
-      → concludeOp p words n q c os u ≡ afterEvent (faultEvent n) (processWords (record { status = stopped n; frames = f ∷ fs }))
+      → concludeOp p words n q c os u ≡ afterEvent (faultEvent n)
+      (processWords (record { status = stopped n; frames = f ∷ fs }))
   unfolding concludeOp withStatus
   concluded-fault n a b q c os u =
-      ap withStatus (sym (event-fault p words n q c os u (λ e. omega arith) (λ e. omega arith) (λ e. omega arith) (λ e. omega arith) (λ e. omega arith) refl))
-      ∙ ap (afterEvent (faultEvent n)) (status-stopped words (faultEvent n) (λ e. omega arith) ∙ stopped-words (busy .stack) n)
+      ap withStatus
+      (sym
+      (event-fault p words n q c os u (λ e. omega arith) (λ e. omega arith) (λ e. omega arith) (λ e. omega arith)
+      (λ e. omega arith) refl))
+      ∙ ap (afterEvent (faultEvent n))
+      (status-stopped words (faultEvent n) (λ e. omega arith) ∙ stopped-words (busy .stack) n)
 
   words-long : length words ≡ 512
   words-long =
       process-length p (s .config) (runs (f ∷ fs)) (record { status = omega arith; depth = omega (arith, busy .stack .deep); frames = busy .stack .sound })
 
   pub concluded-ends : (q c : ℕ) (os : List ℕ) (u : ℕ)
-      → concludeOp p words 113 q c os u ≡ afterEvent (lineEvent 9 65535 65535 65535) (processWords (record { status = finished; frames = [] }))
+      → concludeOp p words 113 q c os u ≡ afterEvent (lineEvent 9 65535 65535 65535)
+      (processWords (record { status = finished; frames = [] }))
   unfolding concludeOp withStatus
   concluded-ends q c os u =
       ap withStatus (sym (event-end p words 113 q c os u refl refl))
-      ∙ ap (afterEvent (lineEvent 9 65535 65535 65535)) (status-finished words (lineEvent 9 65535 65535 65535) refl refl ∙ finished-words words words-long)
+      ∙ ap (afterEvent (lineEvent 9 65535 65535 65535))
+      (status-finished words (lineEvent 9 65535 65535 65535) refl refl ∙ finished-words words words-long)
 
   -- What an act that writes one line leaves, as answer and words. No other act agrees with anything.
   abbrev pub Concluded : Act → AfterEvent → Type 0
@@ -116,22 +125,30 @@ module _ {p : List ℕ} (outcomes : List ℕ) (s : State) {f : Frame} {fs : List
       (status-stopped words (faultEvent n) (λ e. subst Apart q h e .1 refl) ∙ stopped-words (busy .stack) n)
   settles (goes gs [] u) d h q = absurd q
   settles (goes gs (e ∷ []) u) d h q =
-      ap withStatus q ∙ ap (afterEvent (eventOf u e)) (status-as-left (processWords (runs gs)) (eventOf u e) refl (subst Apart q h refl .0))
+      ap withStatus q
+      ∙ ap (afterEvent (eventOf u e))
+      (status-as-left (processWords (runs gs)) (eventOf u e) refl (subst Apart q h refl .0))
   settles (goes gs (e ∷ g ∷ es) u) d h q = absurd q
   settles ends d h q = absurd q
   settles (makes t gs) d h q =
-      ap withStatus q ∙ ap (afterEvent (eventOf 0 (making t))) (status-as-left (processWords (runs gs)) (eventOf 0 (making t)) refl (subst Apart q h refl .0))
+      ap withStatus q
+      ∙ ap (afterEvent (eventOf 0 (making t)))
+      (status-as-left (processWords (runs gs)) (eventOf 0 (making t)) refl (subst Apart q h refl .0))
   settles (forks m args gs) d h q = absurd q
   settles (offers o) d h q = absurd q
 
   -- the op's answer over the head that is read is the one over the top frame
-  by-head : (answer : Head → AfterEvent) → Apart (answer top) → EventAgrees does words (answer top) → Concluded does (withStatus (answer (headOf words)))
+  by-head : (answer : Head → AfterEvent) → Apart (answer top) → EventAgrees does words (answer top)
+      → Concluded does (withStatus (answer (headOf words)))
   by-head answer a t =
-      subst (λ (h : Head). Concluded does (withStatus (answer h))) (sym (head-is (busy .stack))) (settles does (answer top) a t)
+      subst (λ (h : Head). Concluded does (withStatus (answer h))) (sym (head-is (busy .stack)))
+      (settles does (answer top) a t)
 
-  pub concluded-op : All (λ o. o ≤ 2) outcomes → (k : ℕ) → opAt p (f .place) ≡ k → isTelling k ≡ true → Height (atFrame p outcomes s f fs)
+  pub concluded-op : All (λ o. o ≤ 2) outcomes → (k : ℕ) → opAt p (f .place) ≡ k → isTelling k ≡ true
+      → Height (atFrame p outcomes s f fs)
       → Concluded (atFrame p outcomes s f fs)
-      (concludeOp p (processWords (runs (f ∷ fs))) (100 + k) (s .config .qubits) (s .config .channels) outcomes (s .used))
+      (concludeOp p (processWords (runs (f ∷ fs))) (100 + k) (s .config .qubits) (s .config .channels) outcomes
+      (s .used))
   unfolding concludeOp performOp
   concluded-op bytes zero e t h = absurd (true≢false (sym t))
   concluded-op bytes (suc zero) e t h = absurd (true≢false (sym t))
@@ -153,4 +170,5 @@ module _ {p : List ℕ} (outcomes : List ℕ) (s : State) {f : Frame} {fs : List
   concluded-op bytes (suc (suc (suc (suc (suc (suc (suc (suc (suc (suc (suc zero))))))))))) e t h =
       by-head (λ g. measOp words g outcomes (s .used)) (meas-apart words top outcomes (s .used))
       (meas-event outcomes s busy few bytes e h)
-  concluded-op bytes (suc (suc (suc (suc (suc (suc (suc (suc (suc (suc (suc (suc k)))))))))))) e t h = absurd (true≢false (sym t))
+  concluded-op bytes (suc (suc (suc (suc (suc (suc (suc (suc (suc (suc (suc (suc k)))))))))))) e t h =
+      absurd (true≢false (sym t))

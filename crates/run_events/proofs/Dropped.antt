@@ -18,17 +18,25 @@ head-before-top h = go (h .frames) (popped h .pending)
     go : (f p : ℕ) → 4 + 4 * f + 2 < 48 + 48 * f + 2 * p - 2 * 1
     go f p = omega arith
 
-off-twice : (w : List ℕ) (h : Head) → putTop (putValue (putValue w (topAt h 1) emptyVal) (topAt (popped h) 1) emptyVal) (stepped (popped (popped h))) ≡ dropTwo w h
+off-twice : (w : List ℕ) (h : Head)
+    → putTop (putValue (putValue w (topAt h 1) emptyVal) (topAt (popped h) 1) emptyVal) (stepped (popped (popped h)))
+    ≡ dropTwo w h
 unfolding dropTwo dropTop dropTo movedTo stepped popped
 off-twice w h =
-    sym (top-twice (putValue w (topAt h 1) emptyVal) (movedTo (popped h) (h .place)) (stepped (popped (popped h))) (topAt (popped h) 1) emptyVal refl (head-before-top h))
+    sym
+    (top-twice (putValue w (topAt h 1) emptyVal) (movedTo (popped h) (h .place)) (stepped (popped (popped h)))
+    (topAt (popped h) 1) emptyVal refl (head-before-top h))
 
-pub two-dropped : (w : List ℕ) (h : Head) {deeper last next : Head} {a b : ℕ} {v v′ : Val} {w₁ w₂ w₃ : List ℕ} → deeper ≡ popped h
+pub two-dropped : (w : List ℕ) (h : Head) {deeper last next : Head} {a b : ℕ} {v v′ : Val} {w₁ w₂ w₃ : List ℕ}
+    → deeper ≡ popped h
     → a ≡ topAt h 1 → v ≡ emptyVal → w₁ ≡ putValue w a v → b ≡ topAt deeper 1 → v′ ≡ emptyVal → w₂ ≡ putValue w₁ b v′
     → last ≡ popped deeper → next ≡ stepped last → w₃ ≡ putTop w₂ next → w₃ ≡ dropTwo w h
 two-dropped w h {b = b} {w₁ = w₁} {w₂ = w₂} d a v p b′ v′ q l n r =
     r
     ∙ ap₂ putTop
-    (q ∙ ap (putValue w₁ b) v′ ∙ ap₂ (λ (l : List ℕ) (i : ℕ). putValue l i emptyVal) (p ∙ ap₂ (putValue w) a v) (b′ ∙ ap (λ (g : Head). topAt g 1) d))
+    (q
+    ∙ ap (putValue w₁ b) v′
+    ∙ ap₂ (λ (l : List ℕ) (i : ℕ). putValue l i emptyVal) (p ∙ ap₂ (putValue w) a v)
+    (b′ ∙ ap (λ (g : Head). topAt g 1) d))
     (n ∙ ap stepped (l ∙ ap popped d))
     ∙ off-twice w h

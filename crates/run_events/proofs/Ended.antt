@@ -19,6 +19,7 @@ unfolding stoppedWords putStatus stoppedHead processWords statusWords padded
 stopped-words {f = f} {fs = fs} stack n =
     ap (λ (h : Head). putStatus (processWords (runs (f ∷ fs))) (stoppedHead h n)) (head-is stack)
 
-pub finished-words : (w : List ℕ) → length w ≡ 512 → finishedWords w ≡ processWords (record { status = finished; frames = [] })
+pub finished-words : (w : List ℕ) → length w ≡ 512
+    → finishedWords w ≡ processWords (record { status = finished; frames = [] })
 unfolding finishedWords putStatus finishedHead processWords statusWords padded flatten
 finished-words w e = ap (λ (l : List ℕ). set (set (set l 0 2) 1 0) 2 0) (all-cleared w 512 e)

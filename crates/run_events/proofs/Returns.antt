@@ -16,7 +16,8 @@ use Rattle.run_events.specs.ConcludeCode.{performOp, statusWords}
 
 module _ (p w : List ℕ) (code qubits channels : ℕ) (outcomes : List ℕ) (used : ℕ) {d : AfterEvent} where
   -- the answer at this code
-  at-code : (k : ℕ) → code ≡ k → d ≡ performOp p w k qubits channels outcomes used → d ≡ performOp p w code qubits channels outcomes used
+  at-code : (k : ℕ) → code ≡ k → d ≡ performOp p w k qubits channels outcomes used
+      → d ≡ performOp p w code qubits channels outcomes used
   at-code k e q = q ∙ ap (λ (n : ℕ). performOp p w n qubits channels outcomes used) (sym e)
 
   module _ {h : Head} (e : h ≡ headOf w) where
@@ -28,7 +29,8 @@ module _ (p w : List ℕ) (code qubits channels : ℕ) (outcomes : List ℕ) (us
     unfolding performOp
     event-newc k q = at-code 108 k (q ∙ ap (λ (g : Head). newcOp w g channels) e)
 
-    pub event-gate : (start a : ℕ) → start ≡ 2 + 20 * methods p → a ≡ word p (start + 2 * h .place + 1) → code ≡ 110 → d ≡ gateOp w h a
+    pub event-gate : (start a : ℕ) → start ≡ 2 + 20 * methods p → a ≡ word p (start + 2 * h .place + 1) → code ≡ 110
+        → d ≡ gateOp w h a
         → d ≡ performOp p w code qubits channels outcomes used
     unfolding performOp argAt
     event-gate start a s i k q =
@@ -44,7 +46,8 @@ module _ (p w : List ℕ) (code qubits channels : ℕ) (outcomes : List ℕ) (us
     unfolding performOp
     event-meas k q = at-code 111 k (q ∙ ap (λ (g : Head). measOp w g outcomes used) e)
 
-  pub event-end : code ≡ 113 → d ≡ afterEvent (lineEvent 9 65535 65535 65535) w → d ≡ performOp p w code qubits channels outcomes used
+  pub event-end : code ≡ 113 → d ≡ afterEvent (lineEvent 9 65535 65535 65535) w
+      → d ≡ performOp p w code qubits channels outcomes used
   unfolding performOp
   event-end k q = at-code 113 k q
 
@@ -52,7 +55,8 @@ module _ (p w : List ℕ) (code qubits channels : ℕ) (outcomes : List ℕ) (us
   pub event-fault : (code ≡ 107 → ⊥) → (code ≡ 108 → ⊥) → (code ≡ 110 → ⊥) → (code ≡ 111 → ⊥) → (code ≡ 113 → ⊥)
       → d ≡ afterEvent (faultEvent code) w → d ≡ performOp p w code qubits channels outcomes used
   unfolding performOp
-  event-fault a b x y z q = rw (ne-eqb code 107 a, ne-eqb code 108 b, ne-eqb code 110 x, ne-eqb code 111 y, ne-eqb code 113 z) q
+  event-fault a b x y z q =
+      rw (ne-eqb code 107 a, ne-eqb code 108 b, ne-eqb code 110 x, ne-eqb code 111 y, ne-eqb code 113 z) q
 
 -- the process as the line leaves it
 
@@ -70,6 +74,7 @@ module _ (w : List ℕ) (t : EventResult) where
   status-as-left c k = rw (eq-eqb (t .code) 0 c, ne-eqb (t .kind) 9 k)
 
 -- what a measurement leaves, by the case of the next outcome
-pub measured-next : (w : List ℕ) (h : Head) (outcomes : List ℕ) (used : ℕ) (k : Outcome) {o : Outcome} {d : AfterEvent} → o ≡ k
+pub measured-next : (w : List ℕ) (h : Head) (outcomes : List ℕ) (used : ℕ) (k : Outcome) {o : Outcome} {d : AfterEvent}
+    → o ≡ k
     → outcomeNo o ≡ nextIn outcomes used → d ≡ measuredAs w h (outcomeNo k) → d ≡ measuredAs w h (nextIn outcomes used)
 measured-next w h outcomes used k e n q = q ∙ ap (measuredAs w h) (sym (ap outcomeNo e) ∙ n)

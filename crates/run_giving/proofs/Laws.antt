@@ -19,7 +19,8 @@ unfolding poppedBy
 dropped-more w j e q = q ∙ ap poppedOnce e ∙ sym (ap (poppedBy w) (add-one j))
 
 -- a process that starts
-pub begins : (p w : List ℕ) (m : ℕ) {g h : Head} {place : ℕ} {u v z : List ℕ} → g ≡ headOf w → place ≡ word p (2 + 2 * m) → h ≡ startedHead g m place
+pub begins : (p w : List ℕ) (m : ℕ) {g h : Head} {place : ℕ} {u v z : List ℕ} → g ≡ headOf w
+    → place ≡ word p (2 + 2 * m) → h ≡ startedHead g m place
     → u ≡ putStatus w h → v ≡ set u 8 (h .method) → z ≡ putTop v h → z ≡ beganWords p w m
 unfolding beganWords startedWords offsetOf
 begins p w m {g} {h} {place} e o s a b d =

@@ -77,7 +77,8 @@ without-more ts us v =
     ∙ first (any (λ t. lostWith t v) ts) refl
   where
     first : (b : Bool) → any (λ t. lostWith t v) ts ≡ b
-        → cond (b || any (λ t. lostWith t v) us) empty v ≡ cond (any (λ t. lostWith t (cond b empty v)) us) empty (cond b empty v)
+        → cond (b || any (λ t. lostWith t v) us) empty v ≡ cond (any (λ t. lostWith t (cond b empty v)) us) empty
+        (cond b empty v)
     first true e = sym (ap (λ (b : Bool). cond b empty empty) (none-lost us))
     first false e = refl
 
@@ -90,9 +91,11 @@ frame-without-more ts us f = λ i. record {
   pending = map-twice (without ts) (without us) (without (ts ++ us)) (without-more ts us) (f .pending) i;
 }
 
-pub frames-without-more : (ts us : List Thing) (fs : List Frame) → framesWithout (ts ++ us) fs ≡ framesWithout us (framesWithout ts fs)
+pub frames-without-more : (ts us : List Thing) (fs : List Frame)
+    → framesWithout (ts ++ us) fs ≡ framesWithout us (framesWithout ts fs)
 unfolding framesWithout
-frames-without-more ts us fs = map-twice (frameWithout ts) (frameWithout us) (frameWithout (ts ++ us)) (frame-without-more ts us) fs
+frames-without-more ts us fs =
+    map-twice (frameWithout ts) (frameWithout us) (frameWithout (ts ++ us)) (frame-without-more ts us) fs
 
 pub things-more : (vs : List Value) (v : Value) → thingsOf (vs ++ (v ∷ [])) ≡ thingsOf vs ++ thingsOf (v ∷ [])
 unfolding thingsOf
@@ -115,12 +118,15 @@ module _ {p : List ℕ} {c : Config} {f : Frame} {fs : List Frame} (stack : Stac
   frames-word : (24 * headOf words .frames) % 65536 ≡ 24 * length (f ∷ fs)
   frames-word = ap (λ (h : Head). (24 * h .frames) % 65536) (head-is stack) ∙ mod-eq-of-lt (omega arith)
 
-  thing-given : (t : Thing) → emptiedBy words (valOf (ref t)) ((24 * headOf words .frames) % 65536) ≡ processWords (runs (framesWithout (t ∷ []) (f ∷ fs)))
+  thing-given : (t : Thing)
+      → emptiedBy words (valOf (ref t)) ((24 * headOf words .frames) % 65536) ≡ processWords
+      (runs (framesWithout (t ∷ []) (f ∷ fs)))
   thing-given t =
       ap (emptiedBy words (valOf (ref t))) frames-word
       ∙ given-words t (f ∷ fs) (All-implies (FrameSound p c) Sized (sized p c) (f ∷ fs) (stack .sound)) (omega arith)
 
-  pub value-given : (v : Value) → givenWords words (valOf v) ≡ processWords (runs (framesWithout (thingsOf (v ∷ [])) (f ∷ fs)))
+  pub value-given : (v : Value)
+      → givenWords words (valOf v) ≡ processWords (runs (framesWithout (thingsOf (v ∷ [])) (f ∷ fs)))
   unfolding givenWords thingGiven valOf tagOf valueWords thingsOf
   value-given empty = ap (λ (l : List Frame). processWords (runs l)) (sym (frames-without-none (f ∷ fs)))
   value-given (int z) = ap (λ (l : List Frame). processWords (runs l)) (sym (frames-without-none (f ∷ fs)))
@@ -159,14 +165,16 @@ module _ {p : List ℕ} {c : Config} {f : Frame} {fs : List Frame} (stack : Stac
   stack-left : (j : ℕ) → Stack p c (left j) fs
   stack-left j = record { kept = stack .kept; sound = (sound-fewer stack j, stack .sound .1); deep = stack .deep }
 
-  once : (j : ℕ) → j < length (f .pending) → poppedOnce (processWords (runs (left j ∷ fs))) ≡ processWords (runs (left (suc j) ∷ fs))
+  once : (j : ℕ) → j < length (f .pending)
+      → poppedOnce (processWords (runs (left j ∷ fs))) ≡ processWords (runs (left (suc j) ∷ fs))
   unfolding poppedOnce
   once j h =
       ap (λ (h : Head). dropTo (processWords (runs (left j ∷ fs))) h (h .place)) (head-is (stack-left j))
       ∙ drop-to-words (stack-left j) (getD (f .pending) j empty) (drop (suc j) (f .pending)) (f .place)
       (drop-cons (f .pending) j empty h)
 
-  retired-by : (j : ℕ) → j ≤ length (f .pending) → poppedBy (processWords (runs (f ∷ fs))) j ≡ processWords (runs (left j ∷ fs))
+  retired-by : (j : ℕ) → j ≤ length (f .pending)
+      → poppedBy (processWords (runs (f ∷ fs))) j ≡ processWords (runs (left j ∷ fs))
   unfolding poppedBy
   retired-by zero h = refl
   retired-by (suc j) h = ap poppedOnce (retired-by j (omega arith)) ∙ once j h
@@ -179,12 +187,14 @@ module _ {p : List ℕ} {c : Config} {f : Frame} {fs : List Frame} (stack : Stac
       (mod-eq-of-lt (omega (arith, place-small stack)) ∙ omega arith)
       ∙ move-words (stack-left j) (suc (f .place))
 
-  pub operands-off : (n : ℕ) → n ≤ length (f .pending) → argumentsPopped (processWords (runs (f ∷ fs))) n ≡ processWords (runs (passedBy n f ∷ fs))
+  pub operands-off : (n : ℕ) → n ≤ length (f .pending)
+      → argumentsPopped (processWords (runs (f ∷ fs))) n ≡ processWords (runs (passedBy n f ∷ fs))
   unfolding argumentsPopped
   operands-off n h = ap stayed (retired-by n h) ∙ stayed-words n
 
 -- SEND: both operands off, and the value given away
-pub value-sent : {p : List ℕ} (outcomes : List ℕ) (s : State) {f : Frame} {fs : List Frame} (busy : AtWork p (s .config) f fs)
+pub value-sent :
+    {p : List ℕ} (outcomes : List ℕ) (s : State) {f : Frame} {fs : List Frame} (busy : AtWork p (s .config) f fs)
     → s .config .qubits ≤ 32 → (v x : Value) (us : List Value) → f .pending ≡ v ∷ x ∷ us
     → (after : All (FrameSound p (s .config)) (atPlace (suc (f .place)) (withPending us f) ∷ fs))
     → sentWords (processWords (runs (f ∷ fs))) (valOf v)
@@ -209,7 +219,8 @@ empties m n h =
     ∙ ap (take n) (sym (replicate-append-replicate n (m - n) empty))
     ∙ take-at (replicate n empty) (replicate (m - n) empty) n (length-replicate n empty)
 
-slots-are : (xs : List Value) (n : ℕ) → length xs ≤ n → take n (xs ++ replicate 16 empty) ≡ xs ++ take (n - length xs) (replicate 16 empty)
+slots-are : (xs : List Value) (n : ℕ) → length xs ≤ n
+    → take n (xs ++ replicate 16 empty) ≡ xs ++ take (n - length xs) (replicate 16 empty)
 slots-are [] n h = ap (λ (k : ℕ). take k (replicate 16 empty)) {x = n} {y = n - 0} (omega arith)
 slots-are (x ∷ xs) zero h = absurd (not-suc-le-zero h)
 slots-are (x ∷ xs) (suc n) h =
@@ -228,12 +239,15 @@ slots-with xs v h =
     ∙ sym (append-snoc xs v (replicate (15 - length xs) empty))
     ∙ ap (λ (l : List Value). (xs ++ (v ∷ [])) ++ l)
     (sym (empties 16 (15 - length xs) (omega arith))
-    ∙ ap (λ (k : ℕ). take k (replicate 16 empty)) {x = 15 - length xs} {y = 16 - length (xs ++ (v ∷ []))} (omega (arith, length-append xs (v ∷ []))))
+    ∙ ap (λ (k : ℕ). take k (replicate 16 empty)) {x = 15 - length xs} {y = 16 - length (xs ++ (v ∷ []))}
+    (omega (arith, length-append xs (v ∷ []))))
     ∙ sym (slots-are (xs ++ (v ∷ [])) 16 (omega (arith, length-append xs (v ∷ []))))
 
-module _ (p : List ℕ) (kept : Kept p) (c : Config) (m : ℕ) (xs : List Value) (sound : All (FrameSound p c) (started p m xs ∷ [])) where
+module _ (p : List ℕ) (kept : Kept p) (c : Config) (m : ℕ) (xs : List Value)
+    (sound : All (FrameSound p c) (started p m xs ∷ [])) where
   pub slot-filled : (v : Value) → length xs < 16
-      → putValue (processWords (runs (started p m xs ∷ []))) (64 + 2 * length xs) (valOf v) ≡ processWords (runs (started p m (xs ++ (v ∷ [])) ∷ []))
+      → putValue (processWords (runs (started p m xs ∷ []))) (64 + 2 * length xs) (valOf v) ≡ processWords
+      (runs (started p m (xs ++ (v ∷ [])) ∷ []))
   unfolding started slotAt
   slot-filled v h =
       slot-put (stacked kept sound (omega arith)) (length xs) v h
@@ -244,4 +258,6 @@ module _ (p : List ℕ) (kept : Kept p) (c : Config) (m : ℕ) (xs : List Value)
   unfolding started slotAt
   slot-found j h l =
       slot-read (stacked kept sound (omega arith)) j (omega arith)
-      ∙ ap valOf (getD-take 16 (xs ++ replicate 16 empty) j empty (omega arith) ∙ List·getD-append xs (replicate 16 empty) empty j h)
+      ∙ ap valOf
+      (getD-take 16 (xs ++ replicate 16 empty) j empty (omega arith)
+      ∙ List·getD-append xs (replicate 16 empty) empty j h)

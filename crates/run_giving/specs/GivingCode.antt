@@ -1,5 +1,5 @@
--- What a giving leaves in the words of one process's part. These definitions follow the code; that they are document 01's
--- is proved in proofs/.
+-- What a giving leaves in the words of one process's part. These definitions follow the code; that they are document
+-- 01's is proved in proofs/.
 use Prim.Native.Nat.{ℕ, zero, suc, _*_, _%_}
 use mathlib.Core.Bool.{cond}
 use mathlib.Core.List.{List}

@@ -75,7 +75,8 @@ tag-test (ref (channel n)) = refl
 tag-test (ref (end n true)) = refl
 tag-test (ref (end n false)) = refl
 
-unless-read : (u : Val) (v : Value) (w : List ℕ) (d : AfterStep) → u ≡ valOf v → unlessEmpty u w d ≡ cond (isEmpty v) (afterStep 20 w) d
+unless-read : (u : Val) (v : Value) (w : List ℕ) (d : AfterStep) → u ≡ valOf v
+    → unlessEmpty u w d ≡ cond (isEmpty v) (afterStep 20 w) d
 unfolding unlessEmpty
 unless-read u v w d e = ap (λ (b : Bool). cond b (afterStep 20 w) d) (ap (λ (x : Val). eqb (x .tag) 0) e ∙ tag-test v)
 
@@ -101,7 +102,8 @@ end-value zero n h = refl
 end-value (suc zero) n h = refl
 end-value (suc (suc a)) n h = absurd (omega arith)
 
-module _ {p : List ℕ} (outcomes : List ℕ) (s : State) {f : Frame} {fs : List Frame} (busy : AtWork p (s .config) f fs) where
+module _ {p : List ℕ} (outcomes : List ℕ) (s : State) {f : Frame} {fs : List Frame}
+    (busy : AtWork p (s .config) f fs) where
   abbrev pub w : List ℕ
   w = processWords (runs (f ∷ fs))
 
@@ -154,23 +156,30 @@ module _ {p : List ℕ} (outcomes : List ℕ) (s : State) {f : Frame} {fs : List
       act-is k 0 (f .pending) e t refl
       ∙ ap (λ (b : Bool). cond b (doingOf k (scene 0 (f .pending))) stuck) (leb·zero (length (f .pending)))
 
-  pub act-one : (k : ℕ) (u : Value) (us : List Value) → opAt p (f .place) ≡ k → takenAt p (f .place) ≡ 1 → f .pending ≡ u ∷ us
+  pub act-one : (k : ℕ) (u : Value) (us : List Value) → opAt p (f .place) ≡ k → takenAt p (f .place) ≡ 1
+      → f .pending ≡ u ∷ us
       → act ≡ cond (isEmpty u || false) (faults 20) (doingOf k (scene 1 (u ∷ us)))
   act-one k u us e t q =
       act-is k 1 (u ∷ us) e t q
-      ∙ ap (λ (b : Bool). cond b (cond (isEmpty u || false) (faults 20) (doingOf k (scene 1 (u ∷ us)))) stuck) (le-leb 1 (suc (length us)) (omega arith))
+      ∙ ap (λ (b : Bool). cond b (cond (isEmpty u || false) (faults 20) (doingOf k (scene 1 (u ∷ us)))) stuck)
+      (le-leb 1 (suc (length us)) (omega arith))
 
-  pub act-two : (k : ℕ) (y x : Value) (us : List Value) → opAt p (f .place) ≡ k → takenAt p (f .place) ≡ 2 → f .pending ≡ y ∷ x ∷ us
+  pub act-two : (k : ℕ) (y x : Value) (us : List Value) → opAt p (f .place) ≡ k → takenAt p (f .place) ≡ 2
+      → f .pending ≡ y ∷ x ∷ us
       → act ≡ cond (isEmpty y || (isEmpty x || false)) (faults 20) (doingOf k (scene 2 (y ∷ x ∷ us)))
   act-two k y x us e t q =
       act-is k 2 (y ∷ x ∷ us) e t q
-      ∙ ap (λ (b : Bool). cond b (cond (isEmpty y || (isEmpty x || false)) (faults 20) (doingOf k (scene 2 (y ∷ x ∷ us)))) stuck) (le-leb 2 (suc (suc (length us))) (omega arith))
+      ∙ ap
+      (λ (b : Bool). cond b (cond (isEmpty y || (isEmpty x || false)) (faults 20) (doingOf k (scene 2 (y ∷ x ∷ us))))
+      stuck) (le-leb 2 (suc (suc (length us))) (omega arith))
 
   -- too few pending values
   pub act-short : (k n : ℕ) → opAt p (f .place) ≡ k → takenAt p (f .place) ≡ n → length (f .pending) < n → act ≡ stuck
   act-short k n e t h =
       act-is k n (f .pending) e t refl
-      ∙ ap (λ (b : Bool). cond b (cond (any isEmpty (take n (f .pending))) (faults 20) (doingOf k (scene n (f .pending)))) stuck) (lt-leb n (length (f .pending)) h)
+      ∙ ap
+      (λ (b : Bool). cond b (cond (any isEmpty (take n (f .pending))) (faults 20) (doingOf k (scene n (f .pending))))
+      stuck) (lt-leb n (length (f .pending)) h)
 
   -- how many values the op at the place takes
   pub taken-by : (k : ℕ) → opAt p (f .place) ≡ k → takenAt p (f .place) ≡ opOf k .takes p (ownerOf p (f .place)) a
@@ -195,7 +204,8 @@ module _ {p : List ℕ} (outcomes : List ℕ) (s : State) {f : Frame} {fs : List
 
   -- an op of one operand, and of two
   pub one-op : (k : ℕ) (d : AfterStep) → opAt p (f .place) ≡ k → takenAt p (f .place) ≡ 1
-      → ((u : Value) (us : List Value) → f .pending ≡ u ∷ us → Good (cond (isEmpty u || false) (faults 20) (doingOf k (scene 1 (u ∷ us)))) d)
+      → ((u : Value) (us : List Value) → f .pending ≡ u ∷ us → Good
+      (cond (isEmpty u || false) (faults 20) (doingOf k (scene 1 (u ∷ us)))) d)
       → Good act d
   one-op k d e t g = go (f .pending) refl
     where
@@ -204,7 +214,8 @@ module _ {p : List ℕ} (outcomes : List ℕ) (s : State) {f : Frame} {fs : List
       go (u ∷ us) q = by (act-one k u us e t q) refl (g u us q)
 
   two-op : (k : ℕ) (d : AfterStep) → opAt p (f .place) ≡ k → takenAt p (f .place) ≡ 2
-      → ((y x : Value) (us : List Value) → f .pending ≡ y ∷ x ∷ us → Good (cond (isEmpty y || (isEmpty x || false)) (faults 20) (doingOf k (scene 2 (y ∷ x ∷ us)))) d)
+      → ((y x : Value) (us : List Value) → f .pending ≡ y ∷ x ∷ us → Good
+      (cond (isEmpty y || (isEmpty x || false)) (faults 20) (doingOf k (scene 2 (y ∷ x ∷ us)))) d)
       → Good act d
   two-op k d e t g = go (f .pending) refl
     where
@@ -237,7 +248,8 @@ module _ {p : List ℕ} (outcomes : List ℕ) (s : State) {f : Frame} {fs : List
 
   -- the functions that read the top value first
   pub top-op : (k : ℕ) (d : Val → AfterStep) → opAt p (f .place) ≡ k → takenAt p (f .place) ≡ 1
-      → ((u : Value) (us : List Value) → f .pending ≡ u ∷ us → isEmpty u ≡ false → Good (doingOf k (scene 1 (u ∷ us))) (d (valOf u)))
+      → ((u : Value) (us : List Value) → f .pending ≡ u ∷ us → isEmpty u ≡ false → Good (doingOf k (scene 1 (u ∷ us)))
+      (d (valOf u)))
       → Good act (unlessEmpty (valueAt w (topAt hd 1)) w (d (valueAt w (topAt hd 1))))
   top-op k d e t g =
       one-op k (unlessEmpty (valueAt w (topAt hd 1)) w (d (valueAt w (topAt hd 1)))) e t
@@ -257,7 +269,8 @@ module _ {p : List ℕ} (outcomes : List ℕ) (s : State) {f : Frame} {fs : List
   pub bool-agrees : opAt p (f .place) ≡ 2 → Good act (afterStep 0 (pushOn w hd (boolVal a)))
   unfolding doingOf doings doBool opOf ops opBool passedBy
   bool-agrees e =
-      by (act-zero 2 e (taken-by 2 e)) (ap (λ (v : Val). afterStep 0 (pushOn w hd v)) (bool-value a (leb→le a 1 (argument-kept 2 e))))
+      by (act-zero 2 e (taken-by 2 e))
+      (ap (λ (v : Val). afterStep 0 (pushOn w hd v)) (bool-value a (leb→le a 1 (argument-kept 2 e))))
       (λ h. ap (afterStep 0) (push-words (busy .stack) (bool (eqb a 1)) h))
 
   -- GET
@@ -266,7 +279,9 @@ module _ {p : List ℕ} (outcomes : List ℕ) (s : State) {f : Frame} {fs : List
   unfolding opOf ops opGet
   get-slot e = ltb→lt a 16 (and-left (ltb a 16) (not (eqb (slotType p (ownerOf p (f .place)) a) 0)) (argument-kept 3 e))
 
-  get-value : (v : Value) → Good (present v (pushes (scene 0 (f .pending)))) (cond (isEmpty v) (afterStep 20 w) (afterStep 0 (pushOn w hd (valOf v))))
+  get-value : (v : Value)
+      → Good (present v (pushes (scene 0 (f .pending))))
+      (cond (isEmpty v) (afterStep 20 w) (afterStep 0 (pushOn w hd (valOf v))))
   unfolding passedBy
   get-value empty h = refl
   get-value (int z) h = ap (afterStep 0) (push-words (busy .stack) (int z) h)
@@ -277,7 +292,8 @@ module _ {p : List ℕ} (outcomes : List ℕ) (s : State) {f : Frame} {fs : List
   unfolding getOp doingOf doings doGet opOf ops opGet
   get-agrees e =
       by (act-zero 3 e (taken-by 3 e))
-      (unless-read (valueAt w (slotAt hd a)) (getD (f .slots) a empty) w (afterStep 0 (pushOn w hd (valueAt w (slotAt hd a)))) read
+      (unless-read (valueAt w (slotAt hd a)) (getD (f .slots) a empty) w
+      (afterStep 0 (pushOn w hd (valueAt w (slotAt hd a)))) read
       ∙ ap (λ (v : Val). cond (isEmpty (getD (f .slots) a empty)) (afterStep 20 w) (afterStep 0 (pushOn w hd v))) read)
       (get-value (getD (f .slots) a empty))
     where
@@ -296,16 +312,19 @@ module _ {p : List ℕ} (outcomes : List ℕ) (s : State) {f : Frame} {fs : List
       top-op 4 (λ v. afterStep 0 (inSlot w hd a v)) e (taken-by 4 e)
       (λ u us q n h. ap (afterStep 0)
       (slot-words (busy .stack) a u (put-slot e)
-      ∙ ap (λ (vs : List Value). processWords (runs (withSlot a u (atPlace (suc (f .place)) (withPending vs f)) ∷ fs))) q))
+      ∙ ap (λ (vs : List Value). processWords (runs (withSlot a u (atPlace (suc (f .place)) (withPending vs f)) ∷ fs)))
+      q))
 
   pub drop-agrees : opAt p (f .place) ≡ 5 → Good act (dropOp w hd)
   unfolding dropOp doingOf doings doDrop opOf ops opDrop
   drop-agrees e =
-      top-op 5 (λ v. afterStep 0 (dropTop w hd)) e (taken-by 5 e) (λ u us q n h. ap (afterStep 0) (drop-words (busy .stack) u us q))
+      top-op 5 (λ v. afterStep 0 (dropTop w hd)) e (taken-by 5 e)
+      (λ u us q n h. ap (afterStep 0) (drop-words (busy .stack) u us q))
 
   clear-slot : opAt p (f .place) ≡ 6 → a < 16
   unfolding opOf ops opClear
-  clear-slot e = ltb→lt a 16 (and-left (ltb a 16) (not (eqb (slotType p (ownerOf p (f .place)) a) 0)) (argument-kept 6 e))
+  clear-slot e =
+      ltb→lt a 16 (and-left (ltb a 16) (not (eqb (slotType p (ownerOf p (f .place)) a) 0)) (argument-kept 6 e))
 
   pub clear-agrees : opAt p (f .place) ≡ 6 → Good act (afterStep 0 (inSlot w hd a emptyVal))
   unfolding doingOf doings doClear opOf ops opClear passedBy valOf tagOf numberOf valueWords
@@ -322,7 +341,8 @@ module _ {p : List ℕ} (outcomes : List ℕ) (s : State) {f : Frame} {fs : List
       side = leb→le a 1 (argument-kept 9 e)
 
       found : (u : Value) (us : List Value) → f .pending ≡ u ∷ us → isEmpty u ≡ false
-          → Good (doEnd (scene 1 (u ∷ us))) (afterStep 0 (onTop w hd (record { tag = 5 + a; number = valOf u .number })))
+          → Good (doEnd (scene 1 (u ∷ us)))
+          (afterStep 0 (onTop w hd (record { tag = 5 + a; number = valOf u .number })))
       found empty us q n h = tt
       found (int z) us q n h = tt
       found (bool b) us q n h = tt
@@ -344,11 +364,14 @@ module _ {p : List ℕ} (outcomes : List ℕ) (s : State) {f : Frame} {fs : List
   pub jfalse-agrees : opAt p (f .place) ≡ 18 → Good act (jfalseOp p w hd a)
   unfolding jfalseOp targetOf doingOf doings doJFalse opOf ops opJFalse valOf numberOf valueWords
   jfalse-agrees e =
-      top-op 18 (λ v. cond (eqb (v .number) 0) (afterStep 0 (dropTo w hd (offsetOf p (f .method) + a))) (afterStep 0 (dropTop w hd))) e (taken-by 18 e) found
+      top-op 18
+      (λ v. cond (eqb (v .number) 0) (afterStep 0 (dropTo w hd (offsetOf p (f .method) + a)))
+      (afterStep 0 (dropTop w hd))) e (taken-by 18 e) found
     where
       found : (u : Value) (us : List Value) → f .pending ≡ u ∷ us → isEmpty u ≡ false
           → Good (doJFalse (scene 1 (u ∷ us)))
-          (cond (eqb (valOf u .number) 0) (afterStep 0 (dropTo w hd (offsetOf p (f .method) + a))) (afterStep 0 (dropTop w hd)))
+          (cond (eqb (valOf u .number) 0) (afterStep 0 (dropTo w hd (offsetOf p (f .method) + a)))
+          (afterStep 0 (dropTop w hd)))
       found empty us q n h = tt
       found (int z) us q n h = tt
       found (bool true) us q n h = ap (afterStep 0) (drop-words (busy .stack) (bool true) us q)
@@ -379,10 +402,12 @@ module _ {p : List ℕ} (outcomes : List ℕ) (s : State) {f : Frame} {fs : List
   read-two y x us k q =
       ap₂ (λ (u v : Val). cond (eqb (u .tag) 0 || eqb (v .tag) 0) (afterStep 20 w) (k (u .number) (v .number)))
       (read-second y x us q) (read-top y (x ∷ us) q)
-      ∙ ap₂ (λ (b c : Bool). cond (b || c) (afterStep 20 w) (k (valOf x .number) (valOf y .number))) (tag-test x) (tag-test y)
+      ∙ ap₂ (λ (b c : Bool). cond (b || c) (afterStep 20 w) (k (valOf x .number) (valOf y .number))) (tag-test x)
+      (tag-test y)
 
   -- the op on values of every kind: fault 20, or both are ints, or the process is stuck
-  ints-op : (k : ℕ) (act-of : At → ℤ → ℤ → Act) (g : ℕ → ℕ → AfterStep) → opAt p (f .place) ≡ k → takenAt p (f .place) ≡ 2
+  ints-op : (k : ℕ) (act-of : At → ℤ → ℤ → Act) (g : ℕ → ℕ → AfterStep) → opAt p (f .place) ≡ k
+      → takenAt p (f .place) ≡ 2
       → ((b : At) → doingOf k b ≡ twoInts b (act-of b))
       → ((x y : ℤ) (us : List Value) → f .pending ≡ int y ∷ int x ∷ us → T (inRange x) → T (inRange y)
       → Good (act-of (scene 2 (int y ∷ int x ∷ us)) x y) (g (word32 x) (word32 y)))
@@ -390,11 +415,15 @@ module _ {p : List ℕ} (outcomes : List ℕ) (s : State) {f : Frame} {fs : List
   unfolding valOf numberOf valueWords
   ints-op k act-of g e t is both =
       two-op k (twoOp w hd g) e t
-      (λ y x us q. as-did (cond (isEmpty y || (isEmpty x || false)) (faults 20) (doingOf k (scene 2 (y ∷ x ∷ us)))) (read-two y x us g q)
-      (by (ap (λ (z : Act). cond (isEmpty y || (isEmpty x || false)) (faults 20) z) (is (scene 2 (y ∷ x ∷ us)))) refl (values y x us q)))
+      (λ y x us q. as-did (cond (isEmpty y || (isEmpty x || false)) (faults 20) (doingOf k (scene 2 (y ∷ x ∷ us))))
+      (read-two y x us g q)
+      (by (ap (λ (z : Act). cond (isEmpty y || (isEmpty x || false)) (faults 20) z) (is (scene 2 (y ∷ x ∷ us)))) refl
+      (values y x us q)))
     where
       values : (y x : Value) (us : List Value) → f .pending ≡ y ∷ x ∷ us
-          → Good (cond (isEmpty y || (isEmpty x || false)) (faults 20) (twoInts (scene 2 (y ∷ x ∷ us)) (act-of (scene 2 (y ∷ x ∷ us)))))
+          → Good
+          (cond (isEmpty y || (isEmpty x || false)) (faults 20)
+          (twoInts (scene 2 (y ∷ x ∷ us)) (act-of (scene 2 (y ∷ x ∷ us)))))
           (cond (isEmpty x || isEmpty y) (afterStep 20 w) (g (valOf x .number) (valOf y .number)))
       values empty empty us q h = refl
       values empty (int x) us q h = refl
@@ -402,7 +431,8 @@ module _ {p : List ℕ} (outcomes : List ℕ) (s : State) {f : Frame} {fs : List
       values empty (ref r) us q h = refl
       values (int y) empty us q h = refl
       values (int y) (int x) us q h =
-          let fine : All (ValueSound (s .config)) (int y ∷ int x ∷ us) = subst (All (ValueSound (s .config))) q (busy .stack .sound .0 .pending) in
+          let fine : All (ValueSound (s .config)) (int y ∷ int x ∷ us) =
+          subst (All (ValueSound (s .config))) q (busy .stack .sound .0 .pending) in
           both x y us q (fine .1 .0) (fine .0) h
       values (int y) (bool b) us q h = tt
       values (int y) (ref r) us q h = tt
@@ -421,58 +451,77 @@ module _ {p : List ℕ} (outcomes : List ℕ) (s : State) {f : Frame} {fs : List
   unfolding resultOp valOf tagOf numberOf valueWords
   result-good z n y x us q sh h =
       ⊎-elim
-      (λ t. subst (λ (b : Bool). Agrees (result (scene 2 (y ∷ x ∷ us)) z) w (cond b (afterStep 26 w) (cond (leb 6442450944 n) (afterStep 26 w) (afterStep 0 (overTwo w hd (intVal (n % 4294967296))))))) (sym t)
+      (λ t. subst (λ (b : Bool). Agrees (result (scene 2 (y ∷ x ∷ us)) z) w
+      (cond b (afterStep 26 w)
+      (cond (leb 6442450944 n) (afterStep 26 w) (afterStep 0 (overTwo w hd (intVal (n % 4294967296))))))) (sym t)
       (out (sh .low (ltb-true n 2147483648 t))))
-      (λ t. subst (λ (b : Bool). Agrees (result (scene 2 (y ∷ x ∷ us)) z) w (cond b (afterStep 26 w) (cond (leb 6442450944 n) (afterStep 26 w) (afterStep 0 (overTwo w hd (intVal (n % 4294967296))))))) (sym t)
+      (λ t. subst (λ (b : Bool). Agrees (result (scene 2 (y ∷ x ∷ us)) z) w
+      (cond b (afterStep 26 w)
+      (cond (leb 6442450944 n) (afterStep 26 w) (afterStep 0 (overTwo w hd (intVal (n % 4294967296))))))) (sym t)
       (⊎-elim
-      (λ u. subst (λ (b : Bool). Agrees (result (scene 2 (y ∷ x ∷ us)) z) w (cond b (afterStep 26 w) (afterStep 0 (overTwo w hd (intVal (n % 4294967296)))))) (sym u)
+      (λ u. subst (λ (b : Bool). Agrees (result (scene 2 (y ∷ x ∷ us)) z) w
+      (cond b (afterStep 26 w) (afterStep 0 (overTwo w hd (intVal (n % 4294967296)))))) (sym u)
       (out (sh .high (leb-true 6442450944 n u))))
-      (λ u. subst (λ (b : Bool). Agrees (result (scene 2 (y ∷ x ∷ us)) z) w (cond b (afterStep 26 w) (afterStep 0 (overTwo w hd (intVal (n % 4294967296)))))) (sym u)
+      (λ u. subst (λ (b : Bool). Agrees (result (scene 2 (y ∷ x ∷ us)) z) w
+      (cond b (afterStep 26 w) (afterStep 0 (overTwo w hd (intVal (n % 4294967296)))))) (sym u)
       (within (sh .inside (ltb-false n 2147483648 t) (leb-false 6442450944 n u))))
       (decide (leb 6442450944 n))))
       (decide (ltb n 2147483648))
     where
       out : inRange z ≡ false → Agrees (result (scene 2 (y ∷ x ∷ us)) z) w (afterStep 26 w)
       out e =
-          subst (λ (b : Bool). Agrees (cond b (pushes (scene 2 (y ∷ x ∷ us)) (int z)) (faults 26)) w (afterStep 26 w)) (sym e) refl
+          subst (λ (b : Bool). Agrees (cond b (pushes (scene 2 (y ∷ x ∷ us)) (int z)) (faults 26)) w (afterStep 26 w))
+          (sym e) refl
 
-      within : (inRange z ≡ true) × (word32 z ≡ n % 4294967296) → Agrees (result (scene 2 (y ∷ x ∷ us)) z) w (afterStep 0 (overTwo w hd (intVal (n % 4294967296))))
+      within : (inRange z ≡ true) × (word32 z ≡ n % 4294967296)
+          → Agrees (result (scene 2 (y ∷ x ∷ us)) z) w (afterStep 0 (overTwo w hd (intVal (n % 4294967296))))
       within e =
-          subst (λ (b : Bool). Agrees (cond b (pushes (scene 2 (y ∷ x ∷ us)) (int z)) (faults 26)) w (afterStep 0 (overTwo w hd (intVal (n % 4294967296))))) (sym (e .0))
-          (ap (afterStep 0) (ap (λ (m : ℕ). overTwo w hd (intVal m)) (sym (e .1)) ∙ two-words (busy .stack) y x (int z) us q))
+          subst
+          (λ (b : Bool). Agrees (cond b (pushes (scene 2 (y ∷ x ∷ us)) (int z)) (faults 26)) w
+          (afterStep 0 (overTwo w hd (intVal (n % 4294967296))))) (sym (e .0))
+          (ap (afterStep 0)
+          (ap (λ (m : ℕ). overTwo w hd (intVal m)) (sym (e .1)) ∙ two-words (busy .stack) y x (int z) us q))
 
   pub add-agrees : opAt p (f .place) ≡ 19 → Good act (addOp w hd)
   unfolding addOp doingOf doings doAdd opOf ops opArith
   add-agrees e =
       ints-op 19 (λ b x y. result b (x +ℤ y)) (λ x y. resultOp w hd (biased x + biased y)) e (taken-by 19 e) (λ b. refl)
-      (λ x y us q hx hy. result-good (x +ℤ y) (biased (word32 x) + biased (word32 y)) (int y) (int x) us q (sum-shifted x y hx hy))
+      (λ x y us q hx hy. result-good (x +ℤ y) (biased (word32 x) + biased (word32 y)) (int y) (int x) us q
+      (sum-shifted x y hx hy))
 
   pub sub-agrees : opAt p (f .place) ≡ 20 → Good act (subOp w hd)
   unfolding subOp doingOf doings doSub opOf ops opArith
   sub-agrees e =
-      ints-op 20 (λ b x y. result b (x -ℤ y)) (λ x y. resultOp w hd (biased x + 4294967296 - biased y)) e (taken-by 20 e) (λ b. refl)
-      (λ x y us q hx hy. result-good (x -ℤ y) (biased (word32 x) + 4294967296 - biased (word32 y)) (int y) (int x) us q (difference-shifted x y hx hy))
+      ints-op 20 (λ b x y. result b (x -ℤ y)) (λ x y. resultOp w hd (biased x + 4294967296 - biased y)) e
+      (taken-by 20 e) (λ b. refl)
+      (λ x y us q hx hy. result-good (x -ℤ y) (biased (word32 x) + 4294967296 - biased (word32 y)) (int y) (int x) us q
+      (difference-shifted x y hx hy))
 
   -- a boolean in place of two ints
   test-good : (b c : Bool) (y x : Value) (us : List Value) → b ≡ c → f .pending ≡ y ∷ x ∷ us
       → Good (pushes (scene 2 (y ∷ x ∷ us)) (bool c)) (afterStep 0 (overTwo w hd (boolVal (bit b))))
   unfolding valOf tagOf numberOf valueWords
   test-good b true y x us e q h =
-      ap (afterStep 0) (ap (λ (t : Bool). overTwo w hd (boolVal (bit t))) e ∙ two-words (busy .stack) y x (bool true) us q)
+      ap (afterStep 0)
+      (ap (λ (t : Bool). overTwo w hd (boolVal (bit t))) e ∙ two-words (busy .stack) y x (bool true) us q)
   test-good b false y x us e q h =
-      ap (afterStep 0) (ap (λ (t : Bool). overTwo w hd (boolVal (bit t))) e ∙ two-words (busy .stack) y x (bool false) us q)
+      ap (afterStep 0)
+      (ap (λ (t : Bool). overTwo w hd (boolVal (bit t))) e ∙ two-words (busy .stack) y x (bool false) us q)
 
   pub eq-agrees : opAt p (f .place) ≡ 21 → Good act (eqOp w hd)
   unfolding eqOp doingOf doings doEq opOf ops opCompare
   eq-agrees e =
-      ints-op 21 (λ b x y. pushes b (bool (eqZ x y))) (λ x y. afterStep 0 (overTwo w hd (boolVal (bit (eqb x y))))) e (taken-by 21 e) (λ b. refl)
+      ints-op 21 (λ b x y. pushes b (bool (eqZ x y))) (λ x y. afterStep 0 (overTwo w hd (boolVal (bit (eqb x y))))) e
+      (taken-by 21 e) (λ b. refl)
       (λ x y us q hx hy. test-good (eqb (word32 x) (word32 y)) (eqZ x y) (int y) (int x) us (words-same x y hx hy) q)
 
   pub less-agrees : opAt p (f .place) ≡ 22 → Good act (lessOp w hd)
   unfolding lessOp doingOf doings doLess opOf ops opCompare
   less-agrees e =
-      ints-op 22 (λ b x y. pushes b (bool (ltZ x y))) (λ x y. afterStep 0 (overTwo w hd (boolVal (bit (ltb (biased x) (biased y)))))) e (taken-by 22 e) (λ b. refl)
-      (λ x y us q hx hy. test-good (ltb (biased (word32 x)) (biased (word32 y))) (ltZ x y) (int y) (int x) us (less-same x y hx hy) q)
+      ints-op 22 (λ b x y. pushes b (bool (ltZ x y)))
+      (λ x y. afterStep 0 (overTwo w hd (boolVal (bit (ltb (biased x) (biased y)))))) e (taken-by 22 e) (λ b. refl)
+      (λ x y us q hx hy. test-good (ltb (biased (word32 x)) (biased (word32 y))) (ltZ x y) (int y) (int x) us
+      (less-same x y hx hy) q)
 
   -- CALL
 
@@ -480,14 +529,17 @@ module _ {p : List ℕ} (outcomes : List ℕ) (s : State) {f : Frame} {fs : List
   pub owner-is : ownerOf p (f .place) ≡ f .method
   owner-is = inside-owner p (busy .stack .kept) (record { method = busy .stack .sound .0 .method; from-offset = busy .stack .sound .0 .from-offset; ahead = busy .stack .sound .0 .inside })
 
-  any-taken : (vs : List Value) (j : ℕ) → j < length vs → any isEmpty (take (suc j) vs) ≡ (any isEmpty (take j vs) || isEmpty (getD vs j empty))
+  any-taken : (vs : List Value) (j : ℕ) → j < length vs
+      → any isEmpty (take (suc j) vs) ≡ (any isEmpty (take j vs) || isEmpty (getD vs j empty))
   any-taken [] j h = absurd (not-suc-le-zero h)
   any-taken (v ∷ vs) zero h = or-false (isEmpty v)
     where
       or-false : (b : Bool) → (b || false) ≡ b
       or-false true = refl
       or-false false = refl
-  any-taken (v ∷ vs) (suc j) h = ap (λ (b : Bool). isEmpty v || b) (any-taken vs j (le-of-suc-le-suc h)) ∙ or-assoc (isEmpty v) (any isEmpty (take j vs)) (isEmpty (getD vs j empty))
+  any-taken (v ∷ vs) (suc j) h =
+      ap (λ (b : Bool). isEmpty v || b) (any-taken vs j (le-of-suc-le-suc h))
+      ∙ or-assoc (isEmpty v) (any isEmpty (take j vs)) (isEmpty (getD vs j empty))
     where
       or-assoc : (x y z : Bool) → (x || (y || z)) ≡ ((x || y) || z)
       or-assoc true y z = refl
@@ -519,15 +571,21 @@ module _ {p : List ℕ} (outcomes : List ℕ) (s : State) {f : Frame} {fs : List
       n = paramsOf p a
 
       starts : Act
-      starts = goes (started p a (reverse (take n (f .pending))) ∷ atPlace (suc (f .place)) (withPending (drop n (f .pending)) f) ∷ fs) [] 0
+      starts =
+          goes
+          (started p a (reverse (take n (f .pending))) ∷ atPlace (suc (f .place)) (withPending (drop n (f .pending)) f)
+          ∷ fs) [] 0
 
       room-test : (b : Bool) → ltb (suc (length fs)) 8 ≡ b → n ≤ length (f .pending)
-          → Good (cond b starts (faults 25)) (cond (leb 8 (suc (length fs))) (afterStep 25 w) (afterStep 0 (opened p w hd a n)))
+          → Good (cond b starts (faults 25))
+          (cond (leb 8 (suc (length fs))) (afterStep 25 w) (afterStep 0 (opened p w hd a n)))
       room-test true t l h =
-          ap (λ (b : Bool). cond b (afterStep 25 w) (afterStep 0 (opened p w hd a n))) (lt-leb 8 (suc (length fs)) (ltb-true (suc (length fs)) 8 t))
+          ap (λ (b : Bool). cond b (afterStep 25 w) (afterStep 0 (opened p w hd a n)))
+          (lt-leb 8 (suc (length fs)) (ltb-true (suc (length fs)) 8 t))
           ∙ ap (afterStep 0) (opened-words (busy .stack) (ltb-true (suc (length fs)) 8 t) a n (call-method e) l)
       room-test false t l h =
-          ap (λ (b : Bool). cond b (afterStep 25 w) (afterStep 0 (opened p w hd a n))) (le-leb 8 (suc (length fs)) (ltb-false (suc (length fs)) 8 t))
+          ap (λ (b : Bool). cond b (afterStep 25 w) (afterStep 0 (opened p w hd a n)))
+          (le-leb 8 (suc (length fs)) (ltb-false (suc (length fs)) 8 t))
 
       full-test : (b : Bool) → any isEmpty (take n (f .pending)) ≡ b → n ≤ length (f .pending)
           → Good (cond b (faults 20) (cond (ltb (suc (length fs)) 8) starts (faults 25)))
@@ -539,8 +597,12 @@ module _ {p : List ℕ} (outcomes : List ℕ) (s : State) {f : Frame} {fs : List
       enough l =
           by
           (act-is 12 n (f .pending) e (taken-by 12 e) refl
-          ∙ ap (λ (b : Bool). cond b (cond (any isEmpty (take n (f .pending))) (faults 20) (cond (ltb (suc (length fs)) 8) starts (faults 25))) stuck) (le-leb n (length (f .pending)) l))
-          (ap (λ (b : Bool). cond b (afterStep 20 w) (cond (leb 8 (suc (length fs))) (afterStep 25 w) (afterStep 0 (opened p w hd a n)))) (empty-args n l))
+          ∙ ap (λ (b : Bool). cond b
+          (cond (any isEmpty (take n (f .pending))) (faults 20) (cond (ltb (suc (length fs)) 8) starts (faults 25)))
+          stuck) (le-leb n (length (f .pending)) l))
+          (ap
+          (λ (b : Bool). cond b (afterStep 20 w)
+          (cond (leb 8 (suc (length fs))) (afterStep 25 w) (afterStep 0 (opened p w hd a n)))) (empty-args n l))
           (full-test (any isEmpty (take n (f .pending))) refl l)
 
 -- RET, by whether the frame has a caller
@@ -560,19 +622,25 @@ Returns f vs fs d = Height (returnTo vs fs) → Agrees (returnTo vs fs) (process
 module _ {p : List ℕ} (outcomes : List ℕ) (s : State) {f : Frame} where
   void-return : (fs : List Frame) → Stack p (s .config) f fs
       → Returns f [] fs
-      (cond (eqb (suc (length fs)) 1) (afterStep 113 (processWords (runs (f ∷ fs)))) (afterStep 0 (closed (processWords (runs (f ∷ fs))) (headIn f fs))))
+      (cond (eqb (suc (length fs)) 1) (afterStep 113 (processWords (runs (f ∷ fs))))
+      (afterStep 0 (closed (processWords (runs (f ∷ fs))) (headIn f fs))))
   void-return [] stack h = refl
   void-return (g ∷ gs) stack h =
-      ap (λ (b : Bool). cond b (afterStep 113 (processWords (runs (f ∷ g ∷ gs)))) (afterStep 0 (closed (processWords (runs (f ∷ g ∷ gs))) (headIn f (g ∷ gs)))))
+      ap
+      (λ (b : Bool). cond b (afterStep 113 (processWords (runs (f ∷ g ∷ gs))))
+      (afterStep 0 (closed (processWords (runs (f ∷ g ∷ gs))) (headIn f (g ∷ gs)))))
       (ne-eqb (suc (suc (length gs))) 1 (λ e. omega arith))
       ∙ ap (afterStep 0) (closed-words stack)
 
   value-return : (u : Value) (fs : List Frame) → Stack p (s .config) f fs
       → Returns f (u ∷ []) fs
-      (cond (eqb (suc (length fs)) 1) (afterStep 113 (processWords (runs (f ∷ fs)))) (afterStep 0 (handed (closed (processWords (runs (f ∷ fs))) (headIn f fs)) (valOf u))))
+      (cond (eqb (suc (length fs)) 1) (afterStep 113 (processWords (runs (f ∷ fs))))
+      (afterStep 0 (handed (closed (processWords (runs (f ∷ fs))) (headIn f fs)) (valOf u))))
   value-return u [] stack h = refl
   value-return u (g ∷ gs) stack h =
-      ap (λ (b : Bool). cond b (afterStep 113 (processWords (runs (f ∷ g ∷ gs)))) (afterStep 0 (handed (closed (processWords (runs (f ∷ g ∷ gs))) (headIn f (g ∷ gs))) (valOf u))))
+      ap
+      (λ (b : Bool). cond b (afterStep 113 (processWords (runs (f ∷ g ∷ gs))))
+      (afterStep 0 (handed (closed (processWords (runs (f ∷ g ∷ gs))) (headIn f (g ∷ gs))) (valOf u))))
       (ne-eqb (suc (suc (length gs))) 1 (λ e. omega arith))
       ∙ ap (afterStep 0)
       (ap (λ (l : List ℕ). handed l (valOf u)) (closed-words stack)
@@ -582,7 +650,8 @@ module _ {p : List ℕ} (outcomes : List ℕ) (s : State) {f : Frame} where
       → Good outcomes s busy (atFrame p outcomes s f fs) (retOp p (processWords (runs (f ∷ fs))) (headIn f fs))
   unfolding retOp doingOf doings doRet opOf ops opRet
   ret-agrees {fs} busy e =
-      ⊎-elim (λ t. void (eqb-true (returnOf p (f .method)) 0 t) t) (λ t. valued t) (decide (eqb (returnOf p (f .method)) 0))
+      ⊎-elim (λ t. void (eqb-true (returnOf p (f .method)) 0 t) t) (λ t. valued t)
+      (decide (eqb (returnOf p (f .method)) 0))
     where
       w : List ℕ
       w = processWords (runs (f ∷ fs))
@@ -591,7 +660,8 @@ module _ {p : List ℕ} (outcomes : List ℕ) (s : State) {f : Frame} where
       hd = headIn f fs
 
       taken : takenAt p (f .place) ≡ length (returned (returnOf p (f .method)))
-      taken = taken-by outcomes s busy 13 e ∙ ap (λ (m : ℕ). length (returned (returnOf p m))) (owner-is outcomes s busy)
+      taken =
+          taken-by outcomes s busy 13 e ∙ ap (λ (m : ℕ). length (returned (returnOf p m))) (owner-is outcomes s busy)
 
       none-taken : returnOf p (f .method) ≡ 0 → takenAt p (f .place) ≡ 0
       none-taken z = taken ∙ ap (λ (t : ℕ). length (returned t)) z ∙ returned-none
@@ -599,18 +669,28 @@ module _ {p : List ℕ} (outcomes : List ℕ) (s : State) {f : Frame} where
       one-taken : eqb (returnOf p (f .method)) 0 ≡ false → takenAt p (f .place) ≡ 1
       one-taken t = taken ∙ returned-one (returnOf p (f .method)) t
 
-      void : returnOf p (f .method) ≡ 0 → eqb (returnOf p (f .method)) 0 ≡ true → Good outcomes s busy (atFrame p outcomes s f fs) (retOp p w hd)
+      void : returnOf p (f .method) ≡ 0 → eqb (returnOf p (f .method)) 0 ≡ true
+          → Good outcomes s busy (atFrame p outcomes s f fs) (retOp p w hd)
       void z t =
           by outcomes s busy
           (act-zero outcomes s busy 13 e (none-taken z))
-          (ap (λ (b : Bool). cond b (cond (eqb (suc (length fs)) 1) (afterStep 113 w) (afterStep 0 (closed w hd))) (unlessEmpty (valueAt w (topAt hd 1)) w (cond (eqb (suc (length fs)) 1) (afterStep 113 w) (afterStep 0 (handed (closed w hd) (valueAt w (topAt hd 1))))))) t)
+          (ap
+          (λ (b : Bool). cond b (cond (eqb (suc (length fs)) 1) (afterStep 113 w) (afterStep 0 (closed w hd)))
+          (unlessEmpty (valueAt w (topAt hd 1)) w
+          (cond (eqb (suc (length fs)) 1) (afterStep 113 w)
+          (afterStep 0 (handed (closed w hd) (valueAt w (topAt hd 1))))))) t)
           (void-return fs (busy .stack))
 
       valued : eqb (returnOf p (f .method)) 0 ≡ false → Good outcomes s busy (atFrame p outcomes s f fs) (retOp p w hd)
       valued t =
           as-did outcomes s busy (atFrame p outcomes s f fs)
-          (ap (λ (b : Bool). cond b (cond (eqb (suc (length fs)) 1) (afterStep 113 w) (afterStep 0 (closed w hd))) (unlessEmpty (valueAt w (topAt hd 1)) w (cond (eqb (suc (length fs)) 1) (afterStep 113 w) (afterStep 0 (handed (closed w hd) (valueAt w (topAt hd 1))))))) t)
-          (top-op outcomes s busy 13 (λ v. cond (eqb (suc (length fs)) 1) (afterStep 113 w) (afterStep 0 (handed (closed w hd) v))) e (one-taken t)
+          (ap
+          (λ (b : Bool). cond b (cond (eqb (suc (length fs)) 1) (afterStep 113 w) (afterStep 0 (closed w hd)))
+          (unlessEmpty (valueAt w (topAt hd 1)) w
+          (cond (eqb (suc (length fs)) 1) (afterStep 113 w)
+          (afterStep 0 (handed (closed w hd) (valueAt w (topAt hd 1))))))) t)
+          (top-op outcomes s busy 13
+          (λ v. cond (eqb (suc (length fs)) 1) (afterStep 113 w) (afterStep 0 (handed (closed w hd) v))) e (one-taken t)
           (λ u us q n. value-return u fs (busy .stack)))
 
 -- one step
@@ -619,7 +699,8 @@ module _ {p : List ℕ} (outcomes : List ℕ) (s : State) {f : Frame} where
 abbrev pub isLeft : ℕ → Bool
 isLeft op =
     getD
-    (false ∷ false ∷ false ∷ false ∷ false ∷ false ∷ false ∷ true ∷ true ∷ false ∷ true ∷ true ∷ false ∷ false ∷ true ∷ true ∷ true ∷ [])
+    (false ∷ false ∷ false ∷ false ∷ false ∷ false ∷ false ∷ true ∷ true ∷ false ∷ true ∷ true ∷ false ∷ false ∷ true ∷
+    true ∷ true ∷ [])
     op
     false
 
@@ -637,28 +718,38 @@ left-answers p w h (suc (suc (suc (suc (suc (suc (suc (suc zero)))))))) a t = re
 left-answers p w h (suc (suc (suc (suc (suc (suc (suc (suc (suc zero))))))))) a t = absurd (true≢false (sym t))
 left-answers p w h (suc (suc (suc (suc (suc (suc (suc (suc (suc (suc zero)))))))))) a t = refl
 left-answers p w h (suc (suc (suc (suc (suc (suc (suc (suc (suc (suc (suc zero))))))))))) a t = refl
-left-answers p w h (suc (suc (suc (suc (suc (suc (suc (suc (suc (suc (suc (suc zero)))))))))))) a t = absurd (true≢false (sym t))
-left-answers p w h (suc (suc (suc (suc (suc (suc (suc (suc (suc (suc (suc (suc (suc zero))))))))))))) a t = absurd (true≢false (sym t))
+left-answers p w h (suc (suc (suc (suc (suc (suc (suc (suc (suc (suc (suc (suc zero)))))))))))) a t =
+    absurd (true≢false (sym t))
+left-answers p w h (suc (suc (suc (suc (suc (suc (suc (suc (suc (suc (suc (suc (suc zero))))))))))))) a t =
+    absurd (true≢false (sym t))
 left-answers p w h (suc (suc (suc (suc (suc (suc (suc (suc (suc (suc (suc (suc (suc (suc zero)))))))))))))) a t = refl
-left-answers p w h (suc (suc (suc (suc (suc (suc (suc (suc (suc (suc (suc (suc (suc (suc (suc zero))))))))))))))) a t = refl
+left-answers p w h (suc (suc (suc (suc (suc (suc (suc (suc (suc (suc (suc (suc (suc (suc (suc zero))))))))))))))) a t =
+    refl
 left-answers p w h (suc (suc (suc (suc (suc (suc (suc (suc (suc (suc (suc (suc (suc (suc (suc (suc zero)))))))))))))))) a t = refl
 left-answers p w h (suc (suc (suc (suc (suc (suc (suc (suc (suc (suc (suc (suc (suc (suc (suc (suc (suc k))))))))))))))))) a t = absurd (true≢false (sym t))
 
-module _ {p : List ℕ} (outcomes : List ℕ) (s : State) {f : Frame} {fs : List Frame} (busy : AtWork p (s .config) f fs) where
+module _ {p : List ℕ} (outcomes : List ℕ) (s : State) {f : Frame} {fs : List Frame}
+    (busy : AtWork p (s .config) f fs) where
   -- a running process's step is its op's function
   step-is : stepOp p (processWords (runs (f ∷ fs)))
       ≡ actOp p (processWords (runs (f ∷ fs))) (headIn f fs) (opAt p (f .place)) (argAt p (f .place))
   unfolding stepOp
   step-is =
-      ap (λ (h : Head). cond (eqb (h .status) 1) (actOp p (processWords (runs (f ∷ fs))) h (opAt p (h .place)) (argAt p (h .place))) (afterStep 1 (processWords (runs (f ∷ fs)))))
+      ap
+      (λ (h : Head). cond (eqb (h .status) 1)
+      (actOp p (processWords (runs (f ∷ fs))) h (opAt p (h .place)) (argAt p (h .place)))
+      (afterStep 1 (processWords (runs (f ∷ fs)))))
       (head-is (busy .stack))
 
   -- an op that is left answers 100 and its number
-  pub step-left : isLeft (opAt p (f .place)) ≡ true → stepOp p (processWords (runs (f ∷ fs))) ≡ afterStep (100 + opAt p (f .place)) (processWords (runs (f ∷ fs)))
-  step-left t = step-is ∙ left-answers p (processWords (runs (f ∷ fs))) (headIn f fs) (opAt p (f .place)) (argAt p (f .place)) t
+  pub step-left : isLeft (opAt p (f .place)) ≡ true
+      → stepOp p (processWords (runs (f ∷ fs))) ≡ afterStep (100 + opAt p (f .place)) (processWords (runs (f ∷ fs)))
+  step-left t =
+      step-is ∙ left-answers p (processWords (runs (f ∷ fs))) (headIn f fs) (opAt p (f .place)) (argAt p (f .place)) t
 
   op-agrees : (op : ℕ) → opAt p (f .place) ≡ op → isLeft op ≡ false
-      → Good outcomes s busy (atFrame p outcomes s f fs) (actOp p (processWords (runs (f ∷ fs))) (headIn f fs) op (argAt p (f .place)))
+      → Good outcomes s busy (atFrame p outcomes s f fs)
+      (actOp p (processWords (runs (f ∷ fs))) (headIn f fs) op (argAt p (f .place)))
   unfolding actOp opFunctions intOp boolOp clearOp opOf ops unlisted
   op-agrees zero e t = absurd (argument-kept outcomes s busy 0 e)
   op-agrees (suc zero) e t = int-agrees outcomes s busy e
@@ -672,11 +763,16 @@ module _ {p : List ℕ} (outcomes : List ℕ) (s : State) {f : Frame} {fs : List
   op-agrees (suc (suc (suc (suc (suc (suc (suc (suc (suc zero))))))))) e t = end-agrees outcomes s busy e
   op-agrees (suc (suc (suc (suc (suc (suc (suc (suc (suc (suc zero)))))))))) e t = absurd (true≢false t)
   op-agrees (suc (suc (suc (suc (suc (suc (suc (suc (suc (suc (suc zero))))))))))) e t = absurd (true≢false t)
-  op-agrees (suc (suc (suc (suc (suc (suc (suc (suc (suc (suc (suc (suc zero)))))))))))) e t = call-agrees outcomes s busy e
-  op-agrees (suc (suc (suc (suc (suc (suc (suc (suc (suc (suc (suc (suc (suc zero))))))))))))) e t = ret-agrees outcomes s busy e
-  op-agrees (suc (suc (suc (suc (suc (suc (suc (suc (suc (suc (suc (suc (suc (suc zero)))))))))))))) e t = absurd (true≢false t)
-  op-agrees (suc (suc (suc (suc (suc (suc (suc (suc (suc (suc (suc (suc (suc (suc (suc zero))))))))))))))) e t = absurd (true≢false t)
-  op-agrees (suc (suc (suc (suc (suc (suc (suc (suc (suc (suc (suc (suc (suc (suc (suc (suc zero)))))))))))))))) e t = absurd (true≢false t)
+  op-agrees (suc (suc (suc (suc (suc (suc (suc (suc (suc (suc (suc (suc zero)))))))))))) e t =
+      call-agrees outcomes s busy e
+  op-agrees (suc (suc (suc (suc (suc (suc (suc (suc (suc (suc (suc (suc (suc zero))))))))))))) e t =
+      ret-agrees outcomes s busy e
+  op-agrees (suc (suc (suc (suc (suc (suc (suc (suc (suc (suc (suc (suc (suc (suc zero)))))))))))))) e t =
+      absurd (true≢false t)
+  op-agrees (suc (suc (suc (suc (suc (suc (suc (suc (suc (suc (suc (suc (suc (suc (suc zero))))))))))))))) e t =
+      absurd (true≢false t)
+  op-agrees (suc (suc (suc (suc (suc (suc (suc (suc (suc (suc (suc (suc (suc (suc (suc (suc zero)))))))))))))))) e t =
+      absurd (true≢false t)
   op-agrees (suc (suc (suc (suc (suc (suc (suc (suc (suc (suc (suc (suc (suc (suc (suc (suc (suc zero))))))))))))))))) e t = jump-agrees outcomes s busy e
   op-agrees (suc (suc (suc (suc (suc (suc (suc (suc (suc (suc (suc (suc (suc (suc (suc (suc (suc (suc zero)))))))))))))))))) e t = jfalse-agrees outcomes s busy e
   op-agrees (suc (suc (suc (suc (suc (suc (suc (suc (suc (suc (suc (suc (suc (suc (suc (suc (suc (suc (suc zero))))))))))))))))))) e t = add-agrees outcomes s busy e
@@ -690,4 +786,5 @@ module _ {p : List ℕ} (outcomes : List ℕ) (s : State) {f : Frame} {fs : List
   pub step-agrees : isLeft (opAt p (f .place)) ≡ false → Height (atFrame p outcomes s f fs)
       → Agrees (atFrame p outcomes s f fs) (processWords (runs (f ∷ fs))) (stepOp p (processWords (runs (f ∷ fs))))
   step-agrees t h =
-      subst (Agrees (atFrame p outcomes s f fs) (processWords (runs (f ∷ fs)))) (sym step-is) (op-agrees (opAt p (f .place)) refl t h)
+      subst (Agrees (atFrame p outcomes s f fs) (processWords (runs (f ∷ fs)))) (sym step-is)
+      (op-agrees (opAt p (f .place)) refl t h)

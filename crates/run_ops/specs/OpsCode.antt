@@ -37,7 +37,8 @@ callOp p w h a =
 -- the top frame closed
 unfoldable pub closed : List ℕ → Head → List ℕ
 closed w h =
-    set (clearedFrom (clearedFrom w (frameAt (h .frames)) 48) (headAt (h .frames)) 3) 2 ((h .frames + 4294967295) % 4294967296)
+    set (clearedFrom (clearedFrom w (frameAt (h .frames)) 48) (headAt (h .frames)) 3) 2
+    ((h .frames + 4294967295) % 4294967296)
 
 -- a value handed to the frame that then is at work
 unfoldable pub handed : List ℕ → Val → List ℕ
@@ -73,7 +74,8 @@ opFunctions =
     ∷ leftToRun 7 ∷ leftToRun 8 ∷ (λ p w h a. endOp w h a) ∷ leftToRun 10 ∷ leftToRun 11
     ∷ callOp ∷ (λ p w h a. retOp p w h) ∷ leftToRun 14 ∷ leftToRun 15 ∷ leftToRun 16
     ∷ jumpOp ∷ jfalseOp
-    ∷ (λ p w h a. addOp w h) ∷ (λ p w h a. subOp w h) ∷ (λ p w h a. eqOp w h) ∷ (λ p w h a. lessOp w h) ∷ (λ p w h a. notOp w h)
+    ∷ (λ p w h a. addOp w h) ∷ (λ p w h a. subOp w h) ∷ (λ p w h a. eqOp w h) ∷ (λ p w h a. lessOp w h) ∷
+    (λ p w h a. notOp w h)
     ∷ []
 
 unfoldable pub actOp : List ℕ → List ℕ → Head → ℕ → ℕ → AfterStep
@@ -82,4 +84,5 @@ actOp p w h op a = getD opFunctions op noOp p w h a
 -- one step of a process whose part is w: 1 where it does not run
 unfoldable pub stepOp : List ℕ → List ℕ → AfterStep
 stepOp p w =
-    cond (eqb (headOf w .status) 1) (actOp p w (headOf w) (opAt p (headOf w .place)) (argAt p (headOf w .place))) (afterStep 1 w)
+    cond (eqb (headOf w .status) 1) (actOp p w (headOf w) (opAt p (headOf w .place)) (argAt p (headOf w .place)))
+    (afterStep 1 w)

@@ -1,5 +1,5 @@
--- The acts of all ops but SEND and RECV: a process offers nothing there and is not idle, and where it goes on it writes at
--- most one line and uses at most one outcome.
+-- The acts of all ops but SEND and RECV: a process offers nothing there and is not idle, and where it goes on it writes
+-- at most one line and uses at most one outcome.
 use Prim.Native.Nat.{ℕ, zero, suc, _≤_}
 use mathlib.Core.Path.{_∙_, subst}
 use mathlib.Core.Logic.{_≢_}
@@ -84,7 +84,8 @@ on-return vs [] = tt
 on-return vs (f ∷ fs) = quietly
 
 two-ints : (a : At) (k : ℤ → ℤ → Act) → ((x y : ℤ) → Alone (k x y)) → Alone (twoInts a k)
-two-ints a k h = on-int (operand a 1) (λ x. asInt (operand a 0) (λ y. k x y)) (λ x. on-int (operand a 0) (λ y. k x y) (h x))
+two-ints a k h =
+    on-int (operand a 1) (λ x. asInt (operand a 0) (λ y. k x y)) (λ x. on-int (operand a 0) (λ y. k x y) (h x))
 
 in-range : (a : At) (z : ℤ) → Alone (result a z)
 in-range a z = cond-both Alone (inRange z) quietly tt
@@ -140,11 +141,13 @@ doing-alone : (k : ℕ) → k ≢ 15 → k ≢ 16 → AloneAt (doingOf k)
 unfolding doingOf
 doing-alone k m n =
     subst AloneAt
-    (getD-set-other (set doings 15 doNothing) 16 k doNothing doNothing n ∙ getD-set-other doings 15 k doNothing doNothing m)
+    (getD-set-other (set doings 15 doNothing) 16 k doNothing doNothing n
+    ∙ getD-set-other doings 15 k doNothing doNothing m)
     (pick others-alone k)
 
 -- a frame at any op but the two
-pub frame-alone : (p outcomes : List ℕ) (s : State) (f : Frame) (fs : List Frame) → opAt p (f .place) ≢ 15 → opAt p (f .place) ≢ 16
+pub frame-alone : (p outcomes : List ℕ) (s : State) (f : Frame) (fs : List Frame) → opAt p (f .place) ≢ 15
+    → opAt p (f .place) ≢ 16
     → Alone (atFrame p outcomes s f fs)
 unfolding atFrame
 frame-alone p outcomes s f fs m n =

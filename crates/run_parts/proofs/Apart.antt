@@ -15,7 +15,8 @@ use Rattle.run_parts.specs.PartsCode.{partAt, partOf, withPart}
 pub part-same : (w : List ℕ) (n : ℕ) → withPart w n (partOf w n) ≡ w
 unfolding withPart partOf
 part-same w n =
-    ap (λ (l : List ℕ). take (partAt n) w ++ l) (take-append-drop 512 (drop (partAt n) w)) ∙ take-append-drop (partAt n) w
+    ap (λ (l : List ℕ). take (partAt n) w ++ l) (take-append-drop 512 (drop (partAt n) w))
+    ∙ take-append-drop (partAt n) w
 
 -- the 512 words from place a on, before or after 512 others
 
@@ -33,7 +34,8 @@ beyond a xs ys zs ws h y z = there ys y ∙ sym (there zs z)
   where
     there : (us : List ℕ) → length us ≡ 512 → drop a (xs ++ (us ++ ws)) ≡ drop (a - length xs - 512) ws
     there us u =
-        ap (λ (i : ℕ). drop i (xs ++ (us ++ ws))) {x = a} {y = length xs + (length us + (a - length xs - 512))} (omega (arith, h, u))
+        ap (λ (i : ℕ). drop i (xs ++ (us ++ ws))) {x = a} {y = length xs + (length us + (a - length xs - 512))}
+        (omega (arith, h, u))
         ∙ drop-append-add xs (us ++ ws) (length us + (a - length xs - 512))
         ∙ drop-append-add us ws (a - length xs - 512)
 
@@ -61,12 +63,15 @@ module _ (w : List ℕ) (long : 8192 ≤ length w) where
         length-drop (partAt n) w,
       )
 
-  pub part-other : (n q : ℕ) (ws : List ℕ) → n < 8 → q < 8 → q ≢ n → length ws ≡ 512 → partOf (withPart w n ws) q ≡ partOf w q
+  pub part-other : (n q : ℕ) (ws : List ℕ) → n < 8 → q < 8 → q ≢ n → length ws ≡ 512
+      → partOf (withPart w n ws) q ≡ partOf w q
   unfolding withPart partOf
   part-other n q ws h k ne l =
       ⊎-elim
       (λ t. before (partAt q) (take (partAt n) w) _ _ (omega (arith, ltb-true q n t, front)))
-      (λ t. ap (take 512) (beyond (partAt q) (take (partAt n) w) ws (partOf w n) _ (omega (arith, ltb-false q n t, ne, front)) l (part-long n h)))
+      (λ t. ap (take 512)
+      (beyond (partAt q) (take (partAt n) w) ws (partOf w n) _ (omega (arith, ltb-false q n t, ne, front)) l
+      (part-long n h)))
       (decide (ltb q n))
       ∙ ap (λ (v : List ℕ). partOf v q) (part-same w n)
     where

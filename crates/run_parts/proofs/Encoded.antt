@@ -23,7 +23,8 @@ use Rattle.run_parts.specs.PartsCode.{partAt, partOf, withPart}
 after-first : (size : ℕ) (g : List ℕ) (gs : List (List ℕ)) (rest : List ℕ) (n : ℕ) → length g ≡ size
     → drop (size * suc n) ((g ++ flatten gs) ++ rest) ≡ drop (size * n) (flatten gs ++ rest)
 after-first size g gs rest n e =
-    ap (λ (k : ℕ). drop k ((g ++ flatten gs) ++ rest)) {x = size * suc n} {y = length g + size * n} (omega (arith, e, mul-suc size n))
+    ap (λ (k : ℕ). drop k ((g ++ flatten gs) ++ rest)) {x = size * suc n} {y = length g + size * n}
+    (omega (arith, e, mul-suc size n))
     ∙ ap (drop (length g + size * n)) (append-assoc g (flatten gs) rest)
     ∙ drop-append-add g (flatten gs ++ rest) (size * n)
 
@@ -36,19 +37,25 @@ group-drop size (g ∷ gs) rest zero a h =
     ap (λ (k : ℕ). drop k ((g ++ flatten gs) ++ rest)) {x = size * 0} {y = 0} (omega arith)
     ∙ append-assoc g (flatten gs) rest
     ∙ ap (λ (l : List ℕ). g ++ l)
-    (ap (λ (k : ℕ). drop k (flatten gs ++ rest)) {x = 0} {y = size * 0} (omega arith) ∙ sym (after-first size g gs rest 0 (a .0)))
+    (ap (λ (k : ℕ). drop k (flatten gs ++ rest)) {x = 0} {y = size * 0} (omega arith)
+    ∙ sym (after-first size g gs rest 0 (a .0)))
 group-drop size (g ∷ gs) rest (suc n) a h =
     after-first size g gs rest n (a .0)
     ∙ group-drop size gs rest n (a .1) (le-of-suc-le-suc h)
     ∙ ap (λ (l : List ℕ). getD gs n [] ++ l) (sym (after-first size g gs rest (suc n) (a .0)))
 
 group-take : (size : ℕ) (gs : List (List ℕ)) (rest : List ℕ) (n : ℕ) → All (λ g. length g ≡ size) gs → n < length gs
-    → (ys : List ℕ) → take (size * n) (flatten gs ++ rest) ++ (ys ++ drop (size * suc n) (flatten gs ++ rest)) ≡ flatten (set gs n ys) ++ rest
+    → (ys : List ℕ)
+    → take (size * n) (flatten gs ++ rest) ++ (ys ++ drop (size * suc n) (flatten gs ++ rest)) ≡ flatten (set gs n ys)
+    ++ rest
 unfolding flatten
 group-take size [] rest n a h ys = absurd (not-suc-le-zero h)
 group-take size (g ∷ gs) rest zero a h ys =
-    ap (λ (k : ℕ). take k ((g ++ flatten gs) ++ rest) ++ (ys ++ drop (size * 1) ((g ++ flatten gs) ++ rest))) {x = size * 0} {y = 0} (omega arith)
-    ∙ ap (λ (l : List ℕ). ys ++ l) (after-first size g gs rest 0 (a .0) ∙ ap (λ (k : ℕ). drop k (flatten gs ++ rest)) {x = size * 0} {y = 0} (omega arith))
+    ap (λ (k : ℕ). take k ((g ++ flatten gs) ++ rest) ++ (ys ++ drop (size * 1) ((g ++ flatten gs) ++ rest)))
+    {x = size * 0} {y = 0} (omega arith)
+    ∙ ap (λ (l : List ℕ). ys ++ l)
+    (after-first size g gs rest 0 (a .0)
+    ∙ ap (λ (k : ℕ). drop k (flatten gs ++ rest)) {x = size * 0} {y = 0} (omega arith))
     ∙ sym (append-assoc ys (flatten gs) rest)
 group-take size (g ∷ gs) rest (suc n) a h ys =
     ap₂ (λ (u v : List ℕ). u ++ (ys ++ v)) front (after-first size g gs rest (suc n) (a .0))
@@ -58,7 +65,8 @@ group-take size (g ∷ gs) rest (suc n) a h ys =
   where
     front : take (size * suc n) ((g ++ flatten gs) ++ rest) ≡ g ++ take (size * n) (flatten gs ++ rest)
     front =
-        ap (λ (k : ℕ). take k ((g ++ flatten gs) ++ rest)) {x = size * suc n} {y = length g + size * n} (omega (arith, a .0, mul-suc size n))
+        ap (λ (k : ℕ). take k ((g ++ flatten gs) ++ rest)) {x = size * suc n} {y = length g + size * n}
+        (omega (arith, a .0, mul-suc size n))
         ∙ ap (take (length g + size * n)) (append-assoc g (flatten gs) rest)
         ∙ take-append-add g (flatten gs ++ rest) (size * n)
 
@@ -69,7 +77,8 @@ All-at P (x ∷ xs) zero d a h = a .0
 All-at P (x ∷ xs) (suc n) d a h = All-at P xs n d (a .1) (le-of-suc-le-suc h)
 
 -- an element of a mapped list
-getD-mapped : {A : Type 0} (g : A → List ℕ) (xs : List A) (n : ℕ) (d : List ℕ) (e : A) → n < length xs → getD (map g xs) n d ≡ g (getD xs n e)
+getD-mapped : {A : Type 0} (g : A → List ℕ) (xs : List A) (n : ℕ) (d : List ℕ) (e : A) → n < length xs
+    → getD (map g xs) n d ≡ g (getD xs n e)
 getD-mapped g [] n d e h = absurd (not-suc-le-zero h)
 getD-mapped g (x ∷ xs) zero d e h = refl
 getD-mapped g (x ∷ xs) (suc n) d e h = getD-mapped g xs n d e (le-of-suc-le-suc h)
@@ -85,14 +94,17 @@ abbrev padding : List (List ℕ) → List ℕ → List ℕ
 padding gs rest = replicate (7680 - length (flatten gs)) 0 ++ rest
 
 store-is : (c : Config) (rest : List ℕ)
-    → encode c ++ rest ≡ front c ++ (flatten (map processWords (c .processes)) ++ padding (map processWords (c .processes)) rest)
+    → encode c ++ rest ≡ front c ++
+    (flatten (map processWords (c .processes)) ++ padding (map processWords (c .processes)) rest)
 unfolding encode padded
 store-is c rest =
     append-assoc (front c) (padded 7680 (flatten (map processWords (c .processes)))) rest
     ∙ ap (λ (l : List ℕ). front c ++ l)
-    (append-assoc (flatten (map processWords (c .processes))) (replicate (7680 - length (flatten (map processWords (c .processes)))) 0) rest)
+    (append-assoc (flatten (map processWords (c .processes)))
+    (replicate (7680 - length (flatten (map processWords (c .processes)))) 0) rest)
 
-map-set : (xs : List Process) (n : ℕ) (y : Process) → map processWords (set xs n y) ≡ set (map processWords xs) n (processWords y)
+map-set : (xs : List Process) (n : ℕ) (y : Process)
+    → map processWords (set xs n y) ≡ set (map processWords xs) n (processWords y)
 map-set [] n y = refl
 map-set (x ∷ xs) zero y = refl
 map-set (x ∷ xs) (suc n) y = ap {B = List (List ℕ)} (λ l. processWords x ∷ l) (map-set xs n y)
@@ -103,7 +115,8 @@ Laid c = All (λ pr. length (processWords pr) ≡ 512) (c .processes)
 
 pub laid-sound : (p : List ℕ) (c : Config) → ConfigSound p c → Laid c
 laid-sound p c h =
-    All-implies (ProcessSound p c) (λ pr. length (processWords pr) ≡ 512) (process-length p c) (c .processes) (h .processes)
+    All-implies (ProcessSound p c) (λ pr. length (processWords pr) ≡ 512) (process-length p c) (c .processes)
+    (h .processes)
 
 pub laid-set : (c : Config) (n : ℕ) (pr : Process) → Laid c → length (processWords pr) ≡ 512 → Laid (setProcess c n pr)
 unfolding setProcess
@@ -150,7 +163,8 @@ module _ (c : Config) (laid : Laid c) (rest : List ℕ) where
   process-long : (n : ℕ) → n < length (c .processes) → length (processWords (processAt c n)) ≡ 512
   unfolding processAt
   process-long n l =
-      subst (λ (g : List ℕ). length g ≡ 512) (group-is n l) (All-at (λ g. length g ≡ 512) groups n [] groups-long (subst (λ (k : ℕ). n < k) (sym groups-count) l))
+      subst (λ (g : List ℕ). length g ≡ 512) (group-is n l)
+      (All-at (λ g. length g ≡ 512) groups n [] groups-long (subst (λ (k : ℕ). n < k) (sym groups-count) l))
 
   -- part n is the words of process n
   pub part-is : (n : ℕ) → n < length (c .processes) → partOf (encode c ++ rest) n ≡ processWords (processAt c n)
@@ -163,7 +177,8 @@ module _ (c : Config) (laid : Laid c) (rest : List ℕ) where
       ∙ take-at (processWords (processAt c n)) (drop (512 * suc n) parts) 512 (process-long n l)
 
   -- other words in part n: the store of the configuration with another process n
-  set-long : (gs : List (List ℕ)) (n : ℕ) (ys : List ℕ) → All (λ g. length g ≡ 512) gs → length ys ≡ 512 → length (flatten (set gs n ys)) ≡ length (flatten gs)
+  set-long : (gs : List (List ℕ)) (n : ℕ) (ys : List ℕ) → All (λ g. length g ≡ 512) gs → length ys ≡ 512
+      → length (flatten (set gs n ys)) ≡ length (flatten gs)
   set-long gs n ys a l =
       flatten-length 512 (set gs n ys) (All-set (λ g. length g ≡ 512) gs n ys a l)
       ∙ ap (λ (k : ℕ). k * 512) (length-set gs n ys)
@@ -181,12 +196,18 @@ module _ (c : Config) (laid : Laid c) (rest : List ℕ) where
       → withPart (encode c ++ rest) n (processWords pr) ≡ encode (setProcess c n pr) ++ rest
   unfolding withPart
   part-put n pr l long =
-      ap₂ (λ (u v : List ℕ). u ++ (processWords pr ++ v)) (up-to n) (ap (drop 512) (after-front n) ∙ drop-drop 512 (512 * n) parts ∙ ap (λ (k : ℕ). drop k parts) {x = 512 * n + 512} {y = 512 * suc n} (omega arith))
+      ap₂ (λ (u v : List ℕ). u ++ (processWords pr ++ v)) (up-to n)
+      (ap (drop 512) (after-front n)
+      ∙ drop-drop 512 (512 * n) parts
+      ∙ ap (λ (k : ℕ). drop k parts) {x = 512 * n + 512} {y = 512 * suc n} (omega arith))
       ∙ append-assoc (front c) (take (512 * n) parts) (processWords pr ++ drop (512 * suc n) parts)
       ∙ ap (λ (w : List ℕ). front c ++ w)
-      (group-take 512 groups (padding groups rest) n groups-long (subst (λ (k : ℕ). n < k) (sym groups-count) l) (processWords pr)
-      ∙ ap (λ (k : ℕ). flatten (set groups n (processWords pr)) ++ (replicate (7680 - k) 0 ++ rest)) (sym (set-long groups n (processWords pr) groups-long long)))
-      ∙ ap₂ (λ (u : List ℕ) (v : List (List ℕ)). u ++ (flatten v ++ padding v rest)) (sym (front-same n pr)) (sym (groups-set n pr))
+      (group-take 512 groups (padding groups rest) n groups-long (subst (λ (k : ℕ). n < k) (sym groups-count) l)
+      (processWords pr)
+      ∙ ap (λ (k : ℕ). flatten (set groups n (processWords pr)) ++ (replicate (7680 - k) 0 ++ rest))
+      (sym (set-long groups n (processWords pr) groups-long long)))
+      ∙ ap₂ (λ (u : List ℕ) (v : List (List ℕ)). u ++ (flatten v ++ padding v rest)) (sym (front-same n pr))
+      (sym (groups-set n pr))
       ∙ sym (store-is (setProcess c n pr) rest)
 
 -- the counts in front of the parts
@@ -203,7 +224,8 @@ pub channels-word : (c : Config) (rest : List ℕ) → getD (encode c ++ rest) 2
 unfolding encode padded
 channels-word c rest = refl
 
-pub qubit-counted : (c : Config) (q : ℕ) (rest : List ℕ) → set (encode c ++ rest) 1 (suc (c .qubits)) ≡ encode (counted (qubit q) c) ++ rest
+pub qubit-counted : (c : Config) (q : ℕ) (rest : List ℕ)
+    → set (encode c ++ rest) 1 (suc (c .qubits)) ≡ encode (counted (qubit q) c) ++ rest
 unfolding encode padded counted
 qubit-counted c q rest = refl
 
@@ -234,12 +256,14 @@ unfolding flatten
 flatten-snoc [] ws = append-nil ws
 flatten-snoc (g ∷ gs) ws = ap (λ (l : List ℕ). g ++ l) (flatten-snoc gs ws) ∙ sym (append-assoc g (flatten gs) ws)
 
-map-snoc : (xs : List Process) (pr : Process) → map processWords (xs ++ (pr ∷ [])) ≡ map processWords xs ++ (processWords pr ∷ [])
+map-snoc : (xs : List Process) (pr : Process)
+    → map processWords (xs ++ (pr ∷ [])) ≡ map processWords xs ++ (processWords pr ∷ [])
 map-snoc [] pr = refl
 map-snoc (x ∷ xs) pr = ap {B = List (List ℕ)} (λ l. processWords x ∷ l) (map-snoc xs pr)
 
 -- the count of processes written in front
-front-set : (c : Config) (k : ℕ) (ws : List ℕ) → set (front c ++ ws) 0 k ≡ padded 512 (k ∷ c .qubits ∷ c .channels ∷ []) ++ ws
+front-set : (c : Config) (k : ℕ) (ws : List ℕ)
+    → set (front c ++ ws) 0 k ≡ padded 512 (k ∷ c .qubits ∷ c .channels ∷ []) ++ ws
 unfolding padded
 front-set c k ws = refl
 
@@ -252,7 +276,8 @@ module _ (c : Config) (laid : Laid c) (rest : List ℕ) where
       flatten-length 512 (map processWords (c .processes)) (groups-long c laid rest)
       ∙ omega (arith, groups-count c laid rest)
 
-  after-words : (n : ℕ) → drop (length words + n) (parts c laid rest) ≡ drop n (padding (map processWords (c .processes)) rest)
+  after-words : (n : ℕ)
+      → drop (length words + n) (parts c laid rest) ≡ drop n (padding (map processWords (c .processes)) rest)
   after-words n = drop-append-add words (padding (map processWords (c .processes)) rest) n
 
   -- the part of a process that is not made is 0
@@ -261,14 +286,16 @@ module _ (c : Config) (laid : Laid c) (rest : List ℕ) where
   part-unmade n l h =
       ap (take 512)
       (after-front c laid rest n
-      ∙ ap (λ (k : ℕ). drop k (parts c laid rest)) {x = 512 * n} {y = length words + (512 * n - length words)} (omega (arith, words-long))
+      ∙ ap (λ (k : ℕ). drop k (parts c laid rest)) {x = 512 * n} {y = length words + (512 * n - length words)}
+      (omega (arith, words-long))
       ∙ after-words (512 * n - length words)
       ∙ zeros-after (512 * n - length words) (7680 - length words) rest (omega (arith, words-long)))
       ∙ zeros-first 512 (7680 - length words - (512 * n - length words)) rest (omega (arith, words-long))
 
   -- one more process
   pub part-joined : (pr : Process) → length (c .processes) < 8 → length (processWords pr) ≡ 512
-      → withPart (set (encode c ++ rest) 0 (length (c .processes) + 1)) (length (c .processes)) (processWords pr) ≡ encode (joined c pr) ++ rest
+      → withPart (set (encode c ++ rest) 0 (length (c .processes) + 1)) (length (c .processes)) (processWords pr)
+      ≡ encode (joined c pr) ++ rest
   unfolding withPart joined
   part-joined pr h long =
       ap (λ (w : List ℕ). take (partAt made) w ++ (processWords pr ++ drop 512 (drop (partAt made) w))) counted-first
@@ -277,7 +304,9 @@ module _ (c : Config) (laid : Laid c) (rest : List ℕ) where
       ∙ ap (λ (l : List ℕ). front₁ ++ l)
       (sym (append-assoc words (processWords pr) (replicate (7680 - length words - 512) 0 ++ rest))
       ∙ ap₂ (λ (l : List ℕ) (k : ℕ). l ++ (replicate {A = ℕ} k 0 ++ rest)) more shorter)
-      ∙ ap (λ (k : ℕ). padded 512 (k ∷ c .qubits ∷ c .channels ∷ []) ++ (words₁ ++ (replicate {A = ℕ} (7680 - length words₁) 0 ++ rest))) one-more
+      ∙ ap
+      (λ (k : ℕ). padded 512 (k ∷ c .qubits ∷ c .channels ∷ []) ++
+      (words₁ ++ (replicate {A = ℕ} (7680 - length words₁) 0 ++ rest))) one-more
       ∙ sym (store-is (joined c pr) rest)
     where
       made : ℕ
@@ -293,7 +322,9 @@ module _ (c : Config) (laid : Laid c) (rest : List ℕ) where
       one-more = sym (length-append (c .processes) (pr ∷ []))
 
       more : words ++ processWords pr ≡ words₁
-      more = sym (ap flatten (map-snoc (c .processes) pr) ∙ flatten-snoc (map processWords (c .processes)) (processWords pr))
+      more =
+          sym
+          (ap flatten (map-snoc (c .processes) pr) ∙ flatten-snoc (map processWords (c .processes)) (processWords pr))
 
       shorter : 7680 - length words - 512 ≡ 7680 - length words₁
       shorter = omega (arith, words-long, ap length more, length-append words (processWords pr), long)
@@ -302,15 +333,18 @@ module _ (c : Config) (laid : Laid c) (rest : List ℕ) where
       front-long₁ = padded-length 512 ((made + 1) ∷ c .qubits ∷ c .channels ∷ []) (omega arith)
 
       counted-first : set (encode c ++ rest) 0 (made + 1) ≡ front₁ ++ parts c laid rest
-      counted-first = ap (λ (w : List ℕ). set w 0 (made + 1)) (store-is c rest) ∙ front-set c (made + 1) (parts c laid rest)
+      counted-first =
+          ap (λ (w : List ℕ). set w 0 (made + 1)) (store-is c rest) ∙ front-set c (made + 1) (parts c laid rest)
 
       first : take (partAt made) (front₁ ++ parts c laid rest) ≡ front₁ ++ words
       first =
           ap (λ (k : ℕ). take (k + 512 * made) (front₁ ++ parts c laid rest)) (sym front-long₁)
           ∙ take-append-add front₁ (parts c laid rest) (512 * made)
-          ∙ ap (λ (l : List ℕ). front₁ ++ l) (take-at words (padding (map processWords (c .processes)) rest) (512 * made) words-long)
+          ∙ ap (λ (l : List ℕ). front₁ ++ l)
+          (take-at words (padding (map processWords (c .processes)) rest) (512 * made) words-long)
 
-      last : drop 512 (drop (partAt made) (front₁ ++ parts c laid rest)) ≡ replicate (7680 - length words - 512) 0 ++ rest
+      last :
+          drop 512 (drop (partAt made) (front₁ ++ parts c laid rest)) ≡ replicate (7680 - length words - 512) 0 ++ rest
       last =
           ap (λ (k : ℕ). drop 512 (drop (k + 512 * made) (front₁ ++ parts c laid rest))) (sym front-long₁)
           ∙ ap (drop 512)

@@ -25,7 +25,8 @@ part-lent work n {from} at = ap₂ (λ (a k : ℕ). midOf a k work) at (size fro
 pub part-read : (work : List ℕ) (n : ℕ) → lent work (partAt n) ≡ partOf work n
 part-read work n = part-lent work n refl
 
-part-returned : (work : List ℕ) (n : ℕ) {from : ℕ} → from ≡ partAt n → (ys : List ℕ) → returned work from ys ≡ withPart work n ys
+part-returned : (work : List ℕ) (n : ℕ) {from : ℕ} → from ≡ partAt n → (ys : List ℕ)
+    → returned work from ys ≡ withPart work n ys
 unfolding withPart
 part-returned work n {from} at ys = ap₂ (λ (a k : ℕ). putMid a k work ys) at (size from)
 

@@ -15,7 +15,8 @@ use Rattle.run_values.specs.ValuesCode.{emptyTwo}
 use Rattle.run_parts.specs.declared.readiness.Readiness.{Readiness}
 use Rattle.run_parts.specs.ReadinessCode.{noOffer, sendOf, receiveOf, readinessOp, offerOf, offersNothing, eitherWay, meetsOp}
 
-pub stands-at : (p w : List ℕ) (start : ℕ) {h : Head} {op : ℕ} {r : Readiness} → h ≡ headOf w → h .status ≡ 1 → start ≡ 2 + 20 * methods p
+pub stands-at : (p w : List ℕ) (start : ℕ) {h : Head} {op : ℕ} {r : Readiness} → h ≡ headOf w → h .status ≡ 1
+    → start ≡ 2 + 20 * methods p
     → op ≡ word p (start + 2 * h .place)
     → r ≡ cond (eqb op 15) (sendOf w h) (cond (eqb op 16) (receiveOf w h) (noOffer 1))
     → r ≡ readinessOp p w
@@ -29,7 +30,8 @@ stands-at p w start {h} {op} {r} e t s o q =
     (cond (eqb (word p (2 + 20 * methods p + 2 * g .place)) 16) (receiveOf w g) (noOffer 1))) e)
 
 -- the frame's place, by words
-pub place-read : (w : List ℕ) {frames place : ℕ} → frames ≡ getD w 2 0 → place ≡ getD w (5 + 4 * frames) 0 → place ≡ headOf w .place
+pub place-read : (w : List ℕ) {frames place : ℕ} → frames ≡ getD w 2 0 → place ≡ getD w (5 + 4 * frames) 0
+    → place ≡ headOf w .place
 unfolding headOf headAt
 place-read w {frames} e q = q ∙ ap (λ (i : ℕ). getD w i 0) next ∙ ap (λ (i : ℕ). getD w (4 + 4 * i + 1) 0) e
   where
@@ -43,7 +45,10 @@ module _ (p w : List ℕ) (runs : headOf w .status ≡ 1) where
       → readinessOp p w ≡ cond (eqb op 15) (sendOf w (headOf w)) (cond (eqb op 16) (receiveOf w (headOf w)) (noOffer 1))
   unfolding readinessOp
   at-op op e =
-      ap (λ (b : Bool). cond b (cond (eqb (opAt p (headOf w .place)) 15) (sendOf w (headOf w)) (cond (eqb (opAt p (headOf w .place)) 16) (receiveOf w (headOf w)) (noOffer 1))) (noOffer 0))
+      ap
+      (λ (b : Bool). cond b
+      (cond (eqb (opAt p (headOf w .place)) 15) (sendOf w (headOf w))
+      (cond (eqb (opAt p (headOf w .place)) 16) (receiveOf w (headOf w)) (noOffer 1))) (noOffer 0))
       (eq-eqb (headOf w .status) 1 runs)
       ∙ ap (λ (n : ℕ). cond (eqb n 15) (sendOf w (headOf w)) (cond (eqb n 16) (receiveOf w (headOf w)) (noOffer 1))) e
 
@@ -58,7 +63,8 @@ module _ (p w : List ℕ) (runs : headOf w .status ≡ 1) where
 -- a process that stands at no offer moves by itself
 pub nothing-alone : (p w : List ℕ) → offersNothing p w ≡ true → readinessOp p w .kind ≡ 1
 unfolding offersNothing readinessOp
-nothing-alone p w h = go (eqb (headOf w .status) 1) (eqb (opAt p (headOf w .place)) 15) (eqb (opAt p (headOf w .place)) 16) h
+nothing-alone p w h =
+    go (eqb (headOf w .status) 1) (eqb (opAt p (headOf w .place)) 15) (eqb (opAt p (headOf w .place)) 16) h
   where
     go : (a b c : Bool) → cond a (not b && not c) false ≡ true
         → cond a (cond b (sendOf w (headOf w)) (cond c (receiveOf w (headOf w)) (noOffer 1))) (noOffer 0) .kind ≡ 1
@@ -72,7 +78,8 @@ module _ (p w : List ℕ) (start : ℕ) {s : ℕ} (status : s ≡ getD w 0 0) wh
   unfolding offersNothing headOf
   nothing-over n = passed-by _ _ false refl (ne-eqb (headOf w .status) 1 (λ i. n (status ∙ i))) refl
 
-  pub nothing-at : s ≡ 1 → start ≡ 2 + 20 * methods p → {place op : ℕ} → place ≡ headOf w .place → op ≡ word p (start + 2 * place)
+  pub nothing-at : s ≡ 1 → start ≡ 2 + 20 * methods p → {place op : ℕ} → place ≡ headOf w .place
+      → op ≡ word p (start + 2 * place)
       → (not (eqb op 15) && not (eqb op 16)) ≡ offersNothing p w
   unfolding offersNothing headOf opAt
   nothing-at r b e o =
@@ -139,7 +146,9 @@ module _ (a b : Readiness) where
       both = ap (λ (k : Bool). (k && sides) && numbers) (sym e ∙ on kinds h)
 
       pub meets-apart : (a .end .number ≡ b .end .number → ⊥) → false ≡ meetsOp a b
-      meets-apart n = sym (both ∙ ap (λ (x : Bool). sides && x) (ne-eqb (a .end .number) (b .end .number) n) ∙ and-false sides)
+      meets-apart n =
+          sym (both ∙ ap (λ (x : Bool). sides && x) (ne-eqb (a .end .number) (b .end .number) n) ∙ and-false sides)
 
       pub meets-sides : a .end .number ≡ b .end .number → {s : Bool} → s ≡ sides → s ≡ meetsOp a b
-      meets-sides n q = q ∙ sym (both ∙ ap (λ (x : Bool). sides && x) (eq-eqb (a .end .number) (b .end .number) n) ∙ and-true sides)
+      meets-sides n q =
+          q ∙ sym (both ∙ ap (λ (x : Bool). sides && x) (eq-eqb (a .end .number) (b .end .number) n) ∙ and-true sides)

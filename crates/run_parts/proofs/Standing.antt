@@ -1,5 +1,5 @@
--- The readiness that is read from a process's words is the one that its act gives it, what an offer is made of, and that two
--- stands meet where the offers do.
+-- The readiness that is read from a process's words is the one that its act gives it, what an offer is made of, and
+-- that two stands meet where the offers do.
 use Prim.Native.Nat.{ℕ, zero, suc, _<_}
 use mathlib.Core.Path.{_≡_, refl, sym, _∙_, ap, ap₂, subst, subst₂}
 use mathlib.Core.Logic.{_≢_}
@@ -64,7 +64,8 @@ From f fs ends = Unit {0}
 From f fs (makes t gs) = Unit {0}
 From f fs (forks m args gs) = Unit {0}
 From f fs (offers (sends c d v gs)) =
-    (us : List Value) × (f .pending ≡ v ∷ ref (end c d) ∷ us) × (isEmpty v ≡ false) × (gs ≡ atPlace (suc (f .place)) (withPending us f) ∷ fs)
+    (us : List Value) × (f .pending ≡ v ∷ ref (end c d) ∷ us) × (isEmpty v ≡ false) ×
+    (gs ≡ atPlace (suc (f .place)) (withPending us f) ∷ fs)
 From f fs (offers (receives c d gs)) =
     (us : List Value) × (f .pending ≡ ref (end c d) ∷ us) × (gs ≡ atPlace (suc (f .place)) (withPending us f) ∷ fs)
 
@@ -94,7 +95,8 @@ module _ (p : List ℕ) where
   unfolding headOf processWords statusWords padded
   finished-stand = stand-over (processWords (record { status = finished; frames = [] })) (λ e. omega arith)
 
-  pub stopped-stand : (n : ℕ) (fs : List Frame) → readinessOp p (processWords (record { status = stopped n; frames = fs })) ≡ noOffer 0
+  pub stopped-stand : (n : ℕ) (fs : List Frame)
+      → readinessOp p (processWords (record { status = stopped n; frames = fs })) ≡ noOffer 0
   unfolding headOf processWords statusWords padded
   stopped-stand n fs = stand-over (processWords (record { status = stopped n; frames = fs })) (λ e. omega arith)
 
@@ -108,7 +110,8 @@ module _ (p : List ℕ) where
 
 -- a running process
 
-module _ {p : List ℕ} (outcomes : List ℕ) (s : State) {f : Frame} {fs : List Frame} (busy : AtWork p (s .config) f fs) where
+module _ {p : List ℕ} (outcomes : List ℕ) (s : State) {f : Frame} {fs : List Frame}
+    (busy : AtWork p (s .config) f fs) where
   abbrev words : List ℕ
   words = w outcomes s busy
 
@@ -129,16 +132,19 @@ module _ {p : List ℕ} (outcomes : List ℕ) (s : State) {f : Frame} {fs : List
 
   -- the readiness by the op at its place
   running : readinessOp p words
-      ≡ cond (eqb (opAt p (f .place)) 15) (sendOf words top) (cond (eqb (opAt p (f .place)) 16) (receiveOf words top) (noOffer 1))
+      ≡ cond (eqb (opAt p (f .place)) 15) (sendOf words top)
+      (cond (eqb (opAt p (f .place)) 16) (receiveOf words top) (noOffer 1))
   unfolding readinessOp
   running =
       ap (λ (h : Head). cond (eqb (h .status) 1)
-      (cond (eqb (opAt p (h .place)) 15) (sendOf words h) (cond (eqb (opAt p (h .place)) 16) (receiveOf words h) (noOffer 1)))
+      (cond (eqb (opAt p (h .place)) 15) (sendOf words h)
+      (cond (eqb (opAt p (h .place)) 16) (receiveOf words h) (noOffer 1)))
       (noOffer 0))
       (head-is (busy .stack))
 
   -- too few pending values
-  short : (k n : ℕ) (st : Readiness) (vs : List Value) → opAt p (f .place) ≡ k → takenAt p (f .place) ≡ n → f .pending ≡ vs → length vs < n
+  short : (k n : ℕ) (st : Readiness) (vs : List Value) → opAt p (f .place) ≡ k → takenAt p (f .place) ≡ n
+      → f .pending ≡ vs → length vs < n
       → Good does st
   short k n st vs e t q h =
       by (act-short outcomes s busy k n e t (subst (λ (l : List Value). length l < n) (sym q) h)) refl (tt, tt)
@@ -161,7 +167,8 @@ module _ {p : List ℕ} (outcomes : List ℕ) (s : State) {f : Frame} {fs : List
   sent y (ref (end n r)) us q false e = (refl, (us, q, e, refl))
 
   read-send : (y x : Value) (us : List Value) → f .pending ≡ y ∷ x ∷ us
-      → sendOf words top ≡ cond (isEmpty x || isEmpty y) (noOffer 1) (record { kind = 2; end = valOf x; value = valOf y })
+      → sendOf words top ≡ cond (isEmpty x || isEmpty y) (noOffer 1)
+      (record { kind = 2; end = valOf x; value = valOf y })
   unfolding sendOf emptyTwo
   read-send y x us q =
       ap₂ (λ (u v : Val). cond (eqb (u .tag) 0 || eqb (v .tag) 0) (noOffer 1) (record { kind = 2; end = u; value = v }))
@@ -232,8 +239,10 @@ module _ {p : List ℕ} (outcomes : List ℕ) (s : State) {f : Frame} {fs : List
   pub stand-is : Stands (atFrame p outcomes s f fs) (readinessOp p (processWords (runs (f ∷ fs))))
   stand-is = good .0
 
-  pub sends-from : (c : ℕ) (d : Bool) (v : Value) (gs : List Frame) → atFrame p outcomes s f fs ≡ offers (sends c d v gs)
-      → (us : List Value) × (f .pending ≡ v ∷ ref (end c d) ∷ us) × (isEmpty v ≡ false) × (gs ≡ atPlace (suc (f .place)) (withPending us f) ∷ fs)
+  pub sends-from : (c : ℕ) (d : Bool) (v : Value) (gs : List Frame)
+      → atFrame p outcomes s f fs ≡ offers (sends c d v gs)
+      → (us : List Value) × (f .pending ≡ v ∷ ref (end c d) ∷ us) × (isEmpty v ≡ false) ×
+      (gs ≡ atPlace (suc (f .place)) (withPending us f) ∷ fs)
   sends-from c d v gs e = subst (From f fs) e (good .1)
 
   pub receives-from : (c : ℕ) (d : Bool) (gs : List Frame) → atFrame p outcomes s f fs ≡ offers (receives c d gs)

@@ -37,7 +37,8 @@ offerOf w code = cond (eqb code 115) (sendOf w (headOf w)) (receiveOf w (headOf 
 -- it runs and stands at neither SEND nor RECV
 unfoldable pub offersNothing : List ℕ → List ℕ → Bool
 offersNothing p w =
-    cond (eqb (headOf w .status) 1) (not (eqb (opAt p (headOf w .place)) 15) && not (eqb (opAt p (headOf w .place)) 16)) false
+    cond (eqb (headOf w .status) 1) (not (eqb (opAt p (headOf w .place)) 15) && not (eqb (opAt p (headOf w .place)) 16))
+    false
 
 -- one is x and the other y
 unfoldable pub eitherWay : ℕ → ℕ → ℕ → ℕ → Bool
@@ -45,4 +46,5 @@ eitherWay a b x y = eqb a x && eqb b y || eqb a y && eqb b x
 
 unfoldable pub meetsOp : Readiness → Readiness → Bool
 meetsOp a b =
-    (eitherWay (a .kind) (b .kind) 2 3 && eitherWay (a .end .tag) (b .end .tag) 5 6) && eqb (a .end .number) (b .end .number)
+    (eitherWay (a .kind) (b .kind) 2 3 && eitherWay (a .end .tag) (b .end .tag) 5 6) && eqb (a .end .number)
+    (b .end .number)

@@ -59,7 +59,8 @@ fn receiving(w: &[u32], h: Head) -> Readiness
     }
 }
 
-// The readiness of the process whose part is w; an offer waits for its partner; `start` is where the table's instructions begin.
+// The readiness of the process whose part is w; an offer waits for its partner; `start` is where the table's
+// instructions begin.
 pub fn read_readiness(p: &[u16], start: usize, w: &[u32]) -> Readiness
     requires { ⌜ start ≡ 2 + 20 * methods (now p) ⌝ }
     ensures { λ r. ⌜ r ≡ readinessOp (now (p .entry)) (now (w .entry)) ⌝ }

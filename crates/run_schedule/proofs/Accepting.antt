@@ -38,7 +38,8 @@ none-first : (n : ℕ) (test : ℕ → Bool) (m : ℕ) → firstOf n test m ≡ 
 unfolding firstOf
 none-first n test m e = firstFalse-all test m (go (ltb (firstFalse test m) m) refl e)
   where
-    go : (b : Bool) → ltb (firstFalse test m) m ≡ b → cond b (refused n (firstFalse test m)) accepted ≡ accepted → m ≤ firstFalse test m
+    go : (b : Bool) → ltb (firstFalse test m) m ≡ b → cond b (refused n (firstFalse test m)) accepted ≡ accepted
+        → m ≤ firstFalse test m
     go true h e = absurd (not-refused n (firstFalse test m) e)
     go false h e = ltb-false (firstFalse test m) m h
 
@@ -59,17 +60,25 @@ module _ (p schedule outcomes : List ℕ) (words : ℕ) (ok : questions p schedu
   unfolding question6
   outcomes-small =
       all-from (λ o. o ≤ 2) outcomes (λ i l.
-      omega (arith, leb-true (getD outcomes i 0) 2 (none-first 6 (λ j. leb (getD outcomes j 0) 2) (length outcomes) (and-first (question6 outcomes) _ inputs) i l)))
+      omega (
+        arith,
+        leb-true (getD outcomes i 0) 2
+            (none-first 6 (λ j. leb (getD outcomes j 0) 2) (length outcomes) (and-first (question6 outcomes) _ inputs) i l),
+      ))
 
   pub schedule-short : length schedule ≤ 65535
   unfolding question7
   schedule-short =
       leb-true (length schedule) 65535
-      (whole-kept 7 0 (leb (length schedule) 65535) (and-first (question7 schedule) (question8 words) (and-second (question6 outcomes) _ inputs)))
+      (whole-kept 7 0 (leb (length schedule) 65535)
+      (and-first (question7 schedule) (question8 words) (and-second (question6 outcomes) _ inputs)))
 
   pub store-long : 8192 ≤ words
   unfolding question8
-  store-long = leb-true 8192 words (whole-kept 8 0 (leb 8192 words) (and-second (question7 schedule) (question8 words) (and-second (question6 outcomes) _ inputs)))
+  store-long =
+      leb-true 8192 words
+      (whole-kept 8 0 (leb 8192 words)
+      (and-second (question7 schedule) (question8 words) (and-second (question6 outcomes) _ inputs)))
 
 -- the schedule's first entries are as little refused as the whole
 take-short : (k : ℕ) (xs : List ℕ) → length (take k xs) ≤ length xs
@@ -81,7 +90,10 @@ pub shorter-accepted : (p schedule outcomes : List ℕ) (words k : ℕ) → ques
     → questions p (take k schedule) outcomes words ≡ accepted
 unfolding questions question7 whole
 shorter-accepted p schedule outcomes words k ok =
-    ap (λ (b : Bool). andThen (tableQuestions p) (andThen (question6 outcomes) (andThen (cond b accepted (refused 7 0)) (question8 words))))
-    (le-leb (length (take k schedule)) 65535 (omega (arith, take-short k schedule, schedule-short p schedule outcomes words ok))
+    ap
+    (λ (b : Bool). andThen (tableQuestions p)
+    (andThen (question6 outcomes) (andThen (cond b accepted (refused 7 0)) (question8 words))))
+    (le-leb (length (take k schedule)) 65535
+    (omega (arith, take-short k schedule, schedule-short p schedule outcomes words ok))
     ∙ sym (le-leb (length schedule) 65535 (schedule-short p schedule outcomes words ok)))
     ∙ ok

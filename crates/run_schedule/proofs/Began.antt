@@ -48,7 +48,9 @@ first-cleared work n h =
 -- zeros are the layout of nothing made
 nothing-made : (n : ℕ) → n ≡ 8192 → replicate n 0 ≡ encode none
 unfolding encode padded flatten
-nothing-made n e = ap (λ (k : ℕ). replicate {A = ℕ} k 0) {x = n} {y = 512 + 7680} (omega (arith, e)) ∙ sym (replicate-append-replicate 512 7680 0)
+nothing-made n e =
+    ap (λ (k : ℕ). replicate {A = ℕ} k 0) {x = n} {y = 512 + 7680} (omega (arith, e))
+    ∙ sym (replicate-append-replicate 512 7680 0)
 
 main-process : List ℕ → Process
 main-process p = runs (started p 0 [] ∷ [])
@@ -56,20 +58,24 @@ main-process p = runs (started p 0 [] ∷ [])
 main-long : (p : List ℕ) → Kept p → length (processWords (main-process p)) ≡ 512
 unfolding main-process startConfigWith startWith
 main-long p kept =
-    process-length p (startConfig p) (main-process p) (config-sound p kept [] (startConfig p) (start-typed p kept) .processes .0)
+    process-length p (startConfig p) (main-process p)
+    (config-sound p kept [] (startConfig p) (start-typed p kept) .processes .0)
 
-pub begun-store : (p : List ℕ) → Kept p → (work : List ℕ) (n : ℕ) → n ≡ 8192 → n ≤ length work → startStore p work n ≡ encode (startConfig p) ++ drop n work
+pub begun-store : (p : List ℕ) → Kept p → (work : List ℕ) (n : ℕ) → n ≡ 8192 → n ≤ length work
+    → startStore p work n ≡ encode (startConfig p) ++ drop n work
 unfolding startStore beganAt startConfigWith main-process joined partOf
 begun-store p kept work n e h =
     ap (λ (w : List ℕ). beganAt p (set w 0 1) 0 0)
     (first-cleared work n h ∙ ap (λ (w : List ℕ). w ++ drop n work) (nothing-made n e))
     ∙ ap (λ (w : List ℕ). withPart (set (encode none ++ drop n work) 0 1) 0 (beganWords p w 0))
-    (ap (take 512) (drop-set-lt (partAt 0) (encode none ++ drop n work) 0 1 (omega arith)) ∙ part-unmade none tt (drop n work) 0 (omega arith) (omega arith))
+    (ap (take 512) (drop-set-lt (partAt 0) (encode none ++ drop n work) 0 1 (omega arith))
+    ∙ part-unmade none tt (drop n work) 0 (omega arith) (omega arith))
     ∙ ap (withPart (set (encode none ++ drop n work) 0 1) 0) (began-words p 0)
     ∙ part-joined none tt (drop n work) (main-process p) (omega arith) (main-long p kept)
 
 -- the same with what is left of the store: as `run_entries` asks it, and what a run then leaves of the store as it was
-module _ (p : List ℕ) (kept : Kept p) (work : List ℕ) (h : 8192 ≤ length work) {begun : List ℕ} (e : begun ≡ startStore p work 8192) where
+module _ (p : List ℕ) (kept : Kept p) (work : List ℕ) (h : 8192 ≤ length work) {begun : List ℕ}
+    (e : begun ≡ startStore p work 8192) where
   begun-is : begun ≡ encode (startConfig p) ++ drop 8192 work
   begun-is = e ∙ begun-store p kept work 8192 refl h
 
@@ -77,7 +83,8 @@ module _ (p : List ℕ) (kept : Kept p) (work : List ℕ) (h : 8192 ≤ length w
   unfolding startWith
   rest-same =
       ap (drop 8192) begun-is
-      ∙ drop-at (encode (startConfig p)) (drop 8192 work) 8192 (encode-length p (startConfig p) (config-sound p kept [] (startConfig p) (start-typed p kept)))
+      ∙ drop-at (encode (startConfig p)) (drop 8192 work) 8192
+      (encode-length p (startConfig p) (config-sound p kept [] (startConfig p) (start-typed p kept)))
 
   pub starts-from : begun ≡ encode (startConfig p) ++ drop 8192 begun
   starts-from = begun-is ∙ ap (λ (w : List ℕ). encode (startConfig p) ++ w) (sym rest-same)

@@ -38,29 +38,36 @@ module _ {p schedule outcomes t0 rest : List ℕ} {room : ℕ} (given : Inputs p
     -- a step leaves the idle processes idle
 
     module _ {t : List (List ℕ)} {known : Knowledge} (r : Stands given k t known)
-        (d : AfterStep) (x : Stepped given k d) (low : named given k < 8) (ws : List ℕ) (words : d .words ≡ withPart (work₀ given k) (named given k) ws)
+        (d : AfterStep) (x : Stepped given k d) (low : named given k < 8) (ws : List ℕ)
+        (words : d .words ≡ withPart (work₀ given k) (named given k) ws)
         (by-itself : readinessOp p (partOf (d .words) (named given k)) .kind ≡ 1) where
       other : (q : ℕ) → q < 8 → q ≢ named given k → partOf (d .words) q ≡ partOf (work₀ given k) q
       other q h ne =
           ap (λ (w : List ℕ). partOf w q) words
           ∙ part-other (work₀ given k) (long given k) (named given k) q ws low h ne
-          (part-kept (work₀ given k) (long given k) (named given k) ws low (sym (ap length words) ∙ ap length (x .words) ∙ same-long given k))
+          (part-kept (work₀ given k) (long given k) (named given k) ws low
+          (sym (ap length words) ∙ ap length (x .words) ∙ same-long given k))
 
       stepped-idle : known .some ≡ true → isIdle known (named given k) ≡ false → Idle given (d .words) t (known .idle)
       unfolding isIdle
       stepped-idle i free =
-          moved-idle given k r low (d .words) other by-itself i (sym (ap (λ (b : Bool). b && getD (known .idle) (named given k) false) i) ∙ free)
+          moved-idle given k r low (d .words) other by-itself i
+          (sym (ap (λ (b : Bool). b && getD (known .idle) (named given k) false) i) ∙ free)
 
       stepped-goes : ending p outcomes (at given (suc k)) ≡ 0
       stepped-goes =
           moved-goes given k r low (d .words) other by-itself
-          (subst (Holding t) (sym (ap (λ (ls : List Line). at given k .lines ++ ls) (x .lines) ∙ append-nil (at given k .lines))) (r .table)) (x .words)
+          (subst (Holding t)
+          (sym (ap (λ (ls : List Line). at given k .lines ++ ls) (x .lines) ∙ append-nil (at given k .lines)))
+          (r .table)) (x .words)
 
     -- an entry of a burst: it is over with the step, the named process waits, or the rest of the entry does all
 
     record Done (t : List (List ℕ)) (known : Knowledge) (d : AfterStep) : Type 0 where
       done : isDone (d .code) known ≡ true
-      ready : Ready given (suc k) (d .words) (trace₀ given k) t (length (at given k .lines)) (at given k .used) (knownAfterStep p (d .words) (named given k) known (d .code))
+      ready :
+          Ready given (suc k) (d .words) (trace₀ given k) t (length (at given k .lines)) (at given k .used)
+          (knownAfterStep p (d .words) (named given k) known (d .code))
 
     abbrev offered : List (List ℕ) → AfterStep → Pairing
     offered t d = offerAt p (d .words) t (named given k) (d .code)
@@ -68,34 +75,43 @@ module _ {p schedule outcomes t0 rest : List ℕ} {room : ℕ} (given : Inputs p
     record Waits (t : List (List ℕ)) (known : Knowledge) (d : AfterStep) : Type 0 where
       more : isDone (d .code) known ≡ false
       goes : stopsHere p (d .words) schedule k known (offered t d) ≡ false
-      ready : Ready given (suc k) (d .words) (trace₀ given k) t (length (at given k .lines)) (at given k .used) (withIdle known (named given k))
+      ready :
+          Ready given (suc k) (d .words) (trace₀ given k) t (length (at given k .lines)) (at given k .used)
+          (withIdle known (named given k))
 
     record Held (t : List (List ℕ)) (known : Knowledge) (d : AfterStep) : Type 0 where
       more : isDone (d .code) known ≡ false
       stops : stopsHere p (d .words) schedule k known (offered t d) ≡ true
       words : d .words ≡ work₀ given k
-      entered : namedEntryOp p outcomes (trace₀ given k) (work₀ given k) room (count₀ given k) (named given k) (d .code) (offered t d) ≡ comesTo given k
+      entered :
+          namedEntryOp p outcomes (trace₀ given k) (work₀ given k) room (count₀ given k) (named given k) (d .code)
+          (offered t d) ≡ comesTo given k
 
     abbrev Passes : List (List ℕ) → Knowledge → AfterStep → Type 0
     Passes t known d = Done t known d ⊎ (Waits t known d ⊎ Held t known d)
 
     module _ {t : List (List ℕ)} {known : Knowledge} (r : Stands given k t known)
         (l : k < length schedule) where
-      pass-idle : (d : AfterStep) → d .code ≡ 1 → d .words ≡ work₀ given k → known .some ≡ true → able p outcomes (at given k) (named given k) ≡ false → Done t known d
+      pass-idle : (d : AfterStep) → d .code ≡ 1 → d .words ≡ work₀ given k → known .some ≡ true
+          → able p outcomes (at given k) (named given k) ≡ false → Done t known d
       unfolding knownAfterStep isDone
       pass-idle d c w i a = record {
         done = ap₂ (λ (n : ℕ) (b : Bool). cond (eqb n 0) true (eqb n 1 && b)) c i;
         ready =
-            ready-as given (suc k) (ready-idle given k r l a (r .sure i) (knownAfterStep p (d .words) (named given k) known (d .code)) (λ j. r .idle i)) w refl refl refl;
+            ready-as given (suc k)
+            (ready-idle given k r l a (r .sure i) (knownAfterStep p (d .words) (named given k) known (d .code))
+            (λ j. r .idle i)) w refl refl refl;
       }
 
-      pass-step : named given k < 8 → isIdle known (named given k) ≡ false → Stepped given k (onPart (work₀ given k) (named given k) (stepOp p (partOf (work₀ given k) (named given k))))
+      pass-step : named given k < 8 → isIdle known (named given k) ≡ false
+          → Stepped given k (onPart (work₀ given k) (named given k) (stepOp p (partOf (work₀ given k) (named given k))))
           → Done t known (onPart (work₀ given k) (named given k) (stepOp p (partOf (work₀ given k) (named given k))))
       unfolding knownAfterStep alone onPart isDone
       pass-step low free x = record {
         done = ap (λ (n : ℕ). cond (eqb n 0) true (eqb n 1 && known .some)) (x .code);
         ready =
-            ready-plain given k r l (x .can) (x .lines) (x .used) (d .words) (x .words) (knownAfterStep p (d .words) (named given k) known (d .code))
+            ready-plain given k r l (x .can) (x .lines) (x .used) (d .words) (x .words)
+            (knownAfterStep p (d .words) (named given k) known (d .code))
             (λ i. stepped-goes r d x low ws refl (by-itself i))
             (λ i. stepped-idle r d x low ws refl (by-itself i) (still-some p (d .words) (named given k) known (d .code) i) free);
       }
@@ -106,8 +122,11 @@ module _ {p schedule outcomes t0 rest : List ℕ} {room : ℕ} (given : Inputs p
           ws : List ℕ
           ws = stepOp p (partOf (work₀ given k) (named given k)) .words
 
-          by-itself : knownAfterStep p (d .words) (named given k) known (d .code) .some ≡ true → readinessOp p (partOf (d .words) (named given k)) .kind ≡ 1
-          by-itself i = alone-so p (d .words) (named given k) (still-alone p (d .words) (named given k) known (d .code) (x .code) i) .1
+          by-itself : knownAfterStep p (d .words) (named given k) known (d .code) .some ≡ true
+              → readinessOp p (partOf (d .words) (named given k)) .kind ≡ 1
+          by-itself i =
+              alone-so p (d .words) (named given k)
+              (still-alone p (d .words) (named given k) known (d .code) (x .code) i) .1
 
       -- the run goes on where some process is known, or seen, to be able to move
       goes-so : (n : ℕ) → (known .some ≡ true) ⊎ (alone p (work₀ given k) n ≡ true) → ending p outcomes (at given k) ≡ 0
@@ -120,15 +139,22 @@ module _ {p schedule outcomes t0 rest : List ℕ} {room : ℕ} (given : Inputs p
       hold : (d : AfterStep) → Stopped given k t d → Passes t known d
       hold d x = over (isDone (d .code) known) refl
         where
-          came-there : namedEntryOp p outcomes (trace₀ given k) (work₀ given k) room (count₀ given k) (named given k) (d .code) (offered t d) ≡ comesTo given k
+          came-there :
+              namedEntryOp p outcomes (trace₀ given k) (work₀ given k) room (count₀ given k) (named given k) (d .code)
+              (offered t d) ≡ comesTo given k
           came-there =
-              ap (λ (w : List ℕ). namedEntryOp p outcomes (trace₀ given k) (work₀ given k) room (count₀ given k) (named given k) (d .code) (offerAt p w t (named given k) (d .code))) (x .words) ∙ x .entered
+              ap
+              (λ (w : List ℕ). namedEntryOp p outcomes (trace₀ given k) (work₀ given k) room (count₀ given k)
+              (named given k) (d .code) (offerAt p w t (named given k) (d .code))) (x .words)
+              ∙ x .entered
 
           waits : offered t d .kind ≡ 1 → able p outcomes (at given k) (named given k) ≡ false
           waits e =
-              idle-unable given k t (d .code) (sym (ap (λ (w : List ℕ). offerAt p w t (named given k) (d .code) .kind) (x .words)) ∙ e) (x .entered)
+              idle-unable given k t (d .code)
+              (sym (ap (λ (w : List ℕ). offerAt p w t (named given k) (d .code) .kind) (x .words)) ∙ e) (x .entered)
 
-          rests : isDone (d .code) known ≡ false → (b : Bool) → stopsHere p (d .words) schedule k known (offered t d) ≡ b → Waits t known d ⊎ Held t known d
+          rests : isDone (d .code) known ≡ false → (b : Bool)
+              → stopsHere p (d .words) schedule k known (offered t d) ≡ b → Waits t known d ⊎ Held t known d
           rests more true s = inr (record { more = more; stops = s; words = x .words; entered = came-there })
           rests more false s =
               let so = stops-so p (d .words) schedule k known (offered t d) s in
@@ -139,7 +165,9 @@ module _ {p schedule outcomes t0 rest : List ℕ} {room : ℕ} (given : Inputs p
                 ready =
                     ready-as given (suc k)
                     (ready-idle given k r l a
-                    (goes-so (namedBefore schedule k) (subst (λ (w : List ℕ). (known .some ≡ true) ⊎ (alone p w (namedBefore schedule k) ≡ true)) (x .words) (so .1)))
+                    (goes-so (namedBefore schedule k)
+                    (subst (λ (w : List ℕ). (known .some ≡ true) ⊎ (alone p w (namedBefore schedule k) ≡ true))
+                    (x .words) (so .1)))
                     (withIdle known (named given k)) (λ i. idle-more given k r a))
                     (x .words) refl refl refl;
               })
@@ -147,7 +175,11 @@ module _ {p schedule outcomes t0 rest : List ℕ} {room : ℕ} (given : Inputs p
           over : (b : Bool) → isDone (d .code) known ≡ b → Passes t known d
           over true e =
               let so = done-so (d .code) known (x .code) e in
-              inl (pass-idle d (so .0) (x .words) (so .1) (waits (ap (λ (c : ℕ). offerAt p (d .words) t (named given k) c .kind) (so .0) ∙ over-waits p (d .words) t (named given k))))
+              inl
+              (pass-idle d (so .0) (x .words) (so .1)
+              (waits
+              (ap (λ (c : ℕ). offerAt p (d .words) t (named given k) c .kind) (so .0)
+              ∙ over-waits p (d .words) t (named given k))))
           over false e = inr (rests e (stopsHere p (d .words) schedule k known (offered t d)) refl)
 
       plain-law : Passes t known (namedOp p (work₀ given k) (named given k) known)
@@ -164,7 +196,8 @@ module _ {p schedule outcomes t0 rest : List ℕ} {room : ℕ} (given : Inputs p
               let known-so = known-idle given k r (leb-false 8 (named given k) i) j in
               inl (pass-idle (afterStep 1 (work₀ given k)) refl refl (known-so .0) (known-so .1))
           go false false i j =
-              ⊎-elim (λ x. inl (pass-step (leb-false 8 (named given k) i) j x)) (hold steps) (near-law given k r (leb-false 8 (named given k) i))
+              ⊎-elim (λ x. inl (pass-step (leb-false 8 (named given k) i) j x)) (hold steps)
+              (near-law given k r (leb-false 8 (named given k) i))
 
   -- plain steps and idle entries, up to the entry at which they stop
 
@@ -172,10 +205,12 @@ module _ {p schedule outcomes t0 rest : List ℕ} {room : ℕ} (given : Inputs p
     pub ready : Ready given (b .burst .at) (b .words) trace t lines used (b .burst .known)
     pub near : (b .burst .offer .sender .0 < 8) × (b .burst .offer .receiver .0 < 8)
     pub entered : b .burst .at < length schedule
-        → namedEntryOp p outcomes trace (b .words) room (record { entry = b .burst .at; lines = lines; used = used }) (getD schedule (b .burst .at) 0) (b .burst .code) (b .burst .offer)
+        → namedEntryOp p outcomes trace (b .words) room (record { entry = b .burst .at; lines = lines; used = used })
+        (getD schedule (b .burst .at) 0) (b .burst .code) (b .burst .offer)
         ≡ comesTo given (b .burst .at)
 
-  pub burst-law : (left k : ℕ) {work trace : List ℕ} {t : List (List ℕ)} {lines used : ℕ} {known : Knowledge} → left ≡ length schedule - k → Ready given k work trace t lines used known
+  pub burst-law : (left k : ℕ) {work trace : List ℕ} {t : List (List ℕ)} {lines used : ℕ} {known : Knowledge}
+      → left ≡ length schedule - k → Ready given k work trace t lines used known
       → Burst-good trace t lines used (burstOp p t schedule work k known left)
   unfolding burstOp unpaired
   burst-law zero k e r = record { ready = r; near = (omega arith, omega arith); entered = λ l. absurd (omega (arith, l, e)) }
@@ -204,18 +239,26 @@ module _ {p schedule outcomes t0 rest : List ℕ} {room : ℕ} (given : Inputs p
       stops = stopsHere p (d .words) schedule k known m
 
       steps : Bool → Bool → Stop
-      steps a b = cond a (rest-of (knownAfterStep p (d .words) (named given k) known (d .code)) (k + 1)) (cond b here (rest-of (withIdle known (named given k)) (k + 1)))
+      steps a b =
+          cond a (rest-of (knownAfterStep p (d .words) (named given k) known (d .code)) (k + 1))
+          (cond b here (rest-of (withIdle known (named given k)) (k + 1)))
 
       less : left ≡ length schedule - suc k
       less = omega (arith, e)
 
-      goes-there : {x : Knowledge} → Ready given (suc k) (d .words) (trace₀ given k) t (length (at given k .lines)) (at given k .used) x → Ready given (suc k) (d .words) trace t lines used x
+      goes-there : {x : Knowledge}
+          → Ready given (suc k) (d .words) (trace₀ given k) t (length (at given k .lines)) (at given k .used) x
+          → Ready given (suc k) (d .words) trace t lines used x
       goes-there y = ready-as given (suc k) y refl (r .written) (r .counted) (r .drawn)
 
-      further : (x : Knowledge) → Burst-good trace t lines used (rest-of x (suc k)) → Burst-good trace t lines used (rest-of x (k + 1))
-      further x g = subst (λ (i : ℕ). Burst-good trace t lines used (rest-of x i)) {x = suc k} {y = k + 1} (omega arith) g
+      further : (x : Knowledge) → Burst-good trace t lines used (rest-of x (suc k))
+          → Burst-good trace t lines used (rest-of x (k + 1))
+      further x g =
+          subst (λ (i : ℕ). Burst-good trace t lines used (rest-of x i)) {x = suc k} {y = k + 1} (omega arith) g
 
-      done : Done k t known d → Burst-good trace t lines used (rest-of (knownAfterStep p (d .words) (named given k) known (d .code)) (suc k))
+      done : Done k t known d
+          → Burst-good trace t lines used
+          (rest-of (knownAfterStep p (d .words) (named given k) known (d .code)) (suc k))
           → Burst-good trace t lines used (steps (isDone (d .code) known) stops)
       done x g =
           subst (Burst-good trace t lines used) (sym (ap (λ (a : Bool). steps a stops) (x .done)))
@@ -223,7 +266,9 @@ module _ {p schedule outcomes t0 rest : List ℕ} {room : ℕ} (given : Inputs p
 
       waits : Waits k t known d → Burst-good trace t lines used (rest-of (withIdle known (named given k)) (suc k))
           → Burst-good trace t lines used (steps (isDone (d .code) known) stops)
-      waits x g = subst (Burst-good trace t lines used) (sym (ap₂ steps (x .more) (x .goes))) (further (withIdle known (named given k)) g)
+      waits x g =
+          subst (Burst-good trace t lines used) (sym (ap₂ steps (x .more) (x .goes)))
+          (further (withIdle known (named given k)) g)
 
       held : Held k t known d → Burst-good trace t lines used (steps (isDone (d .code) known) stops)
       held x = subst (Burst-good trace t lines used) (sym (ap₂ steps (x .more) (x .stops))) good

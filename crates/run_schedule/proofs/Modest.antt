@@ -70,7 +70,8 @@ receive-small a = go (operand a 0)
     go (ref (end n s)) = tt
 
 module _ (p outcomes : List ℕ) (s : State) where
-  doing-small : (f : Frame) (fs : List Frame) → Small (doingOf (opAt p (f .place)) (sceneOf p outcomes s f fs)) → Small (atFrame p outcomes s f fs)
+  doing-small : (f : Frame) (fs : List Frame) → Small (doingOf (opAt p (f .place)) (sceneOf p outcomes s f fs))
+      → Small (atFrame p outcomes s f fs)
   unfolding atFrame
   doing-small f fs h =
       cond-both Small (leb (takenAt p (f .place)) (length (f .pending))) {y = stuck}
@@ -79,9 +80,15 @@ module _ (p outcomes : List ℕ) (s : State) where
   frame-small : (f : Frame) (fs : List Frame) → Small (atFrame p outcomes s f fs)
   unfolding doingOf doings
   frame-small f fs =
-      ⊎-elim (λ e. doing-small f fs (subst (λ (o : ℕ). Small (doingOf o (sceneOf p outcomes s f fs))) (sym (eqb-true (opAt p (f .place)) 15 e)) (send-small (sceneOf p outcomes s f fs))))
-      (λ e. ⊎-elim (λ i. doing-small f fs (subst (λ (o : ℕ). Small (doingOf o (sceneOf p outcomes s f fs))) (sym (eqb-true (opAt p (f .place)) 16 i)) (receive-small (sceneOf p outcomes s f fs))))
-      (λ i. alone-small (atFrame p outcomes s f fs) (frame-alone p outcomes s f fs (eqb-false (opAt p (f .place)) 15 e) (eqb-false (opAt p (f .place)) 16 i)))
+      ⊎-elim
+      (λ e. doing-small f fs
+      (subst (λ (o : ℕ). Small (doingOf o (sceneOf p outcomes s f fs))) (sym (eqb-true (opAt p (f .place)) 15 e))
+      (send-small (sceneOf p outcomes s f fs))))
+      (λ e. ⊎-elim (λ i. doing-small f fs
+      (subst (λ (o : ℕ). Small (doingOf o (sceneOf p outcomes s f fs))) (sym (eqb-true (opAt p (f .place)) 16 i))
+      (receive-small (sceneOf p outcomes s f fs))))
+      (λ i. alone-small (atFrame p outcomes s f fs)
+      (frame-alone p outcomes s f fs (eqb-false (opAt p (f .place)) 15 e) (eqb-false (opAt p (f .place)) 16 i)))
       (decide (eqb (opAt p (f .place)) 16)))
       (decide (eqb (opAt p (f .place)) 15))
 
@@ -124,7 +131,8 @@ module _ (p : List ℕ) (kept : Kept p) (outcomes : List ℕ) (s : State) (ks : 
       two (bool b) = omega arith
       two (ref t) = omega arith
 
-  applied-modest : (a : Act) → Small a → ActTyped p ks (s .config .qubits) (length (s .config .processes)) a → Modest (applied p outcomes k s n a)
+  applied-modest : (a : Act) → Small a → ActTyped p ks (s .config .qubits) (length (s .config .processes)) a
+      → Modest (applied p outcomes k s n a)
   unfolding appliedIn forkingIn paramTypes
   applied-modest idle h t = (omega arith, omega arith)
   applied-modest stuck h t = absurd t

@@ -1,5 +1,6 @@
 -- What stands before an entry of the run: trace and store hold the state's lines and configuration, and the run from
--- there is the rest of the whole run. What an entry in general does to it; Taking.antt and Bursting.antt go by kinds of entries.
+-- there is the rest of the whole run. What an entry in general does to it; Taking.antt and Bursting.antt go by kinds of
+-- entries.
 use Prim.Native.Nat.{ℕ, suc, _+_, _*_, _≤_, _<_}
 use mathlib.Core.Path.{_≡_, refl, sym, _∙_, ap, subst}
 use mathlib.Core.Logic.{_≢_, _⊎_, inl, inr, ⊎-elim}
@@ -131,11 +132,14 @@ module _ {p schedule outcomes t0 rest : List ℕ} {room : ℕ} (given : Inputs p
     small-effect = modest reached k named
 
     -- one entry taken, whatever it did
-    pub ready-next : {work trace : List ℕ} {t : List (List ℕ)} {lines used : ℕ} {known : Knowledge} → Ready k work trace t lines used known → k < length schedule
+    pub ready-next : {work trace : List ℕ} {t : List (List ℕ)} {lines used : ℕ} {known : Knowledge}
+        → Ready k work trace t lines used known → k < length schedule
         → ending p outcomes (at k) ≡ 0 → fits room (at k) effect ≡ true
         → (work′ trace′ : List ℕ) (t′ : List (List ℕ)) (lines′ used′ : ℕ) (known′ : Knowledge)
-        → work′ ≡ encode (effect .config) ++ rest → trace′ ≡ traceAfter (at k .lines ++ effect .lines) t0 → lines′ ≡ length (at k .lines ++ effect .lines)
-        → used′ ≡ at k .used + effect .used → Holding t′ (at k .lines ++ effect .lines) → (known′ .some ≡ true → ending p outcomes (at (suc k)) ≡ 0)
+        → work′ ≡ encode (effect .config) ++ rest → trace′ ≡ traceAfter (at k .lines ++ effect .lines) t0
+        → lines′ ≡ length (at k .lines ++ effect .lines)
+        → used′ ≡ at k .used + effect .used → Holding t′ (at k .lines ++ effect .lines)
+        → (known′ .some ≡ true → ending p outcomes (at (suc k)) ≡ 0)
         → (known′ .some ≡ true → Idle work′ t′ (known′ .idle)) → Ready (suc k) work′ trace′ t′ lines′ used′ known′
     unfolding afterEffect fits stateAt
     ready-next r l e f work′ trace′ t′ lines′ used′ known′ w tr ln us ho kn id = record {
@@ -148,22 +152,27 @@ module _ {p schedule outcomes t0 rest : List ℕ} {room : ℕ} (given : Inputs p
       table = ho;
       sure = kn;
       idle = id;
-      fit = omega (arith, leb-true (length (at k .lines) + length (effect .lines)) room f, length-append (at k .lines) (effect .lines));
+      fit =
+          omega
+          (arith, leb-true (length (at k .lines) + length (effect .lines)) room f, length-append (at k .lines) (effect .lines));
       fewLines = omega (arith, r .fewLines, small-effect .1, length-append (at k .lines) (effect .lines));
       fewUsed = omega (arith, r .fewUsed, small-effect .0);
     }
 
     -- a plain step
 
-    pub ready-plain : {work trace : List ℕ} {t : List (List ℕ)} {lines used : ℕ} {known : Knowledge} → Ready k work trace t lines used known → k < length schedule
+    pub ready-plain : {work trace : List ℕ} {t : List (List ℕ)} {lines used : ℕ} {known : Knowledge}
+        → Ready k work trace t lines used known → k < length schedule
         → able p outcomes (at k) named ≡ true → effect .lines ≡ [] → effect .used ≡ 0
         → (work′ : List ℕ) → work′ ≡ encode (effect .config) ++ rest
-        → (known′ : Knowledge) → (known′ .some ≡ true → ending p outcomes (at (suc k)) ≡ 0) → (known′ .some ≡ true → Idle work′ t (known′ .idle))
+        → (known′ : Knowledge) → (known′ .some ≡ true → ending p outcomes (at (suc k)) ≡ 0)
+        → (known′ .some ≡ true → Idle work′ t (known′ .idle))
         → Ready (suc k) work′ trace t lines used known′
     unfolding fits
     ready-plain {work} {trace} {t} {lines} {used} r l a ls us work′ w known′ kn id =
         ready-next r l (able-goes p outcomes (at k) named a)
-        (ap (λ (x : List Line). leb (length (at k .lines) + length x) room) ls ∙ le-leb (length (at k .lines) + 0) room (omega (arith, r .fit)))
+        (ap (λ (x : List Line). leb (length (at k .lines) + length x) room) ls
+        ∙ le-leb (length (at k .lines) + 0) room (omega (arith, r .fit)))
         work′ trace t lines used known′ w
         (r .written ∙ ap (λ (x : List Line). traceAfter x t0) same)
         (r .counted ∙ ap length same)
@@ -183,13 +192,16 @@ module _ {p schedule outcomes t0 rest : List ℕ} {room : ℕ} (given : Inputs p
     idle-same : able p outcomes (at k) named ≡ false → effect ≡ nothing (at k)
     idle-same a = unable-nothing p outcomes k (at k) named a
 
-    pub ready-idle : {work trace : List ℕ} {t : List (List ℕ)} {lines used : ℕ} {known : Knowledge} → Ready k work trace t lines used known → k < length schedule
+    pub ready-idle : {work trace : List ℕ} {t : List (List ℕ)} {lines used : ℕ} {known : Knowledge}
+        → Ready k work trace t lines used known → k < length schedule
         → able p outcomes (at k) named ≡ false → ending p outcomes (at k) ≡ 0
-        → (known′ : Knowledge) → (known′ .some ≡ true → Idle work t (known′ .idle)) → Ready (suc k) work trace t lines used known′
+        → (known′ : Knowledge) → (known′ .some ≡ true → Idle work t (known′ .idle))
+        → Ready (suc k) work trace t lines used known′
     unfolding fits
     ready-idle {work} {trace} {t} {lines} {used} r l a e known′ id =
         ready-next r l e
-        (ap (λ (x : Effect). leb (length (at k .lines) + length (x .lines)) room) (idle-same a) ∙ le-leb (length (at k .lines) + 0) room (omega (arith, r .fit)))
+        (ap (λ (x : Effect). leb (length (at k .lines) + length (x .lines)) room) (idle-same a)
+        ∙ le-leb (length (at k .lines) + 0) room (omega (arith, r .fit)))
         work trace t lines used known′
         (r .store ∙ ap (λ (x : Effect). encode (x .config) ++ rest) (sym (idle-same a)))
         (r .written ∙ ap (λ (x : List Line). traceAfter x t0) same)
@@ -222,11 +234,13 @@ module _ {p schedule outcomes t0 rest : List ℕ} {room : ℕ} (given : Inputs p
 
     abbrev pub taken : AfterEntry
     taken =
-        afterEntry (takenTo (length (at k .lines ++ effect .lines)) (at k .used + effect .used)) (traceAfter (at k .lines ++ effect .lines) t0)
+        afterEntry (takenTo (length (at k .lines ++ effect .lines)) (at k .used + effect .used))
+        (traceAfter (at k .lines ++ effect .lines) t0)
         (encode (effect .config) ++ rest)
 
     abbrev pub comes : Bool → Bool → AfterEntry
-    comes a f = cond a (cond f taken (afterEntry (fullAt count₀) trace₀ work₀)) (afterEntry (idleAt count₀) trace₀ work₀)
+    comes a f =
+        cond a (cond f taken (afterEntry (fullAt count₀) trace₀ work₀)) (afterEntry (idleAt count₀) trace₀ work₀)
 
     abbrev pub comesTo : AfterEntry
     comesTo = comes (able p outcomes (at k) named) (fits room (at k) effect)
@@ -242,20 +256,27 @@ module _ {p schedule outcomes t0 rest : List ℕ} {room : ℕ} (given : Inputs p
     pub record Stopped (t : List (List ℕ)) (d : AfterStep) : Type 0 where
       pub code : d .code ≢ 0
       pub words : d .words ≡ work₀
-      pub entered : namedEntryOp p outcomes trace₀ work₀ room count₀ named (d .code) (offerAt p work₀ t named (d .code)) ≡ comesTo
+      pub entered :
+          namedEntryOp p outcomes trace₀ work₀ room count₀ named (d .code) (offerAt p work₀ t named (d .code)) ≡ comesTo
 
     pub unmade : 8 ≤ named → able p outcomes (at k) named ≡ false
     unfolding ableIn movesIn
-    unmade h = ap (moves p outcomes (at k) named) (unmade-idle p outcomes (at k) named (omega (arith, h, state-sound .processCount)))
+    unmade h =
+        ap (moves p outcomes (at k) named)
+        (unmade-idle p outcomes (at k) named (omega (arith, h, state-sound .processCount)))
 
-    module _ {work trace : List ℕ} {t : List (List ℕ)} {lines used : ℕ} {known : Knowledge} (r : Ready k work trace t lines used known) where
+    module _ {work trace : List ℕ} {t : List (List ℕ)} {lines used : ℕ} {known : Knowledge}
+        (r : Ready k work trace t lines used known) where
       -- no process can have that number
       pub far-law : 8 ≤ named → Stopped t (afterStep 1 work₀)
       unfolding namedEntryOp
       far-law h = record {
         code = λ e. absurd (omega (arith, e));
         words = refl;
-        entered = ap (λ (b : Bool). cond b (afterEntry (idleAt count₀) trace₀ work₀) (entryOp p outcomes trace₀ work₀ room count₀ named 1 (offerAt p work₀ t named 1))) (le-leb 8 named h)
+        entered =
+            ap
+            (λ (b : Bool). cond b (afterEntry (idleAt count₀) trace₀ work₀)
+            (entryOp p outcomes trace₀ work₀ room count₀ named 1 (offerAt p work₀ t named 1))) (le-leb 8 named h)
             ∙ sym (ap (λ (b : Bool). comes b (fits room (at k) effect)) (unmade h));
       }
 
@@ -275,12 +296,19 @@ module _ {p schedule outcomes t0 rest : List ℕ} {room : ℕ} (given : Inputs p
           inr (record {
             code = x .code;
             words = ap (withPart work₀ named) (x .words) ∙ part-same work₀ named;
-            entered = ap (λ (b : Bool). cond b (afterEntry (idleAt count₀) trace₀ work₀) (entryOp p outcomes trace₀ work₀ room count₀ named (step₀ .code) (offerAt p work₀ t named (step₀ .code)))) (lt-leb 8 named h) ∙ x .entry;
+            entered =
+                ap
+                (λ (b : Bool). cond b (afterEntry (idleAt count₀) trace₀ work₀)
+                (entryOp p outcomes trace₀ work₀ room count₀ named (step₀ .code) (offerAt p work₀ t named (step₀ .code))))
+                (lt-leb 8 named h)
+                ∙ x .entry;
           }))
           (entry-law here rest k named owned t (r .table) h)
 
     -- the same words and counts, by whatever names
-    pub ready-as : {work work′ trace trace′ : List ℕ} {t : List (List ℕ)} {lines lines′ used used′ : ℕ} {known : Knowledge} → Ready k work trace t lines used known
+    pub ready-as :
+        {work work′ trace trace′ : List ℕ} {t : List (List ℕ)} {lines lines′ used used′ : ℕ} {known : Knowledge}
+        → Ready k work trace t lines used known
         → work′ ≡ work → trace′ ≡ trace → lines′ ≡ lines → used′ ≡ used → Ready k work′ trace′ t lines′ used′ known
     ready-as {t = t} {known = known} r w x n u = record {
       runs = r .runs;
@@ -297,23 +325,29 @@ module _ {p schedule outcomes t0 rest : List ℕ} {room : ℕ} (given : Inputs p
       fewUsed = r .fewUsed;
     }
 
-    pub ready-there : {work trace : List ℕ} {t : List (List ℕ)} {lines used : ℕ} {known : Knowledge} → Ready k work trace t lines used known
+    pub ready-there : {work trace : List ℕ} {t : List (List ℕ)} {lines used : ℕ} {known : Knowledge}
+        → Ready k work trace t lines used known
         → Stands t known
     ready-there r = ready-as r (sym (r .store)) (sym (r .written)) (sym (r .counted)) (sym (r .drawn))
 
-    pub came-as : {work trace : List ℕ} {t : List (List ℕ)} {lines used : ℕ} {known : Knowledge} → Ready k work trace t lines used known → (code : ℕ) (m : Pairing)
+    pub came-as : {work trace : List ℕ} {t : List (List ℕ)} {lines used : ℕ} {known : Knowledge}
+        → Ready k work trace t lines used known → (code : ℕ) (m : Pairing)
         → namedEntryOp p outcomes trace₀ work₀ room count₀ named code m ≡ comesTo
-        → namedEntryOp p outcomes trace work room (record { entry = k; lines = lines; used = used }) named code m ≡ comesTo
+        → namedEntryOp p outcomes trace work room (record { entry = k; lines = lines; used = used }) named code m
+        ≡ comesTo
     came-as r code m e =
         (λ i. namedEntryOp p outcomes (r .written i) (r .store i) room (record { entry = k; lines = r .counted i; used = r .drawn i }) named code m) ∙ e
 
     -- an entry whose offer comes to waiting is idle
     pub idle-unable : (t : List (List ℕ)) (code : ℕ) → offerAt p work₀ t named code .kind ≡ 1
-        → namedEntryOp p outcomes trace₀ work₀ room count₀ named code (offerAt p work₀ t named code) ≡ comesTo → able p outcomes (at k) named ≡ false
+        → namedEntryOp p outcomes trace₀ work₀ room count₀ named code (offerAt p work₀ t named code) ≡ comesTo
+        → able p outcomes (at k) named ≡ false
     unfolding namedEntryOp
     idle-unable t code w e = go (able p outcomes (at k) named) (fits room (at k) effect) (sym (stays (leb 8 named)) ∙ e)
       where
-        stays : (b : Bool) → cond b (afterEntry (idleAt count₀) trace₀ work₀) (entryOp p outcomes trace₀ work₀ room count₀ named code (offerAt p work₀ t named code))
+        stays : (b : Bool)
+            → cond b (afterEntry (idleAt count₀) trace₀ work₀)
+            (entryOp p outcomes trace₀ work₀ room count₀ named code (offerAt p work₀ t named code))
             ≡ afterEntry (idleAt count₀) trace₀ work₀
         stays true = refl
         stays false = waiting-stays p outcomes trace₀ work₀ room t count₀ named code w
@@ -345,7 +379,8 @@ module _ {p schedule outcomes t0 rest : List ℕ} {room : ℕ} (given : Inputs p
     unfolding isIdle
     known-idle {t} {known} r l e = go (known .some) refl e
       where
-        go : (b : Bool) → known .some ≡ b → (b && getD (known .idle) named false) ≡ true → (b ≡ true) × (able p outcomes (at k) named ≡ false)
+        go : (b : Bool) → known .some ≡ b → (b && getD (known .idle) named false) ≡ true
+            → (b ≡ true) × (able p outcomes (at k) named ≡ false)
         go true i h = (refl, not-able (r .table) named l (r .idle i named l h))
         go false i h = absurd (true≢false (sym h))
 
@@ -359,7 +394,9 @@ module _ {p schedule outcomes t0 rest : List ℕ} {room : ℕ} (given : Inputs p
         base = cond (known .some) (known .idle) (replicate 8 false)
 
         old : Idle work₀ t base
-        old = cond-each (Idle work₀ t) (known .some) (r .idle) (λ i n h e. absurd (true≢false (sym e ∙ getD-replicate 8 n false false h)))
+        old =
+            cond-each (Idle work₀ t) (known .some) (r .idle)
+            (λ i n h e. absurd (true≢false (sym e ∙ getD-replicate 8 n false false h)))
 
         more : named < 8 → Idle work₀ t (set base named true)
         more l n h e =
@@ -378,7 +415,8 @@ module _ {p schedule outcomes t0 rest : List ℕ} {room : ℕ} (given : Inputs p
     same-long =
         length-append (encode (at (suc k) .config)) rest
         ∙ ap (λ (i : ℕ). i + length rest)
-        (encode-length p (at (suc k) .config) (state-sound (suc k)) ∙ sym (encode-length p (at k .config) (state-sound k)))
+        (encode-length p (at (suc k) .config) (state-sound (suc k))
+        ∙ sym (encode-length p (at k .config) (state-sound k)))
         ∙ sym (length-append (encode (at k .config)) rest)
 
     -- where the named process moved alone and comes to stand at no offer, the idle processes stay so and it can go on
@@ -389,7 +427,9 @@ module _ {p schedule outcomes t0 rest : List ℕ} {room : ℕ} (given : Inputs p
       pub moved-idle : known .some ≡ true → getD (known .idle) (named k) false ≡ false → Idle work′ t (known .idle)
       moved-idle i free n h e =
           still-unable p (work₀ k) work′ t n (others n h ne)
-          (λ q l. ⊎-elim (λ j. inr (subst (λ (m : ℕ). readinessOp p (partOf work′ m) .kind < 2) (sym (eqb-true q (named k) j)) (omega (arith, by-itself))))
+          (λ q l. ⊎-elim (λ j. inr
+          (subst (λ (m : ℕ). readinessOp p (partOf work′ m) .kind < 2) (sym (eqb-true q (named k) j))
+          (omega (arith, by-itself))))
           (λ j. inl (others q l (eqb-false q (named k) j)))
           (decide (eqb q (named k))))
           (r .idle i n h e)
@@ -397,7 +437,8 @@ module _ {p schedule outcomes t0 rest : List ℕ} {room : ℕ} (given : Inputs p
           ne : n ≢ named k
           ne j = true≢false (sym e ∙ ap (λ (m : ℕ). getD (known .idle) m false) j ∙ free)
 
-      pub moved-goes : {t′ : List (List ℕ)} → Holding t′ (at k .lines ++ effect k .lines) → work′ ≡ encode (effect k .config) ++ rest → ending p outcomes (at (suc k)) ≡ 0
+      pub moved-goes : {t′ : List (List ℕ)} → Holding t′ (at k .lines ++ effect k .lines)
+          → work′ ≡ encode (effect k .config) ++ rest → ending p outcomes (at (suc k)) ≡ 0
       unfolding stateAt afterEffect
       moved-goes {t′} holding e =
           goes-on (suc k) holding (named k) low
@@ -405,7 +446,8 @@ module _ {p schedule outcomes t0 rest : List ℕ} {room : ℕ} (given : Inputs p
 
   -- the schedule is used up
 
-  pub ready-last : (k : ℕ) {work trace : List ℕ} {t : List (List ℕ)} {lines used : ℕ} {known : Knowledge} → Ready k work trace t lines used known → length schedule ≤ k
+  pub ready-last : (k : ℕ) {work trace : List ℕ} {t : List (List ℕ)} {lines used : ℕ} {known : Knowledge}
+      → Ready k work trace t lines used known → length schedule ≤ k
       → Over k (endingOp p work t 8) work trace lines used
   ready-last k {work} {trace} {t} r h = record {
     ends =

@@ -33,7 +33,8 @@ use Rattle.run_schedule.proofs.Taking.{Turns, turn-law}
 use Rattle.run_schedule.proofs.Bursting.{Burst-good, burst-law}
 
 -- the state before the entry at which a burst has stopped, or at the schedule's end
-pub record Going (p schedule outcomes : List ℕ) (room : ℕ) (rest t0 work trace : List ℕ) (t : List (List ℕ)) (lines used : ℕ) (b : Burst) : Type 0 where
+pub record Going (p schedule outcomes : List ℕ) (room : ℕ) (rest t0 work trace : List ℕ) (t : List (List ℕ)) (lines used : ℕ) (b : Burst) :
+    Type 0 where
   pub given : Inputs p schedule outcomes t0 rest room
   pub stands : Burst-good given trace t lines used (stopsAt b work)
 
@@ -42,7 +43,8 @@ narrow-words : (p : List ℕ) → ((i : ℕ) → getD p i 0 < 65536) → (i : �
 unfolding argAt word
 narrow-words p h i = h (3 + 20 * methods p + 2 * i)
 
-pub inputs : (p schedule outcomes t0 : List ℕ) {rest : List ℕ} {room : ℕ} → Kept p → ((i : ℕ) → getD p i 0 < 65536) → All (λ o. o ≤ 2) outcomes
+pub inputs : (p schedule outcomes t0 : List ℕ) {rest : List ℕ} {room : ℕ} → Kept p → ((i : ℕ) → getD p i 0 < 65536)
+    → All (λ o. o ≤ 2) outcomes
     → length schedule ≤ 65535 → room ≡ length t0 / 6 → Inputs p schedule outcomes t0 rest room
 inputs p schedule outcomes t0 kept words bytes short room = record {
   kept = kept;
@@ -53,20 +55,27 @@ inputs p schedule outcomes t0 kept words bytes short room = record {
 }
 
 -- a burst does not go back
-burst-past : (p : List ℕ) (t : List (List ℕ)) (schedule work : List ℕ) (k : ℕ) (known : Knowledge) (left : ℕ) → k ≤ burstOp p t schedule work k known left .burst .at
+burst-past : (p : List ℕ) (t : List (List ℕ)) (schedule work : List ℕ) (k : ℕ) (known : Knowledge) (left : ℕ)
+    → k ≤ burstOp p t schedule work k known left .burst .at
 unfolding burstOp
 burst-past p t schedule work k known zero = omega arith
 burst-past p t schedule work k known (suc left) =
     cond-both (λ (b : Stop). k ≤ b .burst .at) (isDone (d .code) known)
-    (omega (arith, burst-past p t schedule (d .words) (k + 1) (knownAfterStep p (d .words) (getD schedule k 0) known (d .code)) left))
-    (cond-both (λ (b : Stop). k ≤ b .burst .at) (stopsHere p (d .words) schedule k known (offerAt p (d .words) t (getD schedule k 0) (d .code))) (omega arith)
+    (omega (
+      arith,
+      burst-past p t schedule (d .words) (k + 1) (knownAfterStep p (d .words) (getD schedule k 0) known (d .code))
+          left,
+    ))
+    (cond-both (λ (b : Stop). k ≤ b .burst .at)
+    (stopsHere p (d .words) schedule k known (offerAt p (d .words) t (getD schedule k 0) (d .code))) (omega arith)
     (omega (arith, burst-past p t schedule (d .words) (k + 1) (withIdle known (getD schedule k 0)) left)))
   where
     d : AfterStep
     d = namedOp p work (getD schedule k 0) known
 
 module _ {p schedule outcomes : List ℕ} {room : ℕ} {t0 : List ℕ} where
-  pub going-start : {w0 : List ℕ} → Inputs p schedule outcomes t0 (drop 8192 w0) room → w0 ≡ encode (startConfig p) ++ drop 8192 w0
+  pub going-start : {w0 : List ℕ} → Inputs p schedule outcomes t0 (drop 8192 w0) room
+      → w0 ≡ encode (startConfig p) ++ drop 8192 w0
       → {t : List (List ℕ)} → t ≡ nobody → {known : Knowledge} → known ≡ nothingKnown
       → {b : Burst} {work : List ℕ} → stopsAt b work ≡ burstOp p t schedule w0 0 known (length schedule - 0)
       → Going p schedule outcomes room (drop 8192 w0) t0 work t0 t 0 0 b
@@ -79,7 +88,8 @@ module _ {p schedule outcomes : List ℕ} {room : ℕ} {t0 : List ℕ} where
         (subst (λ (u : List (List ℕ)). Ready given 0 w0 t0 u 0 0 nothingKnown) (sym i) (ready-start given w0 e))));
   }
 
-  module _ {rest work trace : List ℕ} {t : List (List ℕ)} {lines used : ℕ} {b : Burst} (g : Going p schedule outcomes room rest t0 work trace t lines used b) where
+  module _ {rest work trace : List ℕ} {t : List (List ℕ)} {lines used : ℕ} {b : Burst}
+      (g : Going p schedule outcomes room rest t0 work trace t lines used b) where
     abbrev there : Ready (g .given) (b .at) work trace t lines used (b .known)
     there = g .stands .ready
 
@@ -102,7 +112,8 @@ module _ {p schedule outcomes : List ℕ} {room : ℕ} {t0 : List ℕ} where
     -- the words that a run leaves
     over-leaves : (w0 : List ℕ) → rest ≡ drop 8192 w0 → {at end : ℕ} {work′ trace′ : List ℕ} {lines′ used′ : ℕ}
         → Over (g .given) at end work′ trace′ lines′ used′
-        → afterRun (record { end = end; entries = at; lines = lines′; used = used′ }) trace′ work′ ≡ runLeaves (run p outcomes room schedule) t0 w0
+        → afterRun (record { end = end; entries = at; lines = lines′; used = used′ }) trace′ work′ ≡ runLeaves
+        (run p outcomes room schedule) t0 w0
     unfolding runLeaves storeAfter
     over-leaves w0 same {at} {end} o =
         (λ i. afterRun (record { end = end; entries = at; lines = o .counted i; used = o .drawn i }) (o .written i)
@@ -110,8 +121,10 @@ module _ {p schedule outcomes : List ℕ} {room : ℕ} {t0 : List ℕ} where
         ∙ ap (λ (r : Result). runLeaves r t0 w0) (sym (o .ends))
 
     -- the schedule is used up
-    pub going-ends : (w0 : List ℕ) → rest ≡ drop 8192 w0 → length schedule ≤ b .at → {end : ℕ} → end ≡ endingOp p work t 8
-        → afterRun (record { end = end; entries = b .at; lines = lines; used = used }) trace work ≡ runLeaves (run p outcomes room schedule) t0 w0
+    pub going-ends : (w0 : List ℕ) → rest ≡ drop 8192 w0 → length schedule ≤ b .at → {end : ℕ}
+        → end ≡ endingOp p work t 8
+        → afterRun (record { end = end; entries = b .at; lines = lines; used = used }) trace work ≡ runLeaves
+        (run p outcomes room schedule) t0 w0
     going-ends w0 same h {end} e =
         ap (λ (x : ℕ). afterRun (record { end = x; entries = b .at; lines = lines; used = used }) trace work) e
         ∙ over-leaves w0 same (ready-last (g .given) (b .at) there h)
@@ -126,11 +139,14 @@ module _ {p schedule outcomes : List ℕ} {room : ℕ} {t0 : List ℕ} where
 
       -- the run is over
       pub going-over : (w0 : List ℕ) → rest ≡ drop 8192 w0 → r .end ≢ 0
-          → afterRun (record { end = r .end; entries = b .at; lines = r .lines; used = r .used }) trace′ work′ ≡ runLeaves (run p outcomes room schedule) t0 w0
+          → afterRun (record { end = r .end; entries = b .at; lines = r .lines; used = r .used }) trace′ work′
+          ≡ runLeaves (run p outcomes room schedule) t0 w0
       going-over w0 same h = ⊎-elim (λ x. absurd (h (x .0))) (λ x. over-leaves w0 same (x .1)) turn
 
       module _ (goes : r .end ≡ 0) where
-        next : (lines ≤ r .lines) × Ready (g .given) (suc (b .at)) work′ trace′ (holdersAfterLines t trace′ lines (r .lines - lines)) (r .lines) (r .used)
+        next :
+            (lines ≤ r .lines) × Ready (g .given) (suc (b .at)) work′ trace′
+            (holdersAfterLines t trace′ lines (r .lines - lines)) (r .lines) (r .used)
             (unlessChanged (r .known) (changedFrom trace′ lines (r .lines - lines)))
         next = ⊎-elim (λ x. (x .1, x .2)) (λ x. absurd (x .0 goes)) turn
 
@@ -143,26 +159,32 @@ module _ {p schedule outcomes : List ℕ} {room : ℕ} {t0 : List ℕ} where
           omega (arith, next .1 .counted, next .1 .fit, g .given .holds),
         )
 
-        module _ {changes : Bool} (says : changes ≡ changedFrom trace′ lines (r .lines - lines)) {known : Knowledge} (knows : known ≡ unlessChanged (r .known) changes)
-            {u : List (List ℕ)} (noted : u ≡ holdersAfterLines t trace′ lines (r .lines - lines)) {b′ : Burst} {work″ : List ℕ}
-            (stops : stopsAt b′ work″ ≡ burstOp p u schedule work′ (b .at + 1) known (length schedule - (b .at + 1))) where
-          -- it goes on
-          pub going-next : Going p schedule outcomes room rest t0 work″ trace′ u (r .lines) (r .used) b′
-          going-next = record {
-            given = g .given;
-            stands =
-                subst (Burst-good (g .given) trace′ u (r .lines) (r .used)) (sym stops)
-                (burst-law (g .given) (length schedule - (b .at + 1)) (b .at + 1) refl
-                (subst (λ (n : ℕ). Ready (g .given) n work′ trace′ u (r .lines) (r .used) known) {x = suc (b .at)} {y = b .at + 1} (omega arith)
-                (subst (λ (x : Knowledge). Ready (g .given) (suc (b .at)) work′ trace′ u (r .lines) (r .used) x) (sym (knows ∙ ap (unlessChanged (r .known)) says))
-                (subst (λ (v : List (List ℕ)). Ready (g .given) (suc (b .at)) work′ trace′ v (r .lines) (r .used) (unlessChanged (r .known) (changedFrom trace′ lines (r .lines - lines))))
-                (sym noted) (next .1)))));
-          }
+        module _ {changes : Bool} (says : changes ≡ changedFrom trace′ lines (r .lines - lines)) {known : Knowledge}
+            (knows : known ≡ unlessChanged (r .known) changes)
+            {u : List (List ℕ)} (noted : u ≡ holdersAfterLines t trace′ lines (r .lines - lines)) {b′ : Burst}
+            {work″ : List ℕ}
+            (stops : stopsAt b′ work″ ≡ burstOp p u schedule work′ (b .at + 1) known (length schedule - (b .at + 1)))
+          where
+            -- it goes on
+            pub going-next : Going p schedule outcomes room rest t0 work″ trace′ u (r .lines) (r .used) b′
+            going-next = record {
+              given = g .given;
+              stands =
+                  subst (Burst-good (g .given) trace′ u (r .lines) (r .used)) (sym stops)
+                  (burst-law (g .given) (length schedule - (b .at + 1)) (b .at + 1) refl
+                  (subst (λ (n : ℕ). Ready (g .given) n work′ trace′ u (r .lines) (r .used) known) {x = suc (b .at)}
+                  {y = b .at + 1} (omega arith)
+                  (subst (λ (x : Knowledge). Ready (g .given) (suc (b .at)) work′ trace′ u (r .lines) (r .used) x)
+                  (sym (knows ∙ ap (unlessChanged (r .known)) says))
+                  (subst (λ (v : List (List ℕ)). Ready (g .given) (suc (b .at)) work′ trace′ v (r .lines) (r .used)
+                  (unlessChanged (r .known) (changedFrom trace′ lines (r .lines - lines))))
+                  (sym noted) (next .1)))));
+            }
 
-          pub further : b .at < b′ .at
-          further =
-              omega (
-                arith,
-                subst (λ (x : Stop). b .at + 1 ≤ x .burst .at) (sym stops)
-                    (burst-past p u schedule work′ (b .at + 1) known (length schedule - (b .at + 1))),
-              )
+            pub further : b .at < b′ .at
+            further =
+                omega (
+                  arith,
+                  subst (λ (x : Stop). b .at + 1 ≤ x .burst .at) (sym stops)
+                      (burst-past p u schedule work′ (b .at + 1) known (length schedule - (b .at + 1))),
+                )

@@ -1,5 +1,5 @@
--- What a run leaves: its answer's numbers, the words of the trace and the words of the work store, in the form in which the
--- code has them. These definitions follow the code.
+-- What a run leaves: its answer's numbers, the words of the trace and the words of the work store, in the form in which
+-- the code has them. These definitions follow the code.
 use Prim.Native.Nat.{ℕ}
 use mathlib.Core.List.{List}
 use lib.ListN.{length}

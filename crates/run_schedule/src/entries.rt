@@ -25,8 +25,8 @@ pub struct RunSummary {
     pub used: u32,
 }
 
-// From the start of a run to its end: a burst of entries that write no line, then the entry at which it stops, again and
-// again. `room` is how many lines the trace holds.
+// From the start of a run to its end: a burst of entries that write no line, then the entry at which it stops, again
+// and again. `room` is how many lines the trace holds.
 pub fn run_entries(
     p: &[u16],
     start: usize,

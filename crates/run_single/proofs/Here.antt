@@ -1,5 +1,5 @@
--- What is known where an entry stands to be taken: the state is one that a run comes to, the trace t0 was lent with room for
--- so many lines, and the outcomes used can be counted.
+-- What is known where an entry stands to be taken: the state is one that a run comes to, the trace t0 was lent with
+-- room for so many lines, and the outcomes used can be counted.
 use Prim.Native.Nat.{ℕ, _*_, _≤_, _<_}
 use mathlib.Core.List.{List}
 use lib.ListN.{length}

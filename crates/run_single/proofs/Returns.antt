@@ -1,5 +1,5 @@
--- What the functions of an entry with one line have done at their returns, from what their callees did and how their tests
--- came out.
+-- What the functions of an entry with one line have done at their returns, from what their callees did and how their
+-- tests came out.
 use Prim.Native.Nat.{ℕ, _+_, _%_, _≤_, _<_}
 use mathlib.Core.Path.{_≡_, refl, _∙_, ap, ap₂}
 use mathlib.Core.List.{List}
@@ -19,10 +19,12 @@ use Rattle.run_single.specs.SingleCode.{inPart, countedWords, eventLine,
 
 -- the answer, the trace and the store each for itself
 pub came-to : {m l : EntryResult} {t u v w : List ℕ} → m ≡ l → t ≡ u → v ≡ w → afterEntry m t v ≡ afterEntry l u w
-came-to {l = l} {u = u} {v = v} e f h = ap₂ (λ (x : EntryResult) (y : List ℕ). afterEntry x y v) e f ∙ ap (afterEntry l u) h
+came-to {l = l} {u = u} {v = v} e f h =
+    ap₂ (λ (x : EntryResult) (y : List ℕ). afterEntry x y v) e f ∙ ap (afterEntry l u) h
 
 -- the event of a part that was lent, as that of the store
-pub lifted-left : (work : List ℕ) (n : ℕ) {from : ℕ} → from ≡ partAt n → {t : EventResult} (ys : List ℕ) (f : List ℕ → AfterEvent)
+pub lifted-left : (work : List ℕ) (n : ℕ) {from : ℕ} → from ≡ partAt n
+    → {t : EventResult} (ys : List ℕ) (f : List ℕ → AfterEvent)
     → afterEvent t ys ≡ f (lent work from) → afterEvent t (returned work from ys) ≡ inPart work n (f (partOf work n))
 unfolding inPart
 lifted-left work n at ys f e =
@@ -59,7 +61,8 @@ module _ (p outcomes trace work : List ℕ) (room : ℕ) (g : Count) (n code : �
   single-full h e = took _ _ _ refl (le-leb room (g .lines) h) (came-to e refl refl)
 
   pub single-noted : {t : EventResult} {w v ts : List ℕ} {l : TraceLine} {u : ℕ} {m : EntryResult} → g .lines < room
-      → afterEvent t w ≡ concludedAt p work n code outcomes (g .used) → v ≡ countedWords w (t .kind) → l ≡ eventLine (g .entry) n t
+      → afterEvent t w ≡ concludedAt p work n code outcomes (g .used) → v ≡ countedWords w (t .kind)
+      → l ≡ eventLine (g .entry) n t
       → ts ≡ withLine trace (g .lines) l → u ≡ (g .used + t .used) % 4294967296 → m ≡ takenTo (g .lines + 1) u
       → afterEntry m ts v ≡ singleOp p outcomes trace work room g n code
   unfolding singleOp recorded

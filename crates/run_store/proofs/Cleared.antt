@@ -32,7 +32,8 @@ blank-more j ws h = fill-more j 0 ws h ∙ ap (λ (i : ℕ). replicate i 0 ++ dr
 pub blank-all : (ws : List ℕ) (n : ℕ) → length ws ≡ n → blank n ws ≡ replicate n 0
 unfolding blank
 blank-all ws n e =
-    ap (λ (l : List ℕ). replicate n 0 ++ l) (drop-of-length-le ws {i = n} (omega (arith, e))) ∙ append-nil (replicate n 0)
+    ap (λ (l : List ℕ). replicate n 0 ++ l) (drop-of-length-le ws {i = n} (omega (arith, e)))
+    ∙ append-nil (replicate n 0)
 
 -- all the words of a list cleared
 pub all-cleared : (ws : List ℕ) (n : ℕ) → length ws ≡ n → clearedFrom ws 0 n ≡ replicate n 0
@@ -46,8 +47,10 @@ all-cleared ws n e = go n (omega (arith, e)) ∙ blank-all ws n e
         ∙ ap (λ (l : List ℕ). set l j 0) (go j (le-of-suc-le h))
         ∙ blank-more j ws h
 
-pub values-cleared : (n : ℕ) (heads values vs : List ℕ) (from j : ℕ) → length heads ≤ 56 → length (values ++ vs) ≤ 448 → j ≤ length vs
-    → from ≡ 64 + length values → clearedFrom (whole n heads (values ++ vs)) from j ≡ whole n heads (values ++ blank j vs)
+pub values-cleared : (n : ℕ) (heads values vs : List ℕ) (from j : ℕ) → length heads ≤ 56 → length (values ++ vs) ≤ 448
+    → j ≤ length vs
+    → from ≡ 64 + length values
+    → clearedFrom (whole n heads (values ++ vs)) from j ≡ whole n heads (values ++ blank j vs)
 unfolding clearedFrom
 values-cleared n heads values vs from zero hs vl h e = ap (λ (l : List ℕ). whole n heads (values ++ l)) start
   where
@@ -60,8 +63,10 @@ values-cleared n heads values vs from (suc j) hs vl h e =
     (omega (arith, blank-length j vs (le-of-suc-le h), h)) (omega (arith, e))
     ∙ ap (λ (l : List ℕ). whole n heads (values ++ l)) (blank-more j vs h)
 
-pub heads-cleared : (n : ℕ) (heads head values : List ℕ) (from j : ℕ) → length (heads ++ head) ≤ 56 → length values ≤ 448 → j ≤ length head
-    → from ≡ 8 + length heads → clearedFrom (whole n (heads ++ head) values) from j ≡ whole n (heads ++ blank j head) values
+pub heads-cleared : (n : ℕ) (heads head values : List ℕ) (from j : ℕ) → length (heads ++ head) ≤ 56
+    → length values ≤ 448 → j ≤ length head
+    → from ≡ 8 + length heads
+    → clearedFrom (whole n (heads ++ head) values) from j ≡ whole n (heads ++ blank j head) values
 unfolding clearedFrom
 heads-cleared n heads head values from zero hs vl h e = ap (λ (l : List ℕ). whole n (heads ++ l) values) start
   where
@@ -70,6 +75,7 @@ heads-cleared n heads head values from zero hs vl h e = ap (λ (l : List ℕ). w
 heads-cleared n heads head values from (suc j) hs vl h e =
     ap (λ (l : List ℕ). set l (from + j) 0) (heads-cleared n heads head values from j hs vl (le-of-suc-le h) e)
     ∙ last-head-set n heads (blank j head) values (from + j) j 0
-    (omega (arith, hs, length-append heads head, length-append heads (blank j head), blank-length j head (le-of-suc-le h))) vl
+    (omega
+    (arith, hs, length-append heads head, length-append heads (blank j head), blank-length j head (le-of-suc-le h))) vl
     (omega (arith, blank-length j head (le-of-suc-le h), h)) (omega (arith, e))
     ∙ ap (λ (l : List ℕ). whole n (heads ++ l) values) (blank-more j head h)

@@ -104,7 +104,8 @@ row-cleared : (us : List Value) (j : ℕ) (ys : List ℕ) → j < length us
 unfolding write tagOf numberOf valueWords
 row-cleared us j ys h =
     ap (λ (l : List ℕ). set l (2 * j + 1) 0) (set-append-left (run-of us) ys (2 * j) 0 (omega (arith, run-length us)))
-    ∙ set-append-left (set (run-of us) (2 * j) 0) ys (2 * j + 1) 0 (omega (arith, length-set (run-of us) (2 * j) 0, run-length us, h))
+    ∙ set-append-left (set (run-of us) (2 * j) 0) ys (2 * j + 1) 0
+    (omega (arith, length-set (run-of us) (2 * j) 0, run-length us, h))
     ∙ ap (λ (l : List ℕ). l ++ ys) (run-set us j empty h)
 
 module _ (t : Thing) where
@@ -124,11 +125,13 @@ module _ (t : Thing) where
   partly-at j [] h = absurd (not-suc-le-zero h)
   partly-at (suc j) (v ∷ vs) h = partly-at j vs (le-of-suc-le-suc h)
 
-  partly-more : (j : ℕ) (vs : List Value) → j < length vs → set (partly j vs) j (without (t ∷ []) (getD vs j empty)) ≡ partly (suc j) vs
+  partly-more : (j : ℕ) (vs : List Value) → j < length vs
+      → set (partly j vs) j (without (t ∷ []) (getD vs j empty)) ≡ partly (suc j) vs
   unfolding partly
   partly-more j [] h = absurd (not-suc-le-zero h)
   partly-more zero (v ∷ vs) h = refl
-  partly-more (suc j) (v ∷ vs) h = ap {B = List Value} (λ l. without (t ∷ []) v ∷ l) (partly-more j vs (le-of-suc-le-suc h))
+  partly-more (suc j) (v ∷ vs) h =
+      ap {B = List Value} (λ l. without (t ∷ []) v ∷ l) (partly-more j vs (le-of-suc-le-suc h))
 
   partly-none : (vs : List Value) → vs ≡ partly 0 vs
   unfolding partly
@@ -142,14 +145,16 @@ module _ (t : Thing) where
 
   module _ (xs ys : List ℕ) (front : length xs ≡ 64) where
     -- a value among words, read
-    row-value : (us : List Value) (j : ℕ) → j < length us → valueAt (xs ++ (run-of us ++ ys)) (64 + 2 * j) ≡ valOf (getD us j empty)
+    row-value : (us : List Value) (j : ℕ) → j < length us
+        → valueAt (xs ++ (run-of us ++ ys)) (64 + 2 * j) ≡ valOf (getD us j empty)
     unfolding valueAt valOf tagOf numberOf
     row-value us j h = λ i. record {
       tag = word 0 (64 + 2 * j) (omega arith) (omega arith) i;
       number = word 1 (64 + 2 * j + 1) (omega arith) (omega arith) i;
     }
       where
-        word : (b k : ℕ) → b < 2 → k ≡ 64 + (2 * j + b) → getD (xs ++ (run-of us ++ ys)) k 0 ≡ getD (valueWords (getD us j empty)) b 0
+        word : (b k : ℕ) → b < 2 → k ≡ 64 + (2 * j + b)
+            → getD (xs ++ (run-of us ++ ys)) k 0 ≡ getD (valueWords (getD us j empty)) b 0
         word b k l e =
             ap (λ (n : ℕ). getD (xs ++ (run-of us ++ ys)) n 0) e
             ∙ get-after xs (run-of us ++ ys) 64 (2 * j + b) front
@@ -158,16 +163,19 @@ module _ (t : Thing) where
 
     -- and written
     row-put : (us : List Value) (j : ℕ) → j < length us
-        → putValue (xs ++ (run-of us ++ ys)) (64 + 2 * j) (record { tag = 0; number = 0 }) ≡ xs ++ (run-of (set us j empty) ++ ys)
+        → putValue (xs ++ (run-of us ++ ys)) (64 + 2 * j) (record { tag = 0; number = 0 }) ≡ xs ++
+        (run-of (set us j empty) ++ ys)
     unfolding putValue
     row-put us j h =
         ap (λ (l : List ℕ). set l (64 + 2 * j + 1) 0) (set-after xs (run-of us ++ ys) 64 (2 * j) 0 front)
-        ∙ ap (λ (k : ℕ). set (xs ++ set (run-of us ++ ys) (2 * j) 0) k 0) {x = 64 + 2 * j + 1} {y = 64 + (2 * j + 1)} (omega arith)
+        ∙ ap (λ (k : ℕ). set (xs ++ set (run-of us ++ ys) (2 * j) 0) k 0) {x = 64 + 2 * j + 1} {y = 64 + (2 * j + 1)}
+        (omega arith)
         ∙ set-after xs (set (run-of us ++ ys) (2 * j) 0) 64 (2 * j + 1) 0 front
         ∙ ap (λ (l : List ℕ). xs ++ l) (row-cleared us j ys h)
 
     row-emptied : (us : List Value) (j : ℕ) → j < length us
-        → emptiedOne (xs ++ (run-of us ++ ys)) (valOf (ref t)) (64 + 2 * j) ≡ xs ++ (run-of (set us j (without (t ∷ []) (getD us j empty))) ++ ys)
+        → emptiedOne (xs ++ (run-of us ++ ys)) (valOf (ref t)) (64 + 2 * j) ≡ xs ++
+        (run-of (set us j (without (t ∷ []) (getD us j empty))) ++ ys)
     unfolding emptiedOne without
     row-emptied us j h =
         ap (λ (b : Bool). cond b (putValue (xs ++ (run-of us ++ ys)) (64 + 2 * j) (record { tag = 0; number = 0 })) (xs ++ (run-of us ++ ys)))
@@ -175,13 +183,15 @@ module _ (t : Thing) where
         ∙ chosen (lostWith t (getD us j empty))
       where
         chosen : (b : Bool)
-            → cond b (putValue (xs ++ (run-of us ++ ys)) (64 + 2 * j) (record { tag = 0; number = 0 })) (xs ++ (run-of us ++ ys))
+            → cond b (putValue (xs ++ (run-of us ++ ys)) (64 + 2 * j) (record { tag = 0; number = 0 }))
+            (xs ++ (run-of us ++ ys))
             ≡ xs ++ (run-of (set us j (cond (b || false) empty (getD us j empty))) ++ ys)
         chosen true = row-put us j h
         chosen false = ap (λ (l : List Value). xs ++ (run-of l ++ ys)) (sym (set-getD us j empty))
 
     -- all values of the row
-    row-given : (vs : List Value) (j : ℕ) → j ≤ length vs → emptiedBy (xs ++ (run-of vs ++ ys)) (valOf (ref t)) j ≡ xs ++ (run-of (partly j vs) ++ ys)
+    row-given : (vs : List Value) (j : ℕ) → j ≤ length vs
+        → emptiedBy (xs ++ (run-of vs ++ ys)) (valOf (ref t)) j ≡ xs ++ (run-of (partly j vs) ++ ys)
     unfolding emptiedBy
     row-given vs zero h = ap (λ (l : List Value). xs ++ (run-of l ++ ys)) start
       where
@@ -207,7 +217,14 @@ row-length : (f : Frame) → Sized f → length (frameRow f) ≡ 24
 unfolding frameRow
 row-length f h =
     length-append (f .slots) (reverse (f .pending) ++ replicate (8 - length (f .pending)) empty)
-    ∙ omega (arith, h .width, h .height, length-append (reverse (f .pending)) (replicate (8 - length (f .pending)) empty), length-reverse (f .pending), length-replicate (8 - length (f .pending)) empty)
+    ∙ omega (
+      arith,
+      h .width,
+      h .height,
+      length-append (reverse (f .pending)) (replicate (8 - length (f .pending)) empty),
+      length-reverse (f .pending),
+      length-replicate (8 - length (f .pending)) empty,
+    )
 
 -- a list as long as it is padded to has no padding
 padded-full : (n : ℕ) (ws : List ℕ) → length ws ≡ n → padded n ws ≡ ws
@@ -217,16 +234,20 @@ padded-full n ws e = ap (λ (k : ℕ). ws ++ replicate k 0) {x = n - length ws} 
 run-empty : (m : ℕ) → run-of (replicate m empty) ≡ replicate (2 * m) 0
 unfolding run-of flatten valueWords
 run-empty zero = refl
-run-empty (suc m) = ap {B = List ℕ} (λ l. 0 ∷ 0 ∷ l) (run-empty m) ∙ ap (λ (k : ℕ). replicate {A = ℕ} k 0) {x = suc (suc (2 * m))} {y = 2 * suc m} (omega arith)
+run-empty (suc m) =
+    ap {B = List ℕ} (λ l. 0 ∷ 0 ∷ l) (run-empty m)
+    ∙ ap (λ (k : ℕ). replicate {A = ℕ} k 0) {x = suc (suc (2 * m))} {y = 2 * suc m} (omega arith)
 
 run-none : run-of [] ≡ []
 unfolding run-of flatten
 run-none = refl
 
-pending-padded : (vs : List Value) → length vs ≤ 8 → padded 16 (pending-run vs) ≡ run-of (reverse vs) ++ replicate (2 * (8 - length vs)) 0
+pending-padded : (vs : List Value) → length vs ≤ 8
+    → padded 16 (pending-run vs) ≡ run-of (reverse vs) ++ replicate (2 * (8 - length vs)) 0
 unfolding padded pending-run
 pending-padded vs h =
-    ap (λ (k : ℕ). run-of (reverse vs) ++ replicate k 0) {x = 16 - length (run-of (reverse vs))} {y = 2 * (8 - length vs)}
+    ap (λ (k : ℕ). run-of (reverse vs) ++ replicate k 0) {x = 16 - length (run-of (reverse vs))}
+    {y = 2 * (8 - length vs)}
     (omega (arith, run-length (reverse vs), length-reverse vs))
 
 frame-row : (f : Frame) → Sized f → frameValues f ≡ run-of (frameRow f)
@@ -246,7 +267,8 @@ rowsOf (f ∷ fs) = frameRow f ++ rowsOf fs
 rows-length : (fs : List Frame) → All Sized fs → length (rowsOf fs) ≡ 24 * length fs
 unfolding rowsOf
 rows-length [] a = refl
-rows-length (f ∷ fs) a = length-append (frameRow f) (rowsOf fs) ∙ omega (arith, row-length f (a .0), rows-length fs (a .1))
+rows-length (f ∷ fs) a =
+    length-append (frameRow f) (rowsOf fs) ∙ omega (arith, row-length f (a .0), rows-length fs (a .1))
 
 rows-words : (fs : List Frame) → All Sized fs → flatten (map frameValues fs) ≡ run-of (rowsOf fs)
 unfolding rowsOf flatten
@@ -280,12 +302,14 @@ module _ (t : Thing) where
       ∙ ap (λ (l : List Value). map (without (t ∷ [])) (f .slots) ++ l)
       (map-append (without (t ∷ [])) (reverse (f .pending)) (replicate (8 - length (f .pending)) empty)
       ∙ ap₂ _++_ (map-reverse (without (t ∷ [])) (f .pending))
-      (map-empties (8 - length (f .pending)) ∙ ap (λ (k : ℕ). replicate (8 - k) empty) (sym (length-map (f .pending) (without (t ∷ []))))))
+      (map-empties (8 - length (f .pending)) ∙ ap (λ (k : ℕ). replicate (8 - k) empty)
+      (sym (length-map (f .pending) (without (t ∷ []))))))
 
   rows-without : (fs : List Frame) → map (without (t ∷ [])) (rowsOf fs) ≡ rowsOf (map (frameWithout (t ∷ [])) fs)
   unfolding rowsOf
   rows-without [] = refl
-  rows-without (f ∷ fs) = map-append (without (t ∷ [])) (frameRow f) (rowsOf fs) ∙ ap₂ _++_ (row-without f) (rows-without fs)
+  rows-without (f ∷ fs) =
+      map-append (without (t ∷ [])) (frameRow f) (rowsOf fs) ∙ ap₂ _++_ (row-without f) (rows-without fs)
 
 -- processes
 
@@ -298,13 +322,21 @@ front-length fs h =
     length-append (padded 8 (1 ∷ 0 ∷ length fs ∷ [])) (padded 56 (flatten (map headWords (reverse fs))))
     ∙ ap₂ _+_ (padded-length 8 (1 ∷ 0 ∷ length fs ∷ []) (omega arith))
     (padded-length 56 (flatten (map headWords (reverse fs)))
-    (omega (arith, flatten-length 4 (map headWords (reverse fs)) (head-lengths (reverse fs)), length-map (reverse fs) headWords, length-reverse fs)))
+    (omega (
+      arith,
+      flatten-length 4 (map headWords (reverse fs)) (head-lengths (reverse fs)),
+      length-map (reverse fs)
+          headWords,
+      length-reverse fs,
+    )))
 
 words-rows : (fs : List Frame) → All Sized fs
-    → processWords (runs fs) ≡ frontOf fs ++ (run-of (rowsOf (reverse fs)) ++ replicate (448 - length (run-of (rowsOf (reverse fs)))) 0)
+    → processWords (runs fs) ≡ frontOf fs ++
+    (run-of (rowsOf (reverse fs)) ++ replicate (448 - length (run-of (rowsOf (reverse fs)))) 0)
 unfolding processWords statusWords padded
 words-rows fs a =
-    ap (λ (l : List ℕ). frontOf fs ++ (l ++ replicate (448 - length l) 0)) (rows-words (reverse fs) (All-reverse Sized fs a))
+    ap (λ (l : List ℕ). frontOf fs ++ (l ++ replicate (448 - length l) 0))
+    (rows-words (reverse fs) (All-reverse Sized fs a))
 
 module _ (t : Thing) where
   sized-without : (fs : List Frame) → All Sized fs → All Sized (framesWithout (t ∷ []) fs)
@@ -322,27 +354,33 @@ module _ (t : Thing) where
   unfolding frameWithout headWords
   heads-without [] = refl
   heads-without (f ∷ fs) =
-      ap₂ {C = List (List ℕ)} (λ n l. (f .method ∷ f .place ∷ n ∷ 0 ∷ []) ∷ l) (length-map (f .pending) (without (t ∷ []))) (heads-without fs)
+      ap₂ {C = List (List ℕ)} (λ n l. (f .method ∷ f .place ∷ n ∷ 0 ∷ []) ∷ l)
+      (length-map (f .pending) (without (t ∷ []))) (heads-without fs)
 
   front-without : (fs : List Frame) → frontOf (framesWithout (t ∷ []) fs) ≡ frontOf fs
   unfolding framesWithout
   front-without fs =
-      ap₂ (λ (n : ℕ) (l : List (List ℕ)). padded 8 (1 ∷ 0 ∷ n ∷ []) ++ padded 56 (flatten l)) (length-map fs (frameWithout (t ∷ [])))
+      ap₂ (λ (n : ℕ) (l : List (List ℕ)). padded 8 (1 ∷ 0 ∷ n ∷ []) ++ padded 56 (flatten l))
+      (length-map fs (frameWithout (t ∷ [])))
       (ap (map headWords) (sym (map-reverse (frameWithout (t ∷ [])) fs)) ∙ heads-without (reverse fs))
 
-  rows-given : (fs : List Frame) → map (without (t ∷ [])) (rowsOf (reverse fs)) ≡ rowsOf (reverse (framesWithout (t ∷ []) fs))
+  rows-given : (fs : List Frame)
+      → map (without (t ∷ [])) (rowsOf (reverse fs)) ≡ rowsOf (reverse (framesWithout (t ∷ []) fs))
   unfolding framesWithout
   rows-given fs = rows-without t (reverse fs) ∙ ap rowsOf (map-reverse (frameWithout (t ∷ [])) fs)
 
   -- a process's words once t is given away
   pub given-words : (fs : List Frame) → All Sized fs → length fs ≤ 8
-      → emptiedBy (processWords (runs fs)) (valOf (ref t)) (24 * length fs) ≡ processWords (runs (framesWithout (t ∷ []) fs))
+      → emptiedBy (processWords (runs fs)) (valOf (ref t)) (24 * length fs) ≡ processWords
+      (runs (framesWithout (t ∷ []) fs))
   given-words fs a h =
       ap (λ (w : List ℕ). emptiedBy w (valOf (ref t)) (24 * length fs)) (words-rows fs a)
       ∙ row-given t (frontOf fs) zeros (front-length fs h) rows (24 * length fs) (omega (arith, count))
       ∙ ap (λ (k : ℕ). frontOf fs ++ (run-of (partly t k rows) ++ zeros)) (sym count)
       ∙ ap (λ (l : List Value). frontOf fs ++ (run-of l ++ zeros)) (partly-all t rows ∙ rows-given fs)
-      ∙ ap₂ (λ (x : List ℕ) (k : ℕ). x ++ (run-of (rowsOf (reverse (framesWithout (t ∷ []) fs))) ++ replicate (448 - k) 0)) (sym (front-without fs)) same-long
+      ∙ ap₂
+      (λ (x : List ℕ) (k : ℕ). x ++ (run-of (rowsOf (reverse (framesWithout (t ∷ []) fs))) ++ replicate (448 - k) 0))
+      (sym (front-without fs)) same-long
       ∙ sym (words-rows (framesWithout (t ∷ []) fs) (sized-without fs a))
     where
       rows : List Value

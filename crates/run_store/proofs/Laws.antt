@@ -25,23 +25,31 @@ value-beyond w i h = λ k. record {
 pub put-beyond : (w : List ℕ) (i : ℕ) (v : Val) → length w ≤ i → w ≡ putValue w i v
 unfolding putValue
 put-beyond w i v h =
-    sym (ap (λ (l : List ℕ). set l (i + 1) (v .number)) (set-out w i (v .tag) h) ∙ set-out w (i + 1) (v .number) (omega arith))
+    sym
+    (ap (λ (l : List ℕ). set l (i + 1) (v .number)) (set-out w i (v .tag) h)
+    ∙ set-out w (i + 1) (v .number) (omega arith))
 
 -- values looked through
 
-pub empty-more : (w : List ℕ) (top j : ℕ) {at x : ℕ} → emptyDown w top j ≡ false → at ≡ top - 2 * j → x ≡ getD w at 0 → (x ≡ 0 → ⊥)
+pub empty-more : (w : List ℕ) (top j : ℕ) {at x : ℕ} → emptyDown w top j ≡ false → at ≡ top - 2 * j → x ≡ getD w at 0
+    → (x ≡ 0 → ⊥)
     → emptyDown w top (j + 1) ≡ false
 unfolding emptyDown
 empty-more w top j e p q n =
     ap (emptyDown w top) (add-one j)
     ∙ ap₂ _||_ e (ne-eqb (getD w (top - 2 * j) 0) 0 (λ z. n (q ∙ ap (λ (i : ℕ). getD w i 0) p ∙ z)))
 
-pub empty-found : (w : List ℕ) (top n j : ℕ) {at x : ℕ} → j < n → at ≡ top - 2 * j → x ≡ getD w at 0 → x ≡ 0 → true ≡ emptyDown w top n
+pub empty-found : (w : List ℕ) (top n j : ℕ) {at x : ℕ} → j < n → at ≡ top - 2 * j → x ≡ getD w at 0 → x ≡ 0
+    → true ≡ emptyDown w top n
 unfolding emptyDown
 empty-found w top zero j h p q z = absurd (not-suc-le-zero h)
 empty-found w top (suc n) j h p q z =
     ⊎-elim
-    (λ e. sym (ap (λ (b : Bool). emptyDown w top n || b) (eq-eqb (getD w (top - 2 * n) 0) 0 (ap (λ (i : ℕ). getD w (top - 2 * i) 0) (sym e) ∙ sym (q ∙ ap (λ (i : ℕ). getD w i 0) p) ∙ z)) ∙ or-true (emptyDown w top n)))
+    (λ e. sym
+    (ap (λ (b : Bool). emptyDown w top n || b)
+    (eq-eqb (getD w (top - 2 * n) 0) 0
+    (ap (λ (i : ℕ). getD w (top - 2 * i) 0) (sym e) ∙ sym (q ∙ ap (λ (i : ℕ). getD w i 0) p) ∙ z))
+    ∙ or-true (emptyDown w top n)))
     (λ l. ap (λ (b : Bool). b || eqb (getD w (top - 2 * n) 0) 0) (empty-found w top n j l p q z))
     (eq-or-lt-of-le (le-of-suc-le-suc h))
   where
@@ -51,7 +59,8 @@ empty-found w top (suc n) j h p q z =
 
 -- values moved
 
-pub moved-more : (w : List ℕ) (top to n j : ℕ) {u u′ : List ℕ} {from : ℕ} → j < n → u ≡ movedDown w top to n j → from ≡ top - 2 * j
+pub moved-more : (w : List ℕ) (top to n j : ℕ) {u u′ : List ℕ} {from : ℕ} → j < n → u ≡ movedDown w top to n j
+    → from ≡ top - 2 * j
     → u′ ≡ moveOne u from (to + 2 * (n - 1 - j)) → u′ ≡ movedDown w top to n (j + 1)
 unfolding movedDown
 moved-more w top to n j h e p q =
@@ -65,7 +74,8 @@ moved-more w top to n j h e p q =
 
 -- words cleared
 
-pub cleared-more : (w : List ℕ) (from i : ℕ) {u u′ : List ℕ} → u ≡ clearedFrom w from i → u′ ≡ set u (from + i) 0 → u′ ≡ clearedFrom w from (i + 1)
+pub cleared-more : (w : List ℕ) (from i : ℕ) {u u′ : List ℕ} → u ≡ clearedFrom w from i → u′ ≡ set u (from + i) 0
+    → u′ ≡ clearedFrom w from (i + 1)
 unfolding clearedFrom
 cleared-more w from i e q = q ∙ ap (λ (l : List ℕ). set l (from + i) 0) e ∙ sym (ap (clearedFrom w from) (add-one i))
 
@@ -94,9 +104,11 @@ or-none false = refl
 
 -- the numbers count only where the tags meet
 
-pub lost-by-number : (t v : Val) {b : Bool} → b ≡ tagsMeet (t .tag) (v .tag) → b ≡ true → eqb (v .number) (t .number) ≡ lostVal t v
+pub lost-by-number : (t v : Val) {b : Bool} → b ≡ tagsMeet (t .tag) (v .tag) → b ≡ true
+    → eqb (v .number) (t .number) ≡ lostVal t v
 unfolding lostVal
-lost-by-number t v e h = both (eqb (v .number) (t .number)) ∙ ap (λ (x : Bool). eqb (v .number) (t .number) && x) (sym h ∙ e)
+lost-by-number t v e h =
+    both (eqb (v .number) (t .number)) ∙ ap (λ (x : Bool). eqb (v .number) (t .number) && x) (sym h ∙ e)
   where
     both : (x : Bool) → x ≡ (x && true)
     both true = refl
@@ -104,18 +116,21 @@ lost-by-number t v e h = both (eqb (v .number) (t .number)) ∙ ap (λ (x : Bool
 
 pub lost-by-tag : (t v : Val) {b : Bool} → b ≡ tagsMeet (t .tag) (v .tag) → b ≡ false → false ≡ lostVal t v
 unfolding lostVal
-lost-by-tag t v e h = neither (eqb (v .number) (t .number)) ∙ ap (λ (x : Bool). eqb (v .number) (t .number) && x) (sym h ∙ e)
+lost-by-tag t v e h =
+    neither (eqb (v .number) (t .number)) ∙ ap (λ (x : Bool). eqb (v .number) (t .number) && x) (sym h ∙ e)
   where
     neither : (x : Bool) → false ≡ (x && false)
     neither true = refl
     neither false = refl
 
-pub one-emptied : (w : List ℕ) (t : Val) (i : ℕ) {v u : Val} {b : Bool} {w′ : List ℕ} → v ≡ valueAt w i → b ≡ lostVal t v → b ≡ true
+pub one-emptied : (w : List ℕ) (t : Val) (i : ℕ) {v u : Val} {b : Bool} {w′ : List ℕ} → v ≡ valueAt w i
+    → b ≡ lostVal t v → b ≡ true
     → u ≡ record { tag = 0; number = 0 } → w′ ≡ putValue w i u → w′ ≡ emptiedOne w t i
 unfolding emptiedOne
 one-emptied w t i e l p q r = r ∙ ap (putValue w i) q ∙ sym (ap (λ (b : Bool). cond b (putValue w i (record { tag = 0; number = 0 })) w) (ap (lostVal t) (sym e) ∙ sym l ∙ p))
 
-pub one-kept : (w : List ℕ) (t : Val) (i : ℕ) {v : Val} {b : Bool} → v ≡ valueAt w i → b ≡ lostVal t v → b ≡ false → w ≡ emptiedOne w t i
+pub one-kept : (w : List ℕ) (t : Val) (i : ℕ) {v : Val} {b : Bool} → v ≡ valueAt w i → b ≡ lostVal t v → b ≡ false
+    → w ≡ emptiedOne w t i
 unfolding emptiedOne
 one-kept w t i e l p = sym (ap (λ (b : Bool). cond b (putValue w i (record { tag = 0; number = 0 })) w) (ap (lostVal t) (sym e) ∙ sym l ∙ p))
 
@@ -131,7 +146,8 @@ tags-qubit b = go (eqb 3 b) (eqb b 4)
     go false false = refl
 
 module _ (w : List ℕ) (q i : ℕ) where
-  pub qubit-emptied : getD w i 0 ≡ 3 → getD w (i + 1) 0 ≡ q → set (set w i 0) (i + 1) 0 ≡ emptiedOne w (record { tag = 3; number = q }) i
+  pub qubit-emptied : getD w i 0 ≡ 3 → getD w (i + 1) 0 ≡ q
+      → set (set w i 0) (i + 1) 0 ≡ emptiedOne w (record { tag = 3; number = q }) i
   unfolding emptiedOne lostVal valueAt putValue
   qubit-emptied e f = rw (tags-qubit (getD w i 0), eq-eqb 3 (getD w i 0) (sym e), eq-eqb (getD w (i + 1) 0) q f) refl
 
@@ -143,23 +159,28 @@ module _ (w : List ℕ) (q i : ℕ) where
   unfolding emptiedOne lostVal valueAt
   other-number n = rw (ne-eqb (getD w (i + 1) 0) q n) refl
 
-pub emptied-more : (w : List ℕ) (t : Val) (j : ℕ) {u u′ : List ℕ} → u ≡ emptiedBy w t j → u′ ≡ emptiedOne u t (64 + 2 * j) → u′ ≡ emptiedBy w t (j + 1)
+pub emptied-more : (w : List ℕ) (t : Val) (j : ℕ) {u u′ : List ℕ} → u ≡ emptiedBy w t j
+    → u′ ≡ emptiedOne u t (64 + 2 * j) → u′ ≡ emptiedBy w t (j + 1)
 unfolding emptiedBy
 emptied-more w t j e q = q ∙ ap (λ (l : List ℕ). emptiedOne l t (64 + 2 * j)) e ∙ sym (ap (emptiedBy w t) (add-one j))
 
 -- eight values at a time
 
-pub eight-emptied : (w : List ℕ) (t : Val) (i : ℕ) {u₁ u₂ u₃ u₄ u₅ u₆ u₇ u₈ : List ℕ} → u₁ ≡ emptiedOne w t i → u₂ ≡ emptiedOne u₁ t (i + 2)
-    → u₃ ≡ emptiedOne u₂ t (i + 4) → u₄ ≡ emptiedOne u₃ t (i + 6) → u₅ ≡ emptiedOne u₄ t (i + 8) → u₆ ≡ emptiedOne u₅ t (i + 10)
+pub eight-emptied : (w : List ℕ) (t : Val) (i : ℕ) {u₁ u₂ u₃ u₄ u₅ u₆ u₇ u₈ : List ℕ} → u₁ ≡ emptiedOne w t i
+    → u₂ ≡ emptiedOne u₁ t (i + 2)
+    → u₃ ≡ emptiedOne u₂ t (i + 4) → u₄ ≡ emptiedOne u₃ t (i + 6) → u₅ ≡ emptiedOne u₄ t (i + 8)
+    → u₆ ≡ emptiedOne u₅ t (i + 10)
     → u₇ ≡ emptiedOne u₆ t (i + 12) → u₈ ≡ emptiedOne u₇ t (i + 14) → u₈ ≡ emptiedEight w t i
 unfolding emptiedEight
 eight-emptied w t i e₁ e₂ e₃ e₄ e₅ e₆ e₇ e₈ =
-    then (i + 14) e₈ (then (i + 12) e₇ (then (i + 10) e₆ (then (i + 8) e₅ (then (i + 6) e₄ (then (i + 4) e₃ (then (i + 2) e₂ e₁))))))
+    then (i + 14) e₈
+    (then (i + 12) e₇ (then (i + 10) e₆ (then (i + 8) e₅ (then (i + 6) e₄ (then (i + 4) e₃ (then (i + 2) e₂ e₁))))))
   where
     then : {u u′ v : List ℕ} (k : ℕ) → u′ ≡ emptiedOne u t k → u ≡ v → u′ ≡ emptiedOne v t k
     then k q e = q ∙ ap (λ (l : List ℕ). emptiedOne l t k) e
 
-pub emptied-eight : (w : List ℕ) (t : Val) (j : ℕ) {u u′ : List ℕ} → u ≡ emptiedBy w t (8 * j) → u′ ≡ emptiedEight u t (64 + 16 * j)
+pub emptied-eight : (w : List ℕ) (t : Val) (j : ℕ) {u u′ : List ℕ} → u ≡ emptiedBy w t (8 * j)
+    → u′ ≡ emptiedEight u t (64 + 16 * j)
     → u′ ≡ emptiedBy w t (8 * (j + 1))
 unfolding emptiedEight emptiedBy
 emptied-eight w t j e q =
@@ -179,12 +200,16 @@ emptied-eight w t j e q =
     next : (n i : ℕ) {u : List ℕ} → i ≡ 64 + 2 * n → u ≡ emptiedBy w t n → emptiedOne u t i ≡ emptiedBy w t (suc n)
     next n i p e = ap₂ (λ (l : List ℕ) (k : ℕ). emptiedOne l t k) e p
 
--- the place and the number of pending values written twice, with a value put after them between: the first time is not seen
+-- the place and the number of pending values written twice, with a value put after them between: the first time is not
+-- seen
 pub top-twice : (w : List ℕ) (h h′ : Head) (i : ℕ) (v : Val) → h .frames ≡ h′ .frames → headAt (h′ .frames) + 2 < i
     → putTop (putValue (putTop w h) i v) h′ ≡ putTop (putValue w i v) h′
 unfolding putTop putValue
 top-twice w h h′ i v e b =
-    ap (λ (n : ℕ). write (set (set (set (set w (headAt n + 1) (h .place)) (headAt n + 2) (h .pending)) i (v .tag)) (i + 1) (v .number)) (h′ .place) (h′ .pending)) e
+    ap
+    (λ (n : ℕ). write
+    (set (set (set (set w (headAt n + 1) (h .place)) (headAt n + 2) (h .pending)) i (v .tag)) (i + 1) (v .number))
+    (h′ .place) (h′ .pending)) e
     ∙ ap (λ (l : List ℕ). write l (h′ .place) (h′ .pending))
     (ap (λ (l : List ℕ). set l (i + 1) (v .number)) (past w (h .place) (h .pending) i (v .tag) (omega arith))
     ∙ past (set w i (v .tag)) (h .place) (h .pending) (i + 1) (v .number) (omega arith))
@@ -203,5 +228,7 @@ top-twice w h h′ i v e b =
 
     again : (l : List ℕ) (x y x′ y′ : ℕ) → write (write l x y) x′ y′ ≡ write l x′ y′
     again l x y x′ y′ =
-        ap (λ (m : List ℕ). set m (a + 2) y′) (set-comm (set l (a + 1) x) (a + 2) (a + 1) y x′ (omega arith) ∙ ap (λ (m : List ℕ). set m (a + 2) y) (set-set l (a + 1) x x′))
+        ap (λ (m : List ℕ). set m (a + 2) y′)
+        (set-comm (set l (a + 1) x) (a + 2) (a + 1) y x′ (omega arith)
+        ∙ ap (λ (m : List ℕ). set m (a + 2) y) (set-set l (a + 1) x x′))
         ∙ set-set (set l (a + 1) x′) (a + 2) y y′

@@ -82,8 +82,8 @@ fn lose_eight(w: &mut [u32], number: u32, i: usize)
     lose_qubit(w, number, i + 14);
 }
 
-// `give_away` for a qubit, where the first 8 n values are within the part: a value is a qubit only by its tag, so that most
-// values cost one look.
+// `give_away` for a qubit, where the first 8 n values are within the part: a value is a qubit only by its tag, so that
+// most values cost one look.
 pub fn give_qubit(w: &mut [u32], number: u32, n: u16)
     requires { ⌜ 64 + 16 * n ≤ length (now w) ⌝ }
     ensures { λ r. ⌜ now (w .exit) ≡ emptiedBy (now (w .entry)) (record { tag = 3; number = number }) (8 * n) ⌝ }

@@ -1,5 +1,5 @@
-// Numbers of things and of processes. "As in document 000, a reference says which it is: quantum, channel or channel end,
-// and one never stands for another."
+// Numbers of things and of processes. "As in document 000, a reference says which it is: quantum, channel or channel
+// end, and one never stands for another."
 pub struct QubitNo(pub u16);
 
 pub struct ChannelNo(pub u16);

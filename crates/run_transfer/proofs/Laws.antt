@@ -14,13 +14,15 @@ use Rattle.run_transfer.specs.TransferCode.{operandOf, argHanded, argsHa
 use Rattle.run_transfer.specs.ForkLinesCode.{Gifts, gifts, thingsIn, giftLine, giftAdded, giftsAdded, forkLine, forkWritten}
 use Rattle.run_transfer.specs.MeetingLinesCode.{metLine, passedLine, valueLine, metWritten}
 
-pub handed-more : (work : List ℕ) (n child args j : ℕ) {u u′ : List ℕ} → u ≡ argsHanded work n child args j → u′ ≡ argHanded u n child args j
+pub handed-more : (work : List ℕ) (n child args j : ℕ) {u u′ : List ℕ} → u ≡ argsHanded work n child args j
+    → u′ ≡ argHanded u n child args j
     → u′ ≡ argsHanded work n child args (j + 1)
 unfolding argsHanded
 handed-more work n child args j e q =
     q ∙ ap (λ (l : List ℕ). argHanded l n child args j) e ∙ sym (ap (argsHanded work n child args) (add-one j))
 
-pub given-more : (work : List ℕ) (n child j : ℕ) {u u′ : List ℕ} → u ≡ argsGiven work n child j → u′ ≡ argGiven u n child j
+pub given-more : (work : List ℕ) (n child j : ℕ) {u u′ : List ℕ} → u ≡ argsGiven work n child j
+    → u′ ≡ argGiven u n child j
     → u′ ≡ argsGiven work n child (j + 1)
 unfolding argsGiven
 given-more work n child j e q =
@@ -28,20 +30,26 @@ given-more work n child j e q =
 
 -- an operand that is a thing is counted, another is not
 
-pub thing-more : (work : List ℕ) (n args j : ℕ) {k : ℕ} {v : Val} → k ≡ thingsIn work n args j → v ≡ operandOf work n (args - j) → 3 ≤ v .tag
+pub thing-more : (work : List ℕ) (n args j : ℕ) {k : ℕ} {v : Val} → k ≡ thingsIn work n args j
+    → v ≡ operandOf work n (args - j) → 3 ≤ v .tag
     → k + 1 ≡ thingsIn work n args (j + 1)
 unfolding thingsIn
 thing-more work n args j {k} {v} e q h =
     ap (λ (i : ℕ). i + 1) e
-    ∙ sym (ap (λ (b : Bool). cond b (thingsIn work n args j + 1) (thingsIn work n args j)) (ap (λ (u : Val). leb 3 (u .tag)) (sym q) ∙ le-leb 3 (v .tag) h))
+    ∙ sym
+    (ap (λ (b : Bool). cond b (thingsIn work n args j + 1) (thingsIn work n args j))
+    (ap (λ (u : Val). leb 3 (u .tag)) (sym q) ∙ le-leb 3 (v .tag) h))
     ∙ sym (ap (thingsIn work n args) (add-one j))
 
-pub thing-passed : (work : List ℕ) (n args j : ℕ) {k : ℕ} {v : Val} → k ≡ thingsIn work n args j → v ≡ operandOf work n (args - j) → v .tag < 3
+pub thing-passed : (work : List ℕ) (n args j : ℕ) {k : ℕ} {v : Val} → k ≡ thingsIn work n args j
+    → v ≡ operandOf work n (args - j) → v .tag < 3
     → k ≡ thingsIn work n args (j + 1)
 unfolding thingsIn
 thing-passed work n args j {k} {v} e q h =
     e
-    ∙ sym (ap (λ (b : Bool). cond b (thingsIn work n args j + 1) (thingsIn work n args j)) (ap (λ (u : Val). leb 3 (u .tag)) (sym q) ∙ lt-leb 3 (v .tag) h))
+    ∙ sym
+    (ap (λ (b : Bool). cond b (thingsIn work n args j + 1) (thingsIn work n args j))
+    (ap (λ (u : Val). leb 3 (u .tag)) (sym q) ∙ lt-leb 3 (v .tag) h))
     ∙ sym (ap (thingsIn work n args) (add-one j))
 
 module _ (t : List ℕ) (line entry from to : ℕ) (v : Val) where
@@ -55,8 +63,10 @@ module _ (t : List ℕ) (line entry from to : ℕ) (v : Val) where
   unfolding giftAdded
   gift-passed h = took _ _ _ refl (lt-ltb (v .tag) 3 h) refl
 
-pub gift-more : (g : Gifts) (work : List ℕ) (entry from to args j : ℕ) {h h′ : Gifts} {v : Val} → h ≡ giftsAdded g work entry from to args j
-    → v ≡ operandOf work from (args - j) → h′ ≡ giftAdded h entry from to v → h′ ≡ giftsAdded g work entry from to args (j + 1)
+pub gift-more : (g : Gifts) (work : List ℕ) (entry from to args j : ℕ) {h h′ : Gifts} {v : Val}
+    → h ≡ giftsAdded g work entry from to args j
+    → v ≡ operandOf work from (args - j) → h′ ≡ giftAdded h entry from to v
+    → h′ ≡ giftsAdded g work entry from to args (j + 1)
 unfolding giftsAdded
 gift-more g work entry from to args j e q r =
     r

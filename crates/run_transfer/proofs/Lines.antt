@@ -41,28 +41,36 @@ module _ (c : Config) (fewQ : c .qubits ≤ 32) (fewC : c .channels ≤ 16) wher
 
   -- one thing's line after the lines ls
   one-gift : (t : Thing) (ls : List Line) (t0 : List ℕ) (k n to : ℕ) → Made c t → 6 * (length ls + 1) ≤ length t0
-      → withLine (traceAfter ls t0) (length ls) (record { entry = k; process = n; kind = 6; a = to; b = thingKind t; c = thingNo t % 65536 })
+      → withLine (traceAfter ls t0) (length ls)
+      (record { entry = k; process = n; kind = 6; a = to; b = thingKind t; c = thingNo t % 65536 })
       ≡ traceAfter (ls ++ (lineOf k n (gave to t) ∷ [])) t0
   one-gift t ls t0 k n to h room =
       ap (λ (i : ℕ). withLine (traceAfter ls t0) (length ls) (record { entry = k; process = n; kind = 6; a = to; b = thingKind t; c = i })) (small t h)
       ∙ line-written ls t0 (lineOf k n (gave to t)) (omega arith)
 
   -- one value's lines
-  pub gift-added : (v : Value) (ls : List Line) (t0 : List ℕ) (k n to : ℕ) → ValueSound c v → 6 * (length ls + length (thingsOf (v ∷ []))) ≤ length t0
+  pub gift-added : (v : Value) (ls : List Line) (t0 : List ℕ) (k n to : ℕ) → ValueSound c v
+      → 6 * (length ls + length (thingsOf (v ∷ []))) ≤ length t0
       → giftAdded (gifts (length ls) (traceAfter ls t0)) k n to (valOf v)
       ≡ gifts (length (ls ++ giftLines k n to (v ∷ []))) (traceAfter (ls ++ giftLines k n to (v ∷ [])) t0)
   unfolding giftAdded valOf tagOf numberOf valueWords thingsOf thingKind thingNo
-  gift-added empty ls t0 k n to h room = sym (ap (λ (l : List Line). gifts (length l) (traceAfter l t0)) (append-nil ls))
-  gift-added (int z) ls t0 k n to h room = sym (ap (λ (l : List Line). gifts (length l) (traceAfter l t0)) (append-nil ls))
-  gift-added (bool b) ls t0 k n to h room = sym (ap (λ (l : List Line). gifts (length l) (traceAfter l t0)) (append-nil ls))
+  gift-added empty ls t0 k n to h room =
+      sym (ap (λ (l : List Line). gifts (length l) (traceAfter l t0)) (append-nil ls))
+  gift-added (int z) ls t0 k n to h room =
+      sym (ap (λ (l : List Line). gifts (length l) (traceAfter l t0)) (append-nil ls))
+  gift-added (bool b) ls t0 k n to h room =
+      sym (ap (λ (l : List Line). gifts (length l) (traceAfter l t0)) (append-nil ls))
   gift-added (ref (qubit i)) ls t0 k n to h room =
       ap₂ gifts (sym (length-append ls (lineOf k n (gave to (qubit i)) ∷ []))) (one-gift (qubit i) ls t0 k n to h room)
   gift-added (ref (channel i)) ls t0 k n to h room =
-      ap₂ gifts (sym (length-append ls (lineOf k n (gave to (channel i)) ∷ []))) (one-gift (channel i) ls t0 k n to h room)
+      ap₂ gifts (sym (length-append ls (lineOf k n (gave to (channel i)) ∷ [])))
+      (one-gift (channel i) ls t0 k n to h room)
   gift-added (ref (end i true)) ls t0 k n to h room =
-      ap₂ gifts (sym (length-append ls (lineOf k n (gave to (end i true)) ∷ []))) (one-gift (end i true) ls t0 k n to h room)
+      ap₂ gifts (sym (length-append ls (lineOf k n (gave to (end i true)) ∷ [])))
+      (one-gift (end i true) ls t0 k n to h room)
   gift-added (ref (end i false)) ls t0 k n to h room =
-      ap₂ gifts (sym (length-append ls (lineOf k n (gave to (end i false)) ∷ []))) (one-gift (end i false) ls t0 k n to h room)
+      ap₂ gifts (sym (length-append ls (lineOf k n (gave to (end i false)) ∷ [])))
+      (one-gift (end i false) ls t0 k n to h room)
 
 -- a value counts if it is a thing
 thing-counts : (v : Value) (x : ℕ) → cond (leb 3 (valOf v .tag)) (x + 1) x ≡ x + length (thingsOf (v ∷ []))
@@ -79,7 +87,8 @@ map-append : {A B : Type 0} (g : A → B) (xs ys : List A) → map g (xs ++ ys) 
 map-append g [] ys = refl
 map-append {B = B} g (x ∷ xs) ys = ap {B = List B} (λ l. g x ∷ l) (map-append g xs ys)
 
-gifts-more : (k n to : ℕ) (vs : List Value) (v : Value) → giftLines k n to (vs ++ (v ∷ [])) ≡ giftLines k n to vs ++ giftLines k n to (v ∷ [])
+gifts-more : (k n to : ℕ) (vs : List Value) (v : Value)
+    → giftLines k n to (vs ++ (v ∷ [])) ≡ giftLines k n to vs ++ giftLines k n to (v ∷ [])
 gifts-more k n to vs v =
     ap (λ (ts : List Thing). map (lineOf k n) (map (gave to) ts)) (things-more vs v)
     ∙ ap (map (lineOf k n)) (map-append (gave to) (thingsOf vs) (thingsOf (v ∷ [])))
@@ -89,7 +98,8 @@ gifts-count : (k n to : ℕ) (vs : List Value) → length (giftLines k n to vs) 
 gifts-count k n to vs = length-map (map (gave to) (thingsOf vs)) (lineOf k n) ∙ length-map (thingsOf vs) (gave to)
 
 -- the arguments of the process at work
-module _ {p : List ℕ} {c : Config} (laid : Laid c) (rest : List ℕ) {n : ℕ} {f : Frame} {fs : List Frame} (live : Running p c n f fs)
+module _ {p : List ℕ} {c : Config} (laid : Laid c) (rest : List ℕ) {n : ℕ} {f : Frame} {fs : List Frame}
+    (live : Running p c n f fs)
     (fewQ : c .qubits ≤ 32) (fewC : c .channels ≤ 16) (args : ℕ) (enough : args ≤ length (f .pending)) where
   abbrev given : List Value
   given = reverse (take args (f .pending))
@@ -100,13 +110,17 @@ module _ {p : List ℕ} {c : Config} (laid : Laid c) (rest : List ℕ) {n : ℕ}
   given-sound : (j : ℕ) → ValueSound c (getD given j empty)
   given-sound j =
       All-getD (ValueSound c) given j empty
-      (All-reverse (ValueSound c) (take args (f .pending)) (All-take (ValueSound c) args (f .pending) (live .busy .stack .sound .0 .pending))) tt
+      (All-reverse (ValueSound c) (take args (f .pending))
+      (All-take (ValueSound c) args (f .pending) (live .busy .stack .sound .0 .pending))) tt
 
   read : (j : ℕ) → j < args → operandOf (encode c ++ rest) n (args - j) ≡ valOf (getD given j empty)
   read j h = operand-at (live .busy .stack) c laid rest n (live .made) (live .stands) args j h enough
 
-  things-next : (j : ℕ) → j < args → thingsOf (take (suc j) given) ≡ thingsOf (take j given) ++ thingsOf (getD given j empty ∷ [])
-  things-next j h = ap thingsOf (take-suc given j empty (omega (arith, given-count))) ∙ things-more (take j given) (getD given j empty)
+  things-next : (j : ℕ) → j < args
+      → thingsOf (take (suc j) given) ≡ thingsOf (take j given) ++ thingsOf (getD given j empty ∷ [])
+  things-next j h =
+      ap thingsOf (take-suc given j empty (omega (arith, given-count)))
+      ∙ things-more (take j given) (getD given j empty)
 
   pub things-counted : (j : ℕ) → j ≤ args → thingsIn (encode c ++ rest) n args j ≡ length (thingsOf (take j given))
   unfolding thingsIn thingsOf
@@ -121,7 +135,9 @@ module _ {p : List ℕ} {c : Config} (laid : Laid c) (rest : List ℕ) {n : ℕ}
   things-fewer j h = go (args - j) j (omega arith)
     where
       go : (d j : ℕ) → j + d ≡ args → length (thingsOf (take j given)) ≤ length (thingsOf (take args given))
-      go zero j e = subst (λ (i : ℕ). length (thingsOf (take i given)) ≤ length (thingsOf (take args given))) {x = args} {y = j} (omega (arith, e)) (omega arith)
+      go zero j e =
+          subst (λ (i : ℕ). length (thingsOf (take i given)) ≤ length (thingsOf (take args given))) {x = args} {y = j}
+          (omega (arith, e)) (omega arith)
       go (suc d) j e =
           omega (
             arith,
@@ -130,17 +146,21 @@ module _ {p : List ℕ} {c : Config} (laid : Laid c) (rest : List ℕ) {n : ℕ}
             length-append (thingsOf (take j given)) (thingsOf (getD given j empty ∷ [])),
           )
 
-  pub gifts-written : (ls : List Line) (t0 : List ℕ) (k to j : ℕ) → j ≤ args → 6 * (length ls + length (thingsOf (take args given))) ≤ length t0
+  pub gifts-written : (ls : List Line) (t0 : List ℕ) (k to j : ℕ) → j ≤ args
+      → 6 * (length ls + length (thingsOf (take args given))) ≤ length t0
       → giftsAdded (gifts (length ls) (traceAfter ls t0)) (encode c ++ rest) k n to args j
       ≡ gifts (length (ls ++ giftLines k n to (take j given))) (traceAfter (ls ++ giftLines k n to (take j given)) t0)
   unfolding giftsAdded thingsOf
-  gifts-written ls t0 k to zero h room = sym (ap (λ (l : List Line). gifts (length l) (traceAfter l t0)) (append-nil ls))
+  gifts-written ls t0 k to zero h room =
+      sym (ap (λ (l : List Line). gifts (length l) (traceAfter l t0)) (append-nil ls))
   gifts-written ls t0 k to (suc j) h room =
       ap₂ (λ (g : Gifts) (v : Val). giftAdded g k n to v) (gifts-written ls t0 k to j (omega arith) room) (read j h)
-      ∙ gift-added c fewQ fewC (getD given j empty) (ls ++ giftLines k n to (take j given)) t0 k n to (given-sound j) fits
+      ∙ gift-added c fewQ fewC (getD given j empty) (ls ++ giftLines k n to (take j given)) t0 k n to (given-sound j)
+      fits
       ∙ ap (λ (l : List Line). gifts (length l) (traceAfter l t0)) same
     where
-      fits : 6 * (length (ls ++ giftLines k n to (take j given)) + length (thingsOf (getD given j empty ∷ []))) ≤ length t0
+      fits :
+          6 * (length (ls ++ giftLines k n to (take j given)) + length (thingsOf (getD given j empty ∷ []))) ≤ length t0
       fits =
           omega (
             arith,
@@ -152,7 +172,9 @@ module _ {p : List ℕ} {c : Config} (laid : Laid c) (rest : List ℕ) {n : ℕ}
             things-fewer (suc j) h,
           )
 
-      same : (ls ++ giftLines k n to (take j given)) ++ giftLines k n to (getD given j empty ∷ []) ≡ ls ++ giftLines k n to (take (suc j) given)
+      same :
+          (ls ++ giftLines k n to (take j given)) ++ giftLines k n to (getD given j empty ∷ []) ≡ ls ++ giftLines k n to
+          (take (suc j) given)
       same =
           append-assoc ls (giftLines k n to (take j given)) (giftLines k n to (getD given j empty ∷ []))
           ∙ ap (λ (l : List Line). ls ++ l)

@@ -1,5 +1,5 @@
--- What a meeting and a FORK leave in the words of the store, in the parts of two processes. These definitions follow the
--- code; that they are document 01's is proved in proofs/.
+-- What a meeting and a FORK leave in the words of the store, in the parts of two processes. These definitions follow
+-- the code; that they are document 01's is proved in proofs/.
 use Prim.Native.Nat.{ℕ, zero, suc, _+_, _*_, _-_}
 use mathlib.Core.List.{List}
 use lib.ListN.{set}
@@ -41,4 +41,5 @@ argumentsPoppedAt work n args = withPart work n (argumentsPopped (partOf work n)
 
 unfoldable pub forkedWords : List ℕ → List ℕ → ℕ → ℕ → ℕ → ℕ → List ℕ
 forkedWords p work n child m args =
-    argsGiven (argumentsPoppedAt (argsHanded (beganAt p (set work 0 (child + 1)) child m) n child args args) n args) n child args
+    argsGiven (argumentsPoppedAt (argsHanded (beganAt p (set work 0 (child + 1)) child m) n child args args) n args) n
+    child args

@@ -95,8 +95,8 @@ fn fork_line(entry: u16, n: ProcessNo, child: ProcessNo, m: u16, args: u16) -> T
     }
 }
 
-// "5 fork: child a, method b, P in c; then a kind 6 line for each argument given, in order". The answer is the number of
-// the next line.
+// "5 fork: child a, method b, P in c; then a kind 6 line for each argument given, in order". The answer is the number
+// of the next line.
 pub fn write_fork(
     trace: &mut [u16],
     work: &[u32],

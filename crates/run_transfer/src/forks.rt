@@ -114,7 +114,8 @@ fn give_args(work: &mut [u32], n: ProcessNo, child: ProcessNo, args: u16)
     }
 }
 
-// "FORK gives its qubit, channel and end arguments to the new process, all taken off first, so the child has every one".
+// "FORK gives its qubit, channel and end arguments to the new process, all taken off first, so the child has every
+// one".
 pub fn fork(p: &[u16], work: &mut [u32], n: ProcessNo, child: ProcessNo, m: u16, args: u16)
     requires { ⌜ (8192 ≤ length (now work)) × (n .0 < 8) × (child .0 < 8) ⌝ }
     ensures { λ r. ⌜ now (work .exit) ≡ forkedWords (now (p .entry)) (now (work .entry)) (n .0) (child .0) m args ⌝ }

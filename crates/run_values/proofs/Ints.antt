@@ -40,7 +40,9 @@ unfolding inRange word32
 shifted-pos n s e = record {
   low = λ h. absurd (omega arith);
   high = λ h. le-ltb n 2147483648 (omega arith);
-  inside = λ h k. (lt-ltb n 2147483648 (omega arith), sym (ap (λ (x : ℕ). x % 4294967296) e ∙ add-mod-right n 4294967296 ∙ mod-eq-of-lt (omega arith)));
+  inside =
+      λ h k.
+      (lt-ltb n 2147483648 (omega arith), sym (ap (λ (x : ℕ). x % 4294967296) e ∙ add-mod-right n 4294967296 ∙ mod-eq-of-lt (omega arith)));
 }
 
 shifted-neg : (n s : ℕ) → s + n ≡ 4294967295 → Shifted (negsuc n) s
@@ -56,10 +58,14 @@ shifted-sub : (a b s : ℕ) → s + b ≡ a + 4294967296 → Shifted (subℕ a b
 shifted-sub a b s e = ⊎-elim (λ t. below (ltb-true a b t) t) (λ t. above (ltb-false a b t) t) (decide (ltb a b))
   where
     below : a < b → ltb a b ≡ true → Shifted (subℕ a b) s
-    below h t = subst (λ (x : Bool). Shifted (cond x (negsuc (b - suc a)) (pos (a - b))) s) (sym t) (shifted-neg (b - suc a) s (omega arith))
+    below h t =
+        subst (λ (x : Bool). Shifted (cond x (negsuc (b - suc a)) (pos (a - b))) s) (sym t)
+        (shifted-neg (b - suc a) s (omega arith))
 
     above : b ≤ a → ltb a b ≡ false → Shifted (subℕ a b) s
-    above h t = subst (λ (x : Bool). Shifted (cond x (negsuc (b - suc a)) (pos (a - b))) s) (sym t) (shifted-pos (a - b) s (omega arith))
+    above h t =
+        subst (λ (x : Bool). Shifted (cond x (negsuc (b - suc a)) (pos (a - b))) s) (sym t)
+        (shifted-pos (a - b) s (omega arith))
 
 lifted-sum : (x y : ℤ) → T (inRange x) → T (inRange y) → Shifted (x +ℤ y) (lifted x + lifted y)
 unfolding lifted inRange
@@ -69,13 +75,16 @@ lifted-sum (pos a) (negsuc b) hx hy =
 lifted-sum (negsuc a) (pos b) hx hy =
     shifted-sub b (suc a) (2147483647 - a + (2147483648 + b)) (omega (arith, ltb→lt a 2147483648 hx))
 lifted-sum (negsuc a) (negsuc b) hx hy =
-    shifted-neg (suc (a + b)) (2147483647 - a + (2147483647 - b)) (omega (arith, ltb→lt a 2147483648 hx, ltb→lt b 2147483648 hy))
+    shifted-neg (suc (a + b)) (2147483647 - a + (2147483647 - b))
+    (omega (arith, ltb→lt a 2147483648 hx, ltb→lt b 2147483648 hy))
 
 lifted-difference : (x y : ℤ) → T (inRange x) → T (inRange y) → Shifted (x -ℤ y) (lifted x + 4294967296 - lifted y)
 unfolding lifted inRange
-lifted-difference (pos a) (pos zero) hx hy = shifted-pos (a + 0) (2147483648 + a + 4294967296 - (2147483648 + 0)) (omega arith)
+lifted-difference (pos a) (pos zero) hx hy =
+    shifted-pos (a + 0) (2147483648 + a + 4294967296 - (2147483648 + 0)) (omega arith)
 lifted-difference (pos a) (pos (suc b)) hx hy =
-    shifted-sub a (suc b) (2147483648 + a + 4294967296 - (2147483648 + suc b)) (omega (arith, ltb→lt (suc b) 2147483648 hy))
+    shifted-sub a (suc b) (2147483648 + a + 4294967296 - (2147483648 + suc b))
+    (omega (arith, ltb→lt (suc b) 2147483648 hy))
 lifted-difference (pos a) (negsuc b) hx hy =
     shifted-pos (a + suc b) (2147483648 + a + 4294967296 - (2147483647 - b)) (omega (arith, ltb→lt b 2147483648 hy))
 lifted-difference (negsuc a) (pos zero) hx hy =
@@ -88,22 +97,26 @@ lifted-difference (negsuc a) (negsuc b) hx hy =
     (omega (arith, ltb→lt a 2147483648 hx, ltb→lt b 2147483648 hy))
 
 pub sum-shifted : (x y : ℤ) → T (inRange x) → T (inRange y) → Shifted (x +ℤ y) (biased (word32 x) + biased (word32 y))
-sum-shifted x y hx hy = subst (Shifted (x +ℤ y)) (sym (ap₂ _+_ (biased-is x hx) (biased-is y hy))) (lifted-sum x y hx hy)
+sum-shifted x y hx hy =
+    subst (Shifted (x +ℤ y)) (sym (ap₂ _+_ (biased-is x hx) (biased-is y hy))) (lifted-sum x y hx hy)
 
 pub difference-shifted : (x y : ℤ) → T (inRange x) → T (inRange y)
     → Shifted (x -ℤ y) (biased (word32 x) + 4294967296 - biased (word32 y))
 difference-shifted x y hx hy =
-    subst (Shifted (x -ℤ y)) (sym (ap₂ (λ (a b : ℕ). a + 4294967296 - b) (biased-is x hx) (biased-is y hy))) (lifted-difference x y hx hy)
+    subst (Shifted (x -ℤ y)) (sym (ap₂ (λ (a b : ℕ). a + 4294967296 - b) (biased-is x hx) (biased-is y hy)))
+    (lifted-difference x y hx hy)
 
 -- the order and equality
 
 test-same : (a b c d : ℕ) → (a < b → c < d) → (b ≤ a → d ≤ c) → ltb a b ≡ ltb c d
 test-same a b c d f g =
-    ⊎-elim (λ t. t ∙ sym (lt-ltb c d (f (ltb-true a b t)))) (λ t. t ∙ sym (le-ltb c d (g (ltb-false a b t)))) (decide (ltb a b))
+    ⊎-elim (λ t. t ∙ sym (lt-ltb c d (f (ltb-true a b t)))) (λ t. t ∙ sym (le-ltb c d (g (ltb-false a b t))))
+    (decide (ltb a b))
 
 lifted-less : (x y : ℤ) → T (inRange x) → T (inRange y) → ltb (lifted x) (lifted y) ≡ ltZ x y
 unfolding lifted inRange
-lifted-less (pos a) (pos b) hx hy = test-same (2147483648 + a) (2147483648 + b) a b (λ h. omega arith) (λ h. omega arith)
+lifted-less (pos a) (pos b) hx hy =
+    test-same (2147483648 + a) (2147483648 + b) a b (λ h. omega arith) (λ h. omega arith)
 lifted-less (pos a) (negsuc b) hx hy = le-ltb (2147483648 + a) (2147483647 - b) (omega arith)
 lifted-less (negsuc a) (pos b) hx hy = lt-ltb (2147483647 - a) (2147483648 + b) (omega arith)
 lifted-less (negsuc a) (negsuc b) hx hy =
@@ -116,7 +129,8 @@ less-same x y hx hy = ap₂ ltb (biased-is x hx) (biased-is y hy) ∙ lifted-les
 
 equal-same : (a b c d : ℕ) → (a ≡ b → c ≡ d) → (c ≡ d → a ≡ b) → eqb a b ≡ eqb c d
 equal-same a b c d f g =
-    ⊎-elim (λ t. t ∙ sym (eq-eqb c d (f (eqb-true a b t)))) (λ t. t ∙ sym (ne-eqb c d (λ e. eqb-false a b t (g e)))) (decide (eqb a b))
+    ⊎-elim (λ t. t ∙ sym (eq-eqb c d (f (eqb-true a b t)))) (λ t. t ∙ sym (ne-eqb c d (λ e. eqb-false a b t (g e))))
+    (decide (eqb a b))
 
 pub words-same : (x y : ℤ) → T (inRange x) → T (inRange y) → eqb (word32 x) (word32 y) ≡ eqZ x y
 unfolding word32 eqZ inRange

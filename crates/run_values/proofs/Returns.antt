@@ -11,21 +11,25 @@ use Rattle.run_store.specs.StoreCode.{valueAt, topAt}
 use Rattle.run_values.specs.ValuesCode.{AfterStep, afterStep, intVal, unlessEmpty, overTwo, emptyTwo, twoOp, resultOp}
 
 -- a value that was read was empty
-pub empty-stops : {u : Val} (v : Val) (w : List ℕ) (d : AfterStep) → u ≡ v → u .tag ≡ 0 → afterStep 20 w ≡ unlessEmpty v w d
+pub empty-stops : {u : Val} (v : Val) (w : List ℕ) (d : AfterStep) → u ≡ v → u .tag ≡ 0
+    → afterStep 20 w ≡ unlessEmpty v w d
 unfolding unlessEmpty
 empty-stops {u} v w d e t = rw (eq-eqb (v .tag) 0 (ap (λ (x : Val). x .tag) (sym e) ∙ t))
 
 -- or it was not, and the function went on
-pub full-goes : {u : Val} (v : Val) (w : List ℕ) (d : AfterStep) {d′ : AfterStep} → u ≡ v → (u .tag ≡ 0 → ⊥) → d′ ≡ d → d′ ≡ unlessEmpty v w d
+pub full-goes : {u : Val} (v : Val) (w : List ℕ) (d : AfterStep) {d′ : AfterStep} → u ≡ v → (u .tag ≡ 0 → ⊥) → d′ ≡ d
+    → d′ ≡ unlessEmpty v w d
 unfolding unlessEmpty
 full-goes {u} v w d e t p = rw (ne-eqb (v .tag) 0 (λ z. t (ap (λ (x : Val). x .tag) e ∙ z))) p
 
 -- the same for two operands
-pub two-stop : {b : Bool} (w : List ℕ) (h : Head) (k : ℕ → ℕ → AfterStep) → b ≡ emptyTwo w h → b ≡ true → afterStep 20 w ≡ twoOp w h k
+pub two-stop : {b : Bool} (w : List ℕ) (h : Head) (k : ℕ → ℕ → AfterStep) → b ≡ emptyTwo w h → b ≡ true
+    → afterStep 20 w ≡ twoOp w h k
 unfolding twoOp
 two-stop w h k e t = rw (sym e ∙ t)
 
-pub two-go : {b : Bool} {x y : ℕ} {d : AfterStep} (w : List ℕ) (h : Head) (k : ℕ → ℕ → AfterStep) → b ≡ emptyTwo w h → b ≡ false
+pub two-go : {b : Bool} {x y : ℕ} {d : AfterStep} (w : List ℕ) (h : Head) (k : ℕ → ℕ → AfterStep) → b ≡ emptyTwo w h
+    → b ≡ false
     → x ≡ valueAt w (topAt h 2) .number → y ≡ valueAt w (topAt h 1) .number → d ≡ k x y → d ≡ twoOp w h k
 unfolding twoOp
 two-go w h k e t p q r = rw (sym e ∙ t) (r ∙ ap₂ k p q)
@@ -45,8 +49,10 @@ unfolding resultOp
 result-in w h s t u = rw (le-ltb s 2147483648 t, lt-leb 6442450944 s u)
 
 -- JFALSE on false, and on true
-pub jfalse-jumps : {u : Val} {d : AfterStep} (v : Val) (x y : AfterStep) → u ≡ v → u .number ≡ 0 → d ≡ x → d ≡ cond (eqb (v .number) 0) x y
+pub jfalse-jumps : {u : Val} {d : AfterStep} (v : Val) (x y : AfterStep) → u ≡ v → u .number ≡ 0 → d ≡ x
+    → d ≡ cond (eqb (v .number) 0) x y
 jfalse-jumps v x y e t p = rw (eq-eqb (v .number) 0 (ap (λ (z : Val). z .number) (sym e) ∙ t)) p
 
-pub jfalse-goes : {u : Val} {d : AfterStep} (v : Val) (x y : AfterStep) → u ≡ v → (u .number ≡ 0 → ⊥) → d ≡ y → d ≡ cond (eqb (v .number) 0) x y
+pub jfalse-goes : {u : Val} {d : AfterStep} (v : Val) (x y : AfterStep) → u ≡ v → (u .number ≡ 0 → ⊥) → d ≡ y
+    → d ≡ cond (eqb (v .number) 0) x y
 jfalse-goes v x y e t p = rw (ne-eqb (v .number) 0 (λ z. t (ap (λ (o : Val). o .number) e ∙ z))) p

@@ -44,7 +44,8 @@ pub before-within : (p : List ℕ) → Sizes p → Pairs p → {m i : ℕ} → I
     → before p (suc i) ≡ after p i (before p i)
 unfolding before opens
 before-within p s k {m} {i} h n =
-    let shut : suc i ≢ offsetOf p (ownerOf p (suc i)) = λ q. omega (arith, ap (offsetOf p) (Owners.inside-owner p s k n)) in
+    let shut : suc i ≢ offsetOf p (ownerOf p (suc i)) =
+    λ q. omega (arith, ap (offsetOf p) (Owners.inside-owner p s k n)) in
     ap (λ b. cond b [] (after p i (before p i))) (ne-eqb (suc i) (offsetOf p (ownerOf p (suc i))) shut)
 
 module _ (p : List ℕ) (k : Kept p) where
@@ -101,4 +102,5 @@ module _ (p : List ℕ) (k : Kept p) where
   unfolding before
   before-height zero h = omega arith
   before-height (suc i) h =
-      cond-each (λ ts. length ts ≤ 8) (opens p (suc i)) {x = []} (λ e. omega arith) (λ e. k .reading i (omega arith) .height)
+      cond-each (λ ts. length ts ≤ 8) (opens p (suc i)) {x = []} (λ e. omega arith)
+      (λ e. k .reading i (omega arith) .height)

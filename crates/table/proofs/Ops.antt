@@ -98,4 +98,5 @@ jumps-inside n p m a t e =
     ⊎-elim (target 17 refl) (target 18 refl) (or-cases (eqb n 17) (eqb n 18) (rw (jumps-op n) at t))
   where
     target : (k : ℕ) → opOf k .argument p m a ≡ ltb a (lengthOf p m) → T (eqb n k) → a < lengthOf p m
-    target k q u = ltb-true a (lengthOf p m) (sym q ∙ ap (λ k. opOf k .argument p m a) {x = k} (sym (eqb-yes {a = n} u)) ∙ e)
+    target k q u =
+        ltb-true a (lengthOf p m) (sym q ∙ ap (λ k. opOf k .argument p m a) {x = k} (sym (eqb-yes {a = n} u)) ∙ e)

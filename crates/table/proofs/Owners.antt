@@ -1,4 +1,5 @@
--- Where the methods lie once questions 1 and 2 are passed: one after the other, so that every instruction has one owner.
+-- Where the methods lie once questions 1 and 2 are passed: one after the other, so that every instruction has one
+-- owner.
 use Prim.Native.Nat.{ℕ, zero, suc, _-_, _≤_, _<_}
 use native.Mathlib.Omega.{arith}
 use native.Mathlib.Nat.{eq-or-lt-of-le, le-of-suc-le-suc}
@@ -70,7 +71,8 @@ module _ (p : List ℕ) (s : Sizes p) (k : Pairs p) where
   owner-method : (i : ℕ) → i < instructions p → ownerOf p i < methods p
   owner-method i h =
       let (n, e) = last-method in
-      let low : ¬ (n < ownerOf p i) = λ l. omega (arith, leb-true (endOf p n) i (owner-first i .passes n l), k .last n e) in
+      let low : ¬ (n < ownerOf p i) =
+      λ l. omega (arith, leb-true (endOf p n) i (owner-first i .passes n l), k .last n e) in
       omega arith
 
   owner-after : (i : ℕ) → ownerOf p i < methods p → offsetOf p (ownerOf p i) ≤ i

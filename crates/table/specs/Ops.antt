@@ -1,5 +1,6 @@
 -- Document 01's table of ops, as the check reads it: what each op's argument may be, and its rule of types.
--- One record for each rule of types, in the paper's order; a new op is one more entry of `ops`. What the ops do is in the crate machine.
+-- One record for each rule of types, in the paper's order; a new op is one more entry of `ops`. What the ops do is in
+-- the crate machine.
 --
 -- A rule of types says how many pending values an op takes, which types it gives for the types taken
 -- (listed from the top down), or that the types taken are none it wants.

@@ -97,7 +97,8 @@ question8 words = whole 8 (leb 8192 words) 0
 
 -- questions 1 to 5: the table alone
 unfoldable pub tableQuestions : List ℕ → Verdict
-tableQuestions p = andThen (question1 p) (andThen (question2 p) (andThen (question3 p) (andThen (question4 p) (question5 p))))
+tableQuestions p =
+    andThen (question1 p) (andThen (question2 p) (andThen (question3 p) (andThen (question4 p) (question5 p))))
 
 -- all eight: the table, the schedule, the outcome list and the work store's length in words
 unfoldable pub questions : List ℕ → List ℕ → List ℕ → ℕ → Verdict

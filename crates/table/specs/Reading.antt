@@ -3,8 +3,8 @@
 -- jump's target, and close on RET or JUMP?"
 --
 -- The types pending before each instruction are a function of its place alone, because every method is read from its
--- first instruction to its last and starts with nothing pending. That the machine's pending values have just these types
--- is the invariant of its soundness proof (crate machine, proofs/Typing.antt).
+-- first instruction to its last and starts with nothing pending. That the machine's pending values have just these
+-- types is the invariant of its soundness proof (crate machine, proofs/Typing.antt).
 use Prim.Native.Nat.{ℕ, zero, suc, _+_}
 use mathlib.Core.Bool.{Bool, true, false, cond, _&&_, _||_, not}
 use mathlib.Core.List.{List, [], _∷_, _++_}

@@ -21,7 +21,8 @@ pub givenThing-qubit : (b c q : ℕ) → givenThing b c (qubit q) ≡ (eqb b 3 &
 unfolding covers
 givenThing-qubit b c q = go (eqb b 3) (eqb b 4) (eqb b 5) (eqb b 6)
   where
-    go : (b3 b4 b5 b6 : Bool) → cond b3 (eqb c q) (cond b4 false (cond b5 false (cond b6 false false))) ≡ (b3 && eqb c q)
+    go : (b3 b4 b5 b6 : Bool)
+        → cond b3 (eqb c q) (cond b4 false (cond b5 false (cond b6 false false))) ≡ (b3 && eqb c q)
     go true b4 b5 b6 = refl
     go false true b5 b6 = refl
     go false false true b6 = refl

@@ -41,4 +41,5 @@ linesOf-at (e ∷ n ∷ k ∷ a ∷ b ∷ c ∷ ws) (suc i) h = linesOf-at ws i 
   where
     word : (i j : ℕ) → j ≡ 6 + i → getD ws i 0 ≡ getD (e ∷ n ∷ k ∷ a ∷ b ∷ c ∷ ws) j 0
     word i j p =
-        ap (λ (m : ℕ). getD (e ∷ n ∷ k ∷ a ∷ b ∷ c ∷ ws) m 0) {x = suc (suc (suc (suc (suc (suc i)))))} {y = j} (omega arith)
+        ap (λ (m : ℕ). getD (e ∷ n ∷ k ∷ a ∷ b ∷ c ∷ ws) m 0) {x = suc (suc (suc (suc (suc (suc i)))))} {y = j}
+        (omega arith)

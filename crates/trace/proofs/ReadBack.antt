@@ -1,7 +1,7 @@
 -- What the number of lines read means. Of n lines, the r read from the last one backwards are those from line n - r on,
 -- and line n - r is where the reading stops. `read-back` says of them, for any words, any k and any qubit: after line
--- n - r none decides; line n - r decides, unless none of the n lines does, and then all are read; the holder by the lines
--- read alone is the holder by all n, whom line n - r names, and nobody exactly if none of the n lines decides.
+-- n - r none decides; line n - r decides, unless none of the n lines does, and then all are read; the holder by the
+-- lines read alone is the holder by all n, whom line n - r names, and nobody exactly if none of the n lines decides.
 use Prim.Native.Nat.{ℕ, suc, _-_, _≤_, _<_}
 use mathlib.Core.Path.{_≡_, refl, sym, _∙_, ap, subst}
 use mathlib.Core.Logic.{_⊎_, inl, inr}
@@ -154,4 +154,5 @@ pub read-back : (ws : List ℕ) (k q : ℕ) → FromBack (take k (linesOf ws)) q
 unfolding countRead
 read-back ws k q =
     let ls = take k (linesOf ws) in
-    subst (λ (ms : List Line). FromBack ms q (readBack q (reverse ls))) (reverse-reverse ls) (from-reversed q (reverse ls))
+    subst (λ (ms : List Line). FromBack ms q (readBack q (reverse ls))) (reverse-reverse ls)
+    (from-reversed q (reverse ls))

@@ -1,5 +1,5 @@
--- What yes means as an answer on two traces: they have equal columns 1 to 5, line by line, and equal gaps. The laws of the
--- answer (the files Same..) follow from this.
+-- What yes means as an answer on two traces: they have equal columns 1 to 5, line by line, and equal gaps. The laws of
+-- the answer (the files Same..) follow from this.
 use Prim.Native.Nat.{ℕ}
 use mathlib.Core.Path.{_≡_, refl, sym, ap₂, subst}
 use mathlib.Core.Bool.{Bool, true, false, _&&_, true≢false}

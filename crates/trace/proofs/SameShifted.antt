@@ -1,4 +1,5 @@
--- "Traces shifted as a whole still match": a trace is the same as itself with every entry number later by d, not wrapped.
+-- "Traces shifted as a whole still match": a trace is the same as itself with every entry number later by d, not
+-- wrapped.
 use Prim.Native.Nat.{ℕ, _+_}
 use mathlib.Core.Path.{_≡_, refl, sym, _∙_, ap, ap₂}
 use mathlib.Core.Bool.{true}

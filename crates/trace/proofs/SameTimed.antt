@@ -38,7 +38,8 @@ two-lines : (l l' m m' : Line) (ls ms : List Line)
     ≡ ((sameLine l m && eqZ (gap l l') (gap m m')) && sameTimed (l' ∷ ls) (m' ∷ ms))
 unfolding sameTimed sameAll gaps sameGaps
 two-lines l l' m m' ls ms =
-    across (sameLine l m) (sameAll (l' ∷ ls) (m' ∷ ms)) (eqZ (gap l l') (gap m m')) (sameGaps (gaps (l' ∷ ls)) (gaps (m' ∷ ms)))
+    across (sameLine l m) (sameAll (l' ∷ ls) (m' ∷ ms)) (eqZ (gap l l') (gap m m'))
+    (sameGaps (gaps (l' ∷ ls)) (gaps (m' ∷ ms)))
   where
     across : (a b c d : Bool) → ((a && b) && (c && d)) ≡ ((a && c) && (b && d))
     across true b true d = refl
@@ -98,7 +99,8 @@ module _ (ls ms : List Line) (i : ℕ) (h : i < length ls) (s : length ls ≡ le
   sameTimed-next : sameTimed (drop i ls) (drop i ms) ≡ (sameAt ls ms i && rest)
   unfolding sameAt
   sameTimed-next =
-      cond-each (λ (b : Bool). sameTimed (drop i ls) (drop i ms) ≡ ((sameLine l m && b) && rest)) (ltb (i + 1) (length ls))
+      cond-each (λ (b : Bool). sameTimed (drop i ls) (drop i ms) ≡ ((sameLine l m && b) && rest))
+      (ltb (i + 1) (length ls))
       (λ t. followed (ltb-true (i + 1) (length ls) t))
       (λ t. alone (ltb-false (i + 1) (length ls) t))
 
@@ -109,6 +111,7 @@ module _ (ls ms : List Line) (i : ℕ) (h : i < length ls) (s : length ls ≡ le
   sameTimed-differ e = sameTimed-next ∙ ap (λ (b : Bool). b && rest) e
 
 -- after the last lines
-pub sameTimed-end : (ls ms : List Line) (i : ℕ) → length ls ≤ i → length ms ≤ i → sameTimed (drop i ls) (drop i ms) ≡ true
+pub sameTimed-end : (ls ms : List Line) (i : ℕ) → length ls ≤ i → length ms ≤ i
+    → sameTimed (drop i ls) (drop i ms) ≡ true
 unfolding sameTimed sameAll gaps sameGaps
 sameTimed-end ls ms i h k = ap₂ sameTimed (drop-of-length-le ls h) (drop-of-length-le ms k)

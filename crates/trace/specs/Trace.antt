@@ -25,8 +25,8 @@ linesOf (e ∷ n ∷ k ∷ a ∷ b ∷ c ∷ ws) = record { entry = e; process =
 unfoldable pub lookUp : List ℕ → ℕ → ℕ → ℕ
 lookUp ws k q = Option·getD (holder (take k (linesOf ws)) (qubit q)) 65535
 
--- "the line that decides" who holds qubit q, by the rule of `Owner.holderAfter`: a kind 1 line of the qubit, or a kind 6
--- line with thing 3 and its number
+-- "the line that decides" who holds qubit q, by the rule of `Owner.holderAfter`: a kind 1 line of the qubit, or a kind
+-- 6 line with thing 3 and its number
 unfoldable pub decides : ℕ → Line → Bool
 decides q l =
     cond (eqb (l .kind) 1) (covers (qubit (l .a)) (qubit q))
@@ -72,7 +72,8 @@ sameGaps [] (h ∷ hs) = false
 sameGaps (g ∷ gs) [] = false
 sameGaps (g ∷ gs) (h ∷ hs) = eqZ g h && sameGaps gs hs
 
--- "Same shall now also need equal gaps: between each line and the next, the entry number changes by the same amount in both"
+-- "Same shall now also need equal gaps: between each line and the next, the entry number changes by the same amount in
+-- both"
 unfoldable pub sameTimed : List Line → List Line → Bool
 sameTimed ls ms = sameAll ls ms && sameGaps (gaps ls) (gaps ms)
 

@@ -1,5 +1,5 @@
-// The holder of a qubit by the lines of a trace: any words, any number of lines, any qubit number. The lines are read from
-// the last one backwards, up to the line that decides.
+// The holder of a qubit by the lines of a trace: any words, any number of lines, any qubit number. The lines are read
+// from the last one backwards, up to the line that decides.
 ghost use mathlib.Core.Path.{_≡_};
 ghost use Prim.Native.Nat.{_≤_};
 ghost use lib.ListN.{length};
@@ -15,7 +15,8 @@ pub struct QubitHolder {
     pub read: usize,
 }
 
-// Whether a line decides who holds qubit q. Kind 1 is the making of a qubit, kind 6 a giving, in which thing 3 is a qubit.
+// Whether a line decides who holds qubit q. Kind 1 is the making of a qubit, kind 6 a giving, in which thing 3 is a
+// qubit.
 fn is_deciding(l: TraceLine, q: u16) -> bool
     ensures { λ r. ⌜ r ≡ decides q (asLine l) ⌝ }
 {

@@ -16,8 +16,8 @@ fn same_line(l: TraceLine, m: TraceLine) -> bool
     (l.process == m.process) & (l.kind == m.kind) & (l.a == m.a) & (l.b == m.b) & (l.c == m.c)
 }
 
-// From l1 to l2 the entry number changes by as much as from m1 to m2. Sums are compared in place of differences: in 32 bits
-// they do not wrap, and they have no sign.
+// From l1 to l2 the entry number changes by as much as from m1 to m2. Sums are compared in place of differences: in 32
+// bits they do not wrap, and they have no sign.
 fn same_gap(l1: TraceLine, l2: TraceLine, m1: TraceLine, m2: TraceLine) -> bool
     ensures { λ r. ⌜ r ≡ eqZ (gap (asLine l1) (asLine l2)) (gap (asLine m1) (asLine m2)) ⌝ }
 {

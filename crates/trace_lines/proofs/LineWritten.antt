@@ -26,7 +26,9 @@ trace-length (l ∷ ls) = ap (λ (k : ℕ). suc (suc (suc (suc (suc (suc k))))))
 pub trace-append : (ls ms : List Line) → traceWords (ls ++ ms) ≡ traceWords ls ++ traceWords ms
 unfolding traceWords
 trace-append [] ms = refl
-trace-append (l ∷ ls) ms = ap (λ (w : List ℕ). lineWords l ++ w) (trace-append ls ms) ∙ sym (append-assoc (lineWords l) (traceWords ls) (traceWords ms))
+trace-append (l ∷ ls) ms =
+    ap (λ (w : List ℕ). lineWords l ++ w) (trace-append ls ms)
+    ∙ sym (append-assoc (lineWords l) (traceWords ls) (traceWords ms))
 
 one-line : (l : Line) → traceWords (l ∷ []) ≡ lineWords l
 unfolding traceWords
@@ -44,7 +46,8 @@ six-written (x₁ ∷ x₂ ∷ x₃ ∷ x₄ ∷ x₅ ∷ []) l h = absurd (omeg
 six-written (x₁ ∷ x₂ ∷ x₃ ∷ x₄ ∷ x₅ ∷ x₆ ∷ t) l h = refl
 
 -- words written after a prefix
-three-after : (xs t : List ℕ) (n i x y z : ℕ) → length xs ≡ n → withThree (xs ++ t) (n + i) x y z ≡ xs ++ withThree t i x y z
+three-after : (xs t : List ℕ) (n i x y z : ℕ) → length xs ≡ n
+    → withThree (xs ++ t) (n + i) x y z ≡ xs ++ withThree t i x y z
 unfolding withThree
 three-after xs t n i x y z e =
     ap (λ (w : List ℕ). set (set w (n + i + 1) y) (n + i + 2) z) (set-after xs t n i x e)
@@ -56,8 +59,10 @@ three-after xs t n i x y z e =
 line-after : (xs t : List ℕ) (k : ℕ) (l : TraceLine) → length xs ≡ 6 * k → withLine (xs ++ t) k l ≡ xs ++ withLine t 0 l
 unfolding withLine withSix
 line-after xs t k l e =
-    ap (λ (i : ℕ). withThree (withThree (xs ++ t) i (l .entry) (l .process) (l .kind)) (6 * k + 3) (l .a) (l .b) (l .c)) {x = 6 * k} {y = 6 * k + 0} (omega arith)
-    ∙ ap (λ (w : List ℕ). withThree w (6 * k + 3) (l .a) (l .b) (l .c)) (three-after xs t (6 * k) 0 (l .entry) (l .process) (l .kind) e)
+    ap (λ (i : ℕ). withThree (withThree (xs ++ t) i (l .entry) (l .process) (l .kind)) (6 * k + 3) (l .a) (l .b) (l .c))
+    {x = 6 * k} {y = 6 * k + 0} (omega arith)
+    ∙ ap (λ (w : List ℕ). withThree w (6 * k + 3) (l .a) (l .b) (l .c))
+    (three-after xs t (6 * k) 0 (l .entry) (l .process) (l .kind) e)
     ∙ three-after xs (withThree t 0 (l .entry) (l .process) (l .kind)) (6 * k) 3 (l .a) (l .b) (l .c) e
 
 pub line-written : (ls : List Line) (t : List ℕ) (l : Line) → 6 * length ls + 6 ≤ length t
@@ -65,7 +70,9 @@ pub line-written : (ls : List Line) (t : List ℕ) (l : Line) → 6 * length ls 
 unfolding traceAfter
 line-written ls t l h =
     line-after (traceWords ls) (drop (length (traceWords ls)) t) (length ls) (lineOf l) (trace-length ls)
-    ∙ ap (λ (w : List ℕ). traceWords ls ++ w) (six-written (drop (length (traceWords ls)) t) l (omega (arith, length-drop (length (traceWords ls)) t, trace-length ls)))
+    ∙ ap (λ (w : List ℕ). traceWords ls ++ w)
+    (six-written (drop (length (traceWords ls)) t) l
+    (omega (arith, length-drop (length (traceWords ls)) t, trace-length ls)))
     ∙ sym (append-assoc (traceWords ls) (lineWords l) (drop 6 (drop (length (traceWords ls)) t)))
     ∙ ap₂ _++_ (sym joined) (drop-drop 6 (length (traceWords ls)) t ∙ ap (λ (k : ℕ). drop k t) total)
   where

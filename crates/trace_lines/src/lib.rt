@@ -1,5 +1,6 @@
-// Lines written into a lent trace: `write_line` leaves it with one line written and every other word kept, `write_two` with
-// two. A write past its end does nothing, so that nothing is asked of the caller but an index that can be computed with.
+// Lines written into a lent trace: `write_line` leaves it with one line written and every other word kept, `write_two`
+// with two. A write past its end does nothing, so that nothing is asked of the caller but an index that can be computed
+// with.
 ghost use mathlib.Core.Path.{_≡_};
 ghost use Prim.Native.Nat.{_+_, _*_, _<_};
 ghost use lib.ListN.{length, set};

@@ -64,16 +64,24 @@ sub-t11 c =
 returns-3 : tie.Need-returns-3
 unfolding verdictOf question1 methods instructions
 returns-3 c =
-    let sizes-kept = c .before .before .before .before .before .before .before .sizes-kept in
-    let if1 = c .before .before .before .before .before .before .if1 in
-    let word-at = c .before .before .before .before .before .word-at in
-    let word-at2 = c .before .before .before .before .word-at2 in
-    let first-pair = c .before .before .before .first-pair in
-    let if2 = c .before .before .if2 in
+    let at-sum-kept = c .before in
+    let at-if2 = at-sum-kept .before in
+    let at-first-pair = at-if2 .before in
+    let at-word-at2 = at-first-pair .before in
+    let at-word-at = at-word-at2 .before in
+    let at-if1 = at-word-at .before in
+    let at-sizes-kept = at-if1 .before in
+    let sizes-kept = at-sizes-kept .sizes-kept in
+    let if1 = at-if1 .if1 in
+    let word-at = at-word-at .word-at in
+    let word-at2 = at-word-at2 .word-at2 in
+    let first-pair = at-first-pair .first-pair in
+    let if2 = at-if2 .if2 in
     let passed = sym (sizes-kept .ensures) ∙ not-false _ (if1 .left) in
-    sum-fails _ _ _ _ (word-at .ensures .0) (word-at2 .ensures .0) (first-pair .ensures) _ _ (if2 .left) (c .before .sum-kept .ensures)
-    (not-true _ (c .if3 .taken))
-    ∙ whole-yes 1 0 _ passed ∙ in-a-row _ _ _ _
+    sum-fails _ _ _ _ (word-at .ensures .0) (word-at2 .ensures .0) (first-pair .ensures) _ _ (if2 .left)
+    (at-sum-kept .sum-kept .ensures) (not-true _ (c .if3 .taken))
+    ∙ whole-yes 1 0 _ passed
+    ∙ in-a-row _ _ _ _
 
 first-row-requires : tie.Need-first-row-requires
 unfolding methods
@@ -87,36 +95,58 @@ first-row-requires c κs =
 returns-4 : tie.Need-returns-4
 unfolding verdictOf question1 question3 methods instructions
 returns-4 c =
-    let sizes-kept = c .before .before .before .before .before .before .before .before .before .sizes-kept in
-    let if1 = c .before .before .before .before .before .before .before .before .if1 in
-    let if3 = c .before .before .if3 in
-    let word-at = c .before .before .before .before .before .before .before .word-at in
-    let word-at2 = c .before .before .before .before .before .before .word-at2 in
-    let first-pair = c .before .before .before .before .before .first-pair in
-    let if2 = c .before .before .before .before .if2 in
-    let sum-kept = c .before .before .before .sum-kept in
+    let at-first-row = c .before in
+    let at-if3 = at-first-row .before in
+    let at-sum-kept = at-if3 .before in
+    let at-if2 = at-sum-kept .before in
+    let at-first-pair = at-if2 .before in
+    let at-word-at2 = at-first-pair .before in
+    let at-word-at = at-word-at2 .before in
+    let at-if1 = at-word-at .before in
+    let at-sizes-kept = at-if1 .before in
+    let sizes-kept = at-sizes-kept .sizes-kept in
+    let if1 = at-if1 .if1 in
+    let if3 = at-if3 .if3 in
+    let word-at = at-word-at .word-at in
+    let word-at2 = at-word-at2 .word-at2 in
+    let first-pair = at-first-pair .first-pair in
+    let if2 = at-if2 .if2 in
+    let sum-kept = at-sum-kept .sum-kept in
     let passed = sym (sizes-kept .ensures) ∙ not-false _ (if1 .left) in
     let sum = not-false _ (if3 .left) in
-    place-found 3 _ _ _ _ (word-at .ensures .0) (c .before .first-row .ensures) _ (c .if4 .taken)
-    ∙ pairs-pass _ _ _ _ (word-at .ensures .0) (word-at2 .ensures .0) (first-pair .ensures) _ _ (if2 .left) (sum-kept .ensures) sum
-    ∙ whole-yes 1 0 _ passed ∙ in-a-row _ _ _ _
+    place-found 3 _ _ _ _ (word-at .ensures .0) (at-first-row .first-row .ensures) _ (c .if4 .taken)
+    ∙ pairs-pass _ _ _ _ (word-at .ensures .0) (word-at2 .ensures .0) (first-pair .ensures) _ _ (if2 .left)
+    (sum-kept .ensures) sum
+    ∙ whole-yes 1 0 _ passed
+    ∙ in-a-row _ _ _ _
 
 ask-code-requires : tie.Need-ask-code-requires
 unfolding methods instructions
 ask-code-requires c κs =
-    let sizes-kept = c .before .before .before .before .before .before .before .before .before .sizes-kept in
-    let if1 = c .before .before .before .before .before .before .before .before .if1 in
-    let if3 = c .before .before .if3 in
-    let word-at = c .before .before .before .before .before .before .before .word-at in
-    let word-at2 = c .before .before .before .before .before .before .word-at2 in
-    let first-pair = c .before .before .before .before .before .first-pair in
-    let if2 = c .before .before .before .before .if2 in
-    let sum-kept = c .before .before .before .sum-kept in
+    let at-first-row = c .before in
+    let at-if3 = at-first-row .before in
+    let at-sum-kept = at-if3 .before in
+    let at-if2 = at-sum-kept .before in
+    let at-first-pair = at-if2 .before in
+    let at-word-at2 = at-first-pair .before in
+    let at-word-at = at-word-at2 .before in
+    let at-if1 = at-word-at .before in
+    let at-sizes-kept = at-if1 .before in
+    let sizes-kept = at-sizes-kept .sizes-kept in
+    let if1 = at-if1 .if1 in
+    let if3 = at-if3 .if3 in
+    let word-at = at-word-at .word-at in
+    let word-at2 = at-word-at2 .word-at2 in
+    let first-pair = at-first-pair .first-pair in
+    let if2 = at-if2 .if2 in
+    let sum-kept = at-sum-kept .sum-kept in
     let sizes = sizes-known _ (sizes-kept .ensures) (not-false _ (if1 .left)) in
     let sum = not-false _ (if3 .left) in (
       sizes,
-      pairs-known _ sizes _ _ (word-at .ensures .0) (word-at2 .ensures .0) _ (first-pair .ensures) (if2 .left) (sum-kept .ensures) sum,
-      rows-known _ sizes _ _ (word-at .ensures .0) (word-at2 .ensures .0) _ (c .before .first-row .ensures) (c .if4 .left),
+      pairs-known _ sizes _ _ (word-at .ensures .0) (word-at2 .ensures .0) _ (first-pair .ensures) (if2 .left)
+          (sum-kept .ensures) sum,
+      rows-known _ sizes _ _ (word-at .ensures .0) (word-at2 .ensures .0) _
+          (at-first-row .first-row .ensures) (c .if4 .left),
       word-at .ensures .0,
       word-at2 .ensures .0,
     )
@@ -124,21 +154,33 @@ ask-code-requires c κs =
 returns-5 : tie.Need-returns-5
 unfolding question1 question3 methods instructions
 returns-5 c =
-    let sizes-kept = c .before .before .before .before .before .before .before .before .before .before .sizes-kept in
-    let if1 = c .before .before .before .before .before .before .before .before .before .if1 in
-    let if3 = c .before .before .before .if3 in
-    let word-at = c .before .before .before .before .before .before .before .before .word-at in
-    let first-row = c .before .before .first-row in
-    let word-at2 = c .before .before .before .before .before .before .before .word-at2 in
-    let first-pair = c .before .before .before .before .before .before .first-pair in
-    let if2 = c .before .before .before .before .before .if2 in
-    let sum-kept = c .before .before .before .before .sum-kept in
+    let at-if4 = c .before in
+    let at-first-row = at-if4 .before in
+    let at-if3 = at-first-row .before in
+    let at-sum-kept = at-if3 .before in
+    let at-if2 = at-sum-kept .before in
+    let at-first-pair = at-if2 .before in
+    let at-word-at2 = at-first-pair .before in
+    let at-word-at = at-word-at2 .before in
+    let at-if1 = at-word-at .before in
+    let at-sizes-kept = at-if1 .before in
+    let sizes-kept = at-sizes-kept .sizes-kept in
+    let if1 = at-if1 .if1 in
+    let if3 = at-if3 .if3 in
+    let word-at = at-word-at .word-at in
+    let first-row = at-first-row .first-row in
+    let word-at2 = at-word-at2 .word-at2 in
+    let first-pair = at-first-pair .first-pair in
+    let if2 = at-if2 .if2 in
+    let sum-kept = at-sum-kept .sum-kept in
     let passed = sym (sizes-kept .ensures) ∙ not-false _ (if1 .left) in
     let sum = not-false _ (if3 .left) in
     c .ask-code .ensures
-    ∙ place-none 3 _ _ _ _ (word-at .ensures .0) (first-row .ensures) _ (c .before .if4 .left)
-    ∙ pairs-pass _ _ _ _ (word-at .ensures .0) (word-at2 .ensures .0) (first-pair .ensures) _ _ (if2 .left) (sum-kept .ensures) sum
-    ∙ whole-yes 1 0 _ passed ∙ in-a-row _ _ _ _
+    ∙ place-none 3 _ _ _ _ (word-at .ensures .0) (first-row .ensures) _ (at-if4 .if4 .left)
+    ∙ pairs-pass _ _ _ _ (word-at .ensures .0) (word-at2 .ensures .0) (first-pair .ensures) _ _ (if2 .left)
+    (sum-kept .ensures) sum
+    ∙ whole-yes 1 0 _ passed
+    ∙ in-a-row _ _ _ _
 
 pub ask-spec : {M : Type 1} → statement M
 ask-spec =

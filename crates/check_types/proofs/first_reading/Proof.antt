@@ -1,5 +1,5 @@
--- `first_reading` searches the instructions: those below `i` keep the rules, `o` is the owner of the one before `i`, and
--- `q` the types pending before `i`.
+-- `first_reading` searches the instructions: those below `i` keep the rules, `o` is the owner of the one before `i`,
+-- and `q` the types pending before `i`.
 use Prim.Native.Nat.{_-_, _≤_}
 use mathlib.Core.Path.{_≡_, sym, _∙_}
 use Rattle.lists.specs.Lists.{firstFalse}
@@ -16,7 +16,8 @@ use Rattle.check_types.proofs.first_reading.Tie as tie
 
 abbrev Inv-loop : tie.InvT-loop
 Inv-loop p count n targets o₀ q₀ i₀ o q i =
-    (i ≤ n) × (firstFalse (reads p) i ≡ i) × (o ≡ ownerAt p (i - 1)) × (q .count ≤ 8) × Held q × (typesOf q ≡ before p i)
+    (i ≤ n) × (firstFalse (reads p) i ≡ i) × (o ≡ ownerAt p (i - 1)) × (q .count ≤ 8) × Held q ×
+    (typesOf q ≡ before p i)
 
 abbrev μ-loop : tie.MeasureT-loop
 μ-loop p count n targets o₀ q₀ i₀ o q i = n - i
@@ -42,15 +43,20 @@ at-requires c κs =
 
 shared-slice-read-read : tie.Need-shared-slice-read-read Inv-loop μ-loop
 shared-slice-read-read c =
-    let pre = c .before .before .before .before .before .before .before .before .pre in
+    let at-pre = c .before .before .before .before .before .before .before .before in
+    let pre = at-pre .pre in
     omega (arith, pre .long)
 
 read-requires : tie.Need-read-requires Inv-loop μ-loop
 read-requires c κs =
-    let pre = c .before .before .before .before .before .before .before .before .pre in
-    let loop-test = c .before .before .loop-test in
-    let loop = c .before .before .before .loop in
-    to-read _ _ _ _ pre _ _ _ (loop-test .taken) (c .before .at .ensures) (loop .inv .3) (loop .inv .4) (loop .inv .5)
+    let at-at = c .before in
+    let at-loop-test = at-at .before in
+    let at-loop = at-loop-test .before in
+    let at-pre = at-loop .before .before .before .before .before in
+    let pre = at-pre .pre in
+    let loop-test = at-loop-test .loop-test in
+    let loop = at-loop .loop in
+    to-read _ _ _ _ pre _ _ _ (loop-test .taken) (at-at .at .ensures) (loop .inv .3) (loop .inv .4) (loop .inv .5)
 
 returns : tie.Need-returns Inv-loop μ-loop
 returns c =
@@ -66,16 +72,21 @@ loop-less c = search needs
 
 loop-again : tie.Need-loop-again Inv-loop μ-loop
 loop-again c =
-    let read = c .before .before .read in
-    let pre = c .before .before .before .before .before .before .before .before .before .before .before .pre in
-    let loop = c .before .before .before .before .before .before .loop in
-    let at = c .before .before .before .before .at in
+    let at-read = c .before .before in
+    let at-at = at-read .before .before in
+    let at-loop = at-at .before .before in
+    let at-pre = at-loop .before .before .before .before .before in
+    let read = at-read .read in
+    let pre = at-pre .pre in
+    let loop = at-loop .loop in
+    let at = at-at .at in
     let on = read-goes-on _ _ _ (read .ensures .0) (pre .sizes) (pre .pairs) (omega arith) (c .if1 .left) in (
       search needs,
       first-goes-on _ _ (loop .inv .1) (on .0),
       owner-passed _ _ (at .ensures),
       c .if1 .left,
-      read .ensures .1,
+      read .ensures
+          .1,
       on .1,
     )
 

@@ -30,29 +30,44 @@ fault-requires-2 c κs = search needs
 
 returns-2 : tie.Need-returns-2
 returns-2 c =
-    let pre = c .before .before .before .before .before .before .before .before .before .pre in
-    let op-at = c .before .before .before .before .before .before .before .op-at in
-    let arg-at = c .before .before .before .before .before .before .arg-at in
-    let closes = c .before .before .closes in
+    let at-if2 = c .before in
+    let at-closes = at-if2 .before in
+    let at-arg-at = at-closes .before .before .before .before in
+    let at-op-at = at-arg-at .before in
+    let at-pre = at-op-at .before .before in
+    let pre = at-pre .pre in
+    let op-at = at-op-at .op-at in
+    let arg-at = at-arg-at .arg-at in
+    let closes = at-closes .closes in
     let last = read-last _ _ _ _ _ _ pre _ _ _ (op-at .ensures .0) (arg-at .ensures .0) (closes .ensures) in
-    (c .fault2 .ensures .0 ∙ last (c .before .if2 .taken), c .fault2 .ensures .1)
+    (c .fault2 .ensures .0 ∙ last (at-if2 .if2 .taken), c .fault2 .ensures .1)
 
 step-requires : tie.Need-step-requires
 step-requires c κs =
-    let pre = c .before .before .before .before .before .before .before .before .pre in
-    let op-at = c .before .before .before .before .before .before .op-at in
-    let arg-at = c .before .before .before .before .before .arg-at in
-    ready _ _ _ _ _ _ pre _ _ _ (op-at .ensures .0) (arg-at .ensures .0) (c .before .closes .ensures)
+    let at-closes = c .before in
+    let at-arg-at = at-closes .before .before .before .before in
+    let at-op-at = at-arg-at .before in
+    let at-pre = at-op-at .before .before in
+    let pre = at-pre .pre in
+    let op-at = at-op-at .op-at in
+    let arg-at = at-arg-at .arg-at in
+    ready _ _ _ _ _ _ pre _ _ _ (op-at .ensures .0) (arg-at .ensures .0) (at-closes .closes .ensures)
 
 returns-3 : tie.Need-returns-3
 returns-3 c =
-    let pre = c .before .before .before .before .before .before .before .before .before .pre in
-    let op-at = c .before .before .before .before .before .before .before .op-at in
-    let arg-at = c .before .before .before .before .before .before .arg-at in
-    let closes = c .before .before .closes in
-    let if1 = c .before .before .before .before .if1 in
+    let at-if2 = c .before in
+    let at-closes = at-if2 .before in
+    let at-if1 = at-closes .before .before in
+    let at-arg-at = at-if1 .before .before in
+    let at-op-at = at-arg-at .before in
+    let at-pre = at-op-at .before .before in
+    let pre = at-pre .pre in
+    let op-at = at-op-at .op-at in
+    let arg-at = at-arg-at .arg-at in
+    let closes = at-closes .closes in
+    let if1 = at-if1 .if1 in
     let steps = read-steps _ _ _ _ _ _ pre _ _ _ (op-at .ensures .0) (arg-at .ensures .0) (closes .ensures) in
-    (c .step .ensures .0 ∙ steps (if1 .left) (c .before .if2 .left), c .step .ensures .1)
+    (c .step .ensures .0 ∙ steps (if1 .left) (at-if2 .if2 .left), c .step .ensures .1)
 
 pub read-spec : {M : Type 1} → statement M
 read-spec =

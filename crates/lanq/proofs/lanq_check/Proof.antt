@@ -67,39 +67,93 @@ refusal-requires-9 c κs = search needs
 
 returns : tie.Need-returns
 unfolding checkAnswer verdictOf
-returns c = answered (c .before .before .before .ask .result) Accepted (questions (c .before .before .before .before .before .before .before .args .program .now) (c .before .before .before .before .before .before .before .args .schedule .now) (c .before .before .before .before .before .before .before .args .outcomes .now) (c .before .before .before .before .before .before .before .args .work)) (c .before .enum-told .given .1) (c .before .before .before .ask .ensures) (c .refusal .ensures)
+returns c =
+    let at-enum-told = c .before in
+    let at-ask = at-enum-told .before .before in
+    let args = at-ask .before .before .before .before .args in
+    answered (at-ask .ask .result) Accepted
+    (questions (args .program .now) (args .schedule .now) (args .outcomes .now) (args .work))
+    (at-enum-told .enum-told .given .1) (at-ask .ask .ensures) (c .refusal .ensures)
 
 returns-2 : tie.Need-returns-2
 unfolding checkAnswer verdictOf
-returns-2 c = answered (c .before .before .before .ask .result) Sizes (questions (c .before .before .before .before .before .before .before .args .program .now) (c .before .before .before .before .before .before .before .args .schedule .now) (c .before .before .before .before .before .before .before .args .outcomes .now) (c .before .before .before .before .before .before .before .args .work)) (c .before .enum-told2 .given .1) (c .before .before .before .ask .ensures) (c .refusal2 .ensures)
+returns-2 c =
+    let at-enum-told2 = c .before in
+    let at-ask = at-enum-told2 .before .before in
+    let args = at-ask .before .before .before .before .args in
+    answered (at-ask .ask .result) Sizes
+    (questions (args .program .now) (args .schedule .now) (args .outcomes .now) (args .work))
+    (at-enum-told2 .enum-told2 .given .1) (at-ask .ask .ensures) (c .refusal2 .ensures)
 
 returns-3 : tie.Need-returns-3
 unfolding checkAnswer verdictOf
-returns-3 c = answered (c .before .before .before .before .ask .result) (Pairs _) (questions (c .before .before .before .before .before .before .before .before .args .program .now) (c .before .before .before .before .before .before .before .before .args .schedule .now) (c .before .before .before .before .before .before .before .before .args .outcomes .now) (c .before .before .before .before .before .before .before .before .args .work)) (c .before .before .answer .given .1) (c .before .before .before .before .ask .ensures) (c .refusal3 .ensures)
+returns-3 c =
+    let at-answer = c .before .before in
+    let at-ask = at-answer .before .before in
+    let args = at-ask .before .before .before .before .args in
+    answered (at-ask .ask .result) (Pairs _)
+    (questions (args .program .now) (args .schedule .now) (args .outcomes .now) (args .work))
+    (at-answer .answer .given .1) (at-ask .ask .ensures) (c .refusal3 .ensures)
 
 returns-4 : tie.Need-returns-4
 unfolding checkAnswer verdictOf
-returns-4 c = answered (c .before .before .before .before .ask .result) (Rows _) (questions (c .before .before .before .before .before .before .before .before .args .program .now) (c .before .before .before .before .before .before .before .before .args .schedule .now) (c .before .before .before .before .before .before .before .before .args .outcomes .now) (c .before .before .before .before .before .before .before .before .args .work)) (c .before .before .answer2 .given .1) (c .before .before .before .before .ask .ensures) (c .refusal4 .ensures)
+returns-4 c =
+    let at-answer2 = c .before .before in
+    let at-ask = at-answer2 .before .before in
+    let args = at-ask .before .before .before .before .args in
+    answered (at-ask .ask .result) (Rows _)
+    (questions (args .program .now) (args .schedule .now) (args .outcomes .now) (args .work))
+    (at-answer2 .answer2 .given .1) (at-ask .ask .ensures) (c .refusal4 .ensures)
 
 returns-5 : tie.Need-returns-5
 unfolding checkAnswer verdictOf
-returns-5 c = answered (c .before .before .before .before .ask .result) (Instruction _) (questions (c .before .before .before .before .before .before .before .before .args .program .now) (c .before .before .before .before .before .before .before .before .args .schedule .now) (c .before .before .before .before .before .before .before .before .args .outcomes .now) (c .before .before .before .before .before .before .before .before .args .work)) (c .before .before .answer3 .given .1) (c .before .before .before .before .ask .ensures) (c .refusal5 .ensures)
+returns-5 c =
+    let at-answer3 = c .before .before in
+    let at-ask = at-answer3 .before .before in
+    let args = at-ask .before .before .before .before .args in
+    answered (at-ask .ask .result) (Instruction _)
+    (questions (args .program .now) (args .schedule .now) (args .outcomes .now) (args .work))
+    (at-answer3 .answer3 .given .1) (at-ask .ask .ensures) (c .refusal5 .ensures)
 
 returns-6 : tie.Need-returns-6
 unfolding checkAnswer verdictOf
-returns-6 c = answered (c .before .before .before .before .ask .result) (Reading _) (questions (c .before .before .before .before .before .before .before .before .args .program .now) (c .before .before .before .before .before .before .before .before .args .schedule .now) (c .before .before .before .before .before .before .before .before .args .outcomes .now) (c .before .before .before .before .before .before .before .before .args .work)) (c .before .before .answer4 .given .1) (c .before .before .before .before .ask .ensures) (c .refusal6 .ensures)
+returns-6 c =
+    let at-answer4 = c .before .before in
+    let at-ask = at-answer4 .before .before in
+    let args = at-ask .before .before .before .before .args in
+    answered (at-ask .ask .result) (Reading _)
+    (questions (args .program .now) (args .schedule .now) (args .outcomes .now) (args .work))
+    (at-answer4 .answer4 .given .1) (at-ask .ask .ensures) (c .refusal6 .ensures)
 
 returns-7 : tie.Need-returns-7
 unfolding checkAnswer verdictOf
-returns-7 c = answered (c .before .before .before .before .ask .result) (Outcome _) (questions (c .before .before .before .before .before .before .before .before .args .program .now) (c .before .before .before .before .before .before .before .before .args .schedule .now) (c .before .before .before .before .before .before .before .before .args .outcomes .now) (c .before .before .before .before .before .before .before .before .args .work)) (c .before .before .answer5 .given .1) (c .before .before .before .before .ask .ensures) (c .refusal7 .ensures)
+returns-7 c =
+    let at-answer5 = c .before .before in
+    let at-ask = at-answer5 .before .before in
+    let args = at-ask .before .before .before .before .args in
+    answered (at-ask .ask .result) (Outcome _)
+    (questions (args .program .now) (args .schedule .now) (args .outcomes .now) (args .work))
+    (at-answer5 .answer5 .given .1) (at-ask .ask .ensures) (c .refusal7 .ensures)
 
 returns-8 : tie.Need-returns-8
 unfolding checkAnswer verdictOf
-returns-8 c = answered (c .before .before .before .ask .result) Schedule (questions (c .before .before .before .before .before .before .before .args .program .now) (c .before .before .before .before .before .before .before .args .schedule .now) (c .before .before .before .before .before .before .before .args .outcomes .now) (c .before .before .before .before .before .before .before .args .work)) (c .before .enum-told3 .given .1) (c .before .before .before .ask .ensures) (c .refusal8 .ensures)
+returns-8 c =
+    let at-enum-told3 = c .before in
+    let at-ask = at-enum-told3 .before .before in
+    let args = at-ask .before .before .before .before .args in
+    answered (at-ask .ask .result) Schedule
+    (questions (args .program .now) (args .schedule .now) (args .outcomes .now) (args .work))
+    (at-enum-told3 .enum-told3 .given .1) (at-ask .ask .ensures) (c .refusal8 .ensures)
 
 returns-9 : tie.Need-returns-9
 unfolding checkAnswer verdictOf
-returns-9 c = answered (c .before .before .before .ask .result) Work (questions (c .before .before .before .before .before .before .before .args .program .now) (c .before .before .before .before .before .before .before .args .schedule .now) (c .before .before .before .before .before .before .before .args .outcomes .now) (c .before .before .before .before .before .before .before .args .work)) (c .before .enum-told4 .given .1) (c .before .before .before .ask .ensures) (c .refusal9 .ensures)
+returns-9 c =
+    let at-enum-told4 = c .before in
+    let at-ask = at-enum-told4 .before .before in
+    let args = at-ask .before .before .before .before .args in
+    answered (at-ask .ask .result) Work
+    (questions (args .program .now) (args .schedule .now) (args .outcomes .now) (args .work))
+    (at-enum-told4 .enum-told4 .given .1) (at-ask .ask .ensures) (c .refusal9 .ensures)
 
 pub lanq-check-spec : {M : Type 1} → statement M
 lanq-check-spec =

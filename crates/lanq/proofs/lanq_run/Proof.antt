@@ -44,7 +44,17 @@ same-length-2 c = search needs
 
 returns : tie.Need-returns
 unfolding runAnswer answerNumbers
-returns c = (ran (c .before .before .before .before .before .before .before .before .run .result) (Refused _ _) (answerOf (c .before .before .before .before .before .before .before .before .before .before .before .before .before .before .before .before .args .program .now) (c .before .before .before .before .before .before .before .before .before .before .before .before .before .before .before .before .args .schedule .now) (c .before .before .before .before .before .before .before .before .before .before .before .before .before .before .before .before .args .outcomes .now) (linesIn (length (c .before .before .before .before .before .before .before .before .before .before .before .before .before .before .before .before .args .trace .now))) (length (c .before .before .before .before .before .before .before .before .before .before .before .before .before .before .before .before .args .work .now))) (c .before .before .answer .given .1) (c .before .before .before .before .before .before .before .before .run .ensures .0) (c .refusal .ensures), c .before .before .before .before .before .before .before .before .run .ensures .1, c .before .before .before .before .before .before .before .before .run .ensures .2)
+returns c =
+    let at-answer = c .before .before in
+    let at-run = at-answer .before .before .before .before .before .before in
+    let args = at-run .before .before .before .before .before .before .before .before .args in (
+      ran (at-run .run .result) (Refused _ _)
+          (answerOf (args .program .now) (args .schedule .now) (args .outcomes .now) (linesIn (length (args .trace .now)))
+          (length (args .work .now))) (at-answer .answer .given .1) (at-run .run .ensures .0) (c .refusal .ensures),
+      at-run
+          .run .ensures .1,
+      at-run .run .ensures .2,
+    )
 
 same-length-3 : tie.Need-same-length-3
 same-length-3 c = search needs
@@ -54,7 +64,17 @@ same-length-4 c = search needs
 
 returns-2 : tie.Need-returns-2
 unfolding runAnswer answerNumbers
-returns-2 c = (ran (c .before .before .before .before .before .before .before .before .run .result) (Ran _ _ _ _) (answerOf (c .before .before .before .before .before .before .before .before .before .before .before .before .before .before .before .before .args .program .now) (c .before .before .before .before .before .before .before .before .before .before .before .before .before .before .before .before .args .schedule .now) (c .before .before .before .before .before .before .before .before .before .before .before .before .before .before .before .before .args .outcomes .now) (linesIn (length (c .before .before .before .before .before .before .before .before .before .before .before .before .before .before .before .before .args .trace .now))) (length (c .before .before .before .before .before .before .before .before .before .before .before .before .before .before .before .before .args .work .now))) (c .before .before .answer2 .given .1) (c .before .before .before .before .before .before .before .before .run .ensures .0) (c .ended .ensures), c .before .before .before .before .before .before .before .before .run .ensures .1, c .before .before .before .before .before .before .before .before .run .ensures .2)
+returns-2 c =
+    let at-answer2 = c .before .before in
+    let at-run = at-answer2 .before .before .before .before .before .before in
+    let args = at-run .before .before .before .before .before .before .before .before .args in (
+      ran (at-run .run .result) (Ran _ _ _ _)
+          (answerOf (args .program .now) (args .schedule .now) (args .outcomes .now) (linesIn (length (args .trace .now)))
+          (length (args .work .now))) (at-answer2 .answer2 .given .1) (at-run .run .ensures .0) (c .ended .ensures),
+      at-run
+          .run .ensures .1,
+      at-run .run .ensures .2,
+    )
 
 pub lanq-run-spec : {M : Type 1} → statement M
 lanq-run-spec =

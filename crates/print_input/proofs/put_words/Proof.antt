@@ -14,7 +14,8 @@ use Rattle.print_input.proofs.put_words.Statement.{statement}
 use Rattle.print_input.proofs.put_words.Tie as tie
 
 abbrev Inv-loop : tie.InvT-loop
-Inv-loop bytes from n words₀ start k i₀ words i = (i ≤ k) × (words ≡ putFrom words₀ 0 (take i (wordsOf (part bytes from n))))
+Inv-loop bytes from n words₀ start k i₀ words i =
+    (i ≤ k) × (words ≡ putFrom words₀ 0 (take i (wordsOf (part bytes from n))))
 
 abbrev μ-loop : tie.MeasureT-loop
 μ-loop bytes from n words₀ start k i₀ words i = k - i
@@ -55,15 +56,18 @@ loop-less c = search needs
 
 loop-again : tie.Need-loop-again Inv-loop μ-loop
 loop-again c =
-    let args = c .before .before .before .before .before .before .before .before .before .before .args in
-    let loop = c .before .before .before .before .before .before .loop in
+    let at-put-word = c .before .before in
+    let at-two-at = at-put-word .before in
+    let at-loop = at-two-at .before .before .before in
+    let args = at-loop .before .before .before .before .args in
+    let loop = at-loop .loop in
     let l = args .bytes .now in
     let ws = wordsOf (part l (args .from) (args .n)) in
     let inside : loop .i < length ws = omega arith in (
       search needs,
-      c .before .before .put-word .ensures
+      at-put-word .put-word .ensures
           ∙ ap₂ (λ (w : List ℕ) (x : ℕ). set w (loop .i) x) (loop .inv .1)
-          (c .before .before .before .two-at .ensures ∙ sym (part-word l (args .from) (args .n) (loop .i) inside))
+          (at-two-at .two-at .ensures ∙ sym (part-word l (args .from) (args .n) (loop .i) inside))
           ∙ sym (putFrom-next (args .words .now) ws (loop .i) inside),
     )
 

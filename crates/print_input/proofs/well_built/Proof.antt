@@ -33,9 +33,15 @@ add-adjacent-3 c = search needs
 
 returns : tie.Need-returns
 returns c =
-    wellBuilt-by (c .before .before .before .before .before .before .before .args .bytes .now)
-    (c .before .before .before .before .before .number-at .ensures .0) (c .before .before .before .before .number-at2 .ensures .0) (c .before .before .before .number-at3 .ensures .0)
-    (c .before .before .number-at4 .ensures .0) (c .before .number-at5 .ensures .0) (c .number-at6 .ensures .0)
+    let at-number-at5 = c .before in
+    let at-number-at4 = at-number-at5 .before in
+    let at-number-at3 = at-number-at4 .before in
+    let at-number-at2 = at-number-at3 .before in
+    let at-number-at = at-number-at2 .before in
+    let args = at-number-at .before .before .args in
+    wellBuilt-by (args .bytes .now) (at-number-at .number-at .ensures .0) (at-number-at2 .number-at2 .ensures .0)
+    (at-number-at3 .number-at3 .ensures .0) (at-number-at4 .number-at4 .ensures .0)
+    (at-number-at5 .number-at5 .ensures .0) (c .number-at6 .ensures .0)
 
 pub well-built-spec : {M : Type 1} → statement M
 well-built-spec =

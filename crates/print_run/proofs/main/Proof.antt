@@ -32,7 +32,9 @@ array-share-prefix-out c =
 
 slice-aggregate-write-all : tie.Need-slice-aggregate-write-all
 slice-aggregate-write-all c =
-    sym (length-take-le _ _ (text-fits _ (replicate 524288 0) (length-replicate {A = ℕ} 524288 0) (c .before .before .print-text .ensures)))
+    sym
+    (length-take-le _ _
+    (text-fits _ (replicate 524288 0) (length-replicate {A = ℕ} 524288 0) (c .before .before .print-text .ensures)))
 
 write-all-requires : tie.Need-write-all-requires
 write-all-requires c κs = search needs

@@ -18,9 +18,13 @@ same-length c = search needs
 
 returns : tie.Need-returns
 returns c =
-    let args = c .before .before .before .before .before .before .before .before .args in
-    prints-same (args .out .now) (printed-refusal (args .file .now) (sym (c .before .before .before .before .before .well-built .ensures) ∙ not-true _ (c .before .before .before .before .if1 .taken)))
-    (from-start (args .out .now) _ (c .before .before .put-refused .ensures))
+    let at-put-refused = c .before .before in
+    let at-if1 = at-put-refused .before .before in
+    let at-well-built = at-if1 .before in
+    let args = at-well-built .before .before .before .args in
+    prints-same (args .out .now)
+    (printed-refusal (args .file .now) (sym (at-well-built .well-built .ensures) ∙ not-true _ (at-if1 .if1 .taken)))
+    (from-start (args .out .now) _ (at-put-refused .put-refused .ensures))
 
 put-parts-requires : tie.Need-put-parts-requires
 put-parts-requires c κs = sym (c .before .before .well-built .ensures) ∙ not-false _ (c .before .if1 .left)
@@ -30,8 +34,13 @@ same-length-2 c = search needs
 
 returns-2 : tie.Need-returns-2
 returns-2 c =
-    let args = c .before .before .before .before .before .before .before .before .args in
-    prints-same (args .out .now) (printed-run (args .file .now) (sym (c .before .before .before .before .before .well-built .ensures) ∙ not-false _ (c .before .before .before .before .if1 .left))) (c .before .before .put-parts .ensures)
+    let at-put-parts = c .before .before in
+    let at-if1 = at-put-parts .before .before in
+    let at-well-built = at-if1 .before in
+    let args = at-well-built .before .before .before .args in
+    prints-same (args .out .now)
+    (printed-run (args .file .now) (sym (at-well-built .well-built .ensures) ∙ not-false _ (at-if1 .if1 .left)))
+    (at-put-parts .put-parts .ensures)
 
 pub print-text-spec : {M : Type 1} → statement M
 print-text-spec =

@@ -35,48 +35,72 @@ number-at-requires-4 c κs = search needs
 
 array-share-prefix-words : tie.Need-array-share-prefix-words
 array-share-prefix-words c =
-    let file = c .before .before .before .before .before .before .before .before .before .args .file .now in
-    let b = built file (c .before .before .before .before .before .before .before .before .before .pre) in
-    words-fit file b (replicate 32768 0) (length-replicate {A = ℕ} 32768 0) (c .before .before .before .before .before .before .number-at .result) (c .before .before .before .before .before .number-at2 .result)
-    (c .before .before .before .put-words .ensures .0) (c .before .before .before .put-words .ensures .1)
+    let at-put-words = c .before .before .before in
+    let at-number-at2 = at-put-words .before .before in
+    let at-number-at = at-number-at2 .before in
+    let at-args = at-number-at .before .before .before in
+    let file = at-args .args .file .now in
+    let b = built file (at-args .pre) in
+    words-fit file b (replicate 32768 0) (length-replicate {A = ℕ} 32768 0) (at-number-at .number-at .result)
+    (at-number-at2 .number-at2 .result) (at-put-words .put-words .ensures .0) (at-put-words .put-words .ensures .1)
 
 slice-aggregate-put-run : tie.Need-slice-aggregate-put-run
 slice-aggregate-put-run c =
-    let file = c .before .before .before .before .before .before .before .before .before .before .args .file .now in
-    let b = built file (c .before .before .before .before .before .before .before .before .before .before .pre) in
-    sym (length-take-le _ _
-    (words-fit file b (replicate 32768 0) (length-replicate {A = ℕ} 32768 0) (c .before .before .before .before .before .before .before .number-at .result) (c .before .before .before .before .before .before .number-at2 .result)
-    (c .before .before .before .before .put-words .ensures .0) (c .before .before .before .before .put-words .ensures .1)))
+    let at-put-words = c .before .before .before .before in
+    let at-number-at2 = at-put-words .before .before in
+    let at-number-at = at-number-at2 .before in
+    let at-args = at-number-at .before .before .before in
+    let file = at-args .args .file .now in
+    let b = built file (at-args .pre) in
+    sym
+    (length-take-le _ _
+    (words-fit file b (replicate 32768 0) (length-replicate {A = ℕ} 32768 0) (at-number-at .number-at .result)
+    (at-number-at2 .number-at2 .result) (at-put-words .put-words .ensures .0) (at-put-words .put-words .ensures .1)))
 
 sub-put-run : tie.Need-sub-put-run
 sub-put-run c =
-    let file = c .before .before .before .before .before .before .before .before .before .before .args .file .now in
-    let b = built file (c .before .before .before .before .before .before .before .before .before .before .pre) in
-    in-order file b (c .before .before .number-at3 .ensures .0) (c .before .number-at4 .ensures .0) .0
+    let at-number-at4 = c .before in
+    let at-number-at3 = at-number-at4 .before in
+    let at-args = at-number-at3 .before .before .before .before .before .before .before .before in
+    let file = at-args .args .file .now in
+    let b = built file (at-args .pre) in
+    in-order file b (at-number-at3 .number-at3 .ensures .0) (at-number-at4 .number-at4 .ensures .0) .0
 
 part-put-run-start : tie.Need-part-put-run-start
 part-put-run-start c =
-    let file = c .before .before .before .before .before .before .before .before .before .before .args .file .now in
-    let b = built file (c .before .before .before .before .before .before .before .before .before .before .pre) in
-    in-order file b (c .before .before .number-at3 .ensures .0) (c .before .number-at4 .ensures .0) .0
+    let at-number-at4 = c .before in
+    let at-number-at3 = at-number-at4 .before in
+    let at-args = at-number-at3 .before .before .before .before .before .before .before .before in
+    let file = at-args .args .file .now in
+    let b = built file (at-args .pre) in
+    in-order file b (at-number-at3 .number-at3 .ensures .0) (at-number-at4 .number-at4 .ensures .0) .0
 
 part-put-run-end : tie.Need-part-put-run-end
 part-put-run-end c =
-    let file = c .before .before .before .before .before .before .before .before .before .before .args .file .now in
-    let b = built file (c .before .before .before .before .before .before .before .before .before .before .pre) in
-    in-order file b (c .before .before .number-at3 .ensures .0) (c .before .number-at4 .ensures .0) .1
+    let at-number-at4 = c .before in
+    let at-number-at3 = at-number-at4 .before in
+    let at-args = at-number-at3 .before .before .before .before .before .before .before .before in
+    let file = at-args .args .file .now in
+    let b = built file (at-args .pre) in
+    in-order file b (at-number-at3 .number-at3 .ensures .0) (at-number-at4 .number-at4 .ensures .0) .1
 
 sub-put-run-2 : tie.Need-sub-put-run-2
 sub-put-run-2 c =
-    let file = c .before .before .before .before .before .before .before .before .before .before .before .args .file .now in
-    let b = built file (c .before .before .before .before .before .before .before .before .before .before .before .pre) in
-    in-order file b (c .before .before .before .number-at3 .ensures .0) (c .before .before .number-at4 .ensures .0) .1
+    let at-number-at4 = c .before .before in
+    let at-number-at3 = at-number-at4 .before in
+    let at-args = at-number-at3 .before .before .before .before .before .before .before .before in
+    let file = at-args .args .file .now in
+    let b = built file (at-args .pre) in
+    in-order file b (at-number-at3 .number-at3 .ensures .0) (at-number-at4 .number-at4 .ensures .0) .1
 
 part-put-run-start-2 : tie.Need-part-put-run-start-2
 part-put-run-start-2 c =
-    let file = c .before .before .before .before .before .before .before .before .before .before .before .args .file .now in
-    let b = built file (c .before .before .before .before .before .before .before .before .before .before .before .pre) in
-    in-order file b (c .before .before .before .number-at3 .ensures .0) (c .before .before .number-at4 .ensures .0) .1
+    let at-number-at4 = c .before .before in
+    let at-number-at3 = at-number-at4 .before in
+    let at-args = at-number-at3 .before .before .before .before .before .before .before .before in
+    let file = at-args .args .file .now in
+    let b = built file (at-args .pre) in
+    in-order file b (at-number-at3 .number-at3 .ensures .0) (at-number-at4 .number-at4 .ensures .0) .1
 
 part-put-run-end-2 : tie.Need-part-put-run-end-2
 part-put-run-end-2 c = search needs
@@ -89,20 +113,26 @@ same-length c = search needs
 
 returns : tie.Need-returns
 returns c =
-    let file = c .before .before .before .before .before .before .before .before .before .before .before .before .before .before .before .before .args .file .now in
-    let b = built file (c .before .before .before .before .before .before .before .before .before .before .before .before .before .before .before .before .pre) in
-    let number-at = c .before .before .before .before .before .before .before .before .before .before .before .before .before .number-at in
-    let number-at2 = c .before .before .before .before .before .before .before .before .before .before .before .before .number-at2 in
-    let number-at3 = c .before .before .before .before .before .before .before .before .number-at3 in
-    let number-at4 = c .before .before .before .before .before .before .before .number-at4 in
-    let put-words = c .before .before .before .before .before .before .before .before .before .before .put-words in
-    prints-same (c .before .before .before .before .before .before .before .before .before .before .before .before .before .before .before .before .args .out .now)
+    let at-put-run = c .before .before in
+    let at-number-at4 = at-put-run .before .before .before .before .before in
+    let at-number-at3 = at-number-at4 .before in
+    let at-put-words = at-number-at3 .before .before in
+    let at-number-at2 = at-put-words .before .before in
+    let at-number-at = at-number-at2 .before in
+    let at-args = at-number-at .before .before .before in
+    let file = at-args .args .file .now in
+    let b = built file (at-args .pre) in
+    let number-at = at-number-at .number-at in
+    let number-at2 = at-number-at2 .number-at2 in
+    let number-at3 = at-number-at3 .number-at3 in
+    let number-at4 = at-number-at4 .number-at4 in
+    let put-words = at-put-words .put-words in
+    prints-same (at-args .args .out .now)
     (parts-text
     (words-read file b (replicate 32768 0) (length-replicate {A = ℕ} 32768 0) (number-at .result) (number-at2 .result)
     (put-words .ensures .0) (put-words .ensures .1) (number-at .ensures .0) (number-at2 .ensures .0))
     (schedule-read file b (number-at3 .ensures .0) (number-at4 .ensures .0))
-    (outcomes-read file b (number-at4 .ensures .0)))
-    (c .before .before .put-run .ensures)
+    (outcomes-read file b (number-at4 .ensures .0))) (at-put-run .put-run .ensures)
 
 pub put-parts-spec : {M : Type 1} → statement M
 put-parts-spec =

@@ -21,9 +21,12 @@ slice-aggregate-put-answer c = search needs
 
 put-answer-requires : tie.Need-put-answer-requires
 put-answer-requires c κs =
-    let args = c .before .before .before .before .before .before .before .before .before .before .before .args in
-    let t = printable (args .program .now) (args .schedule .now) (args .outcomes .now) (replicate 24576 0) (replicate 8192 0)
-    (length-replicate {A = ℕ} 24576 0) (length-replicate {A = ℕ} 8192 0) (c .before .before .before .before .run .ensures .0) (c .before .before .before .before .run .ensures .1) in
+    let at-run = c .before .before .before .before in
+    let args = at-run .before .before .before .before .before .before .before .args in
+    let t =
+    printable (args .program .now) (args .schedule .now) (args .outcomes .now) (replicate 24576 0)
+    (replicate 8192 0) (length-replicate {A = ℕ} 24576 0) (length-replicate {A = ℕ} 8192 0)
+    (at-run .run .ensures .0) (at-run .run .ensures .1) in
     (t .held, omega (arith, t .few))
 
 same-length : tie.Need-same-length
@@ -31,10 +34,14 @@ same-length c = search needs
 
 returns : tie.Need-returns
 returns c =
-    let args = c .before .before .before .before .before .before .before .before .before .before .before .before .before .before .args in
-    let t = printable (args .program .now) (args .schedule .now) (args .outcomes .now) (replicate 24576 0) (replicate 8192 0)
-    (length-replicate {A = ℕ} 24576 0) (length-replicate {A = ℕ} 8192 0) (c .before .before .before .before .before .before .before .run .ensures .0) (c .before .before .before .before .before .before .before .run .ensures .1) in
-    prints-same (args .out .now) (t .text) (c .before .before .put-answer .ensures)
+    let at-put-answer = c .before .before in
+    let at-run = at-put-answer .before .before .before .before .before in
+    let args = at-run .before .before .before .before .before .before .before .args in
+    let t =
+    printable (args .program .now) (args .schedule .now) (args .outcomes .now) (replicate 24576 0)
+    (replicate 8192 0) (length-replicate {A = ℕ} 24576 0) (length-replicate {A = ℕ} 8192 0)
+    (at-run .run .ensures .0) (at-run .run .ensures .1) in
+    prints-same (args .out .now) (t .text) (at-put-answer .put-answer .ensures)
 
 pub put-run-spec : {M : Type 1} → statement M
 put-run-spec =

@@ -13,10 +13,21 @@ verdict-requires c κs = search needs
 
 returns : tie.Need-returns
 unfolding answerNumbers
-returns c = refuses (c .before .before .before .before .before .before .before .before .before .args .program .now) (c .before .before .before .before .before .before .before .before .before .args .schedule .now) (c .before .before .before .before .before .before .before .before .before .args .outcomes .now) (c .before .before .before .before .before .before .before .before .before .args .trace .now) (c .before .before .before .before .before .before .before .before .before .args .work .now) (c .before .before .before .ask .result) (c .before .before .before .ask .ensures) (c .before .before .verdict .ensures) (c .if1 .taken)
+returns c =
+    let at-verdict = c .before .before in
+    let at-ask = at-verdict .before in
+    let args = at-ask .before .before .before .before .before .before .args in
+    refuses (args .program .now) (args .schedule .now) (args .outcomes .now) (args .trace .now) (args .work .now)
+    (at-ask .ask .result) (at-ask .ask .ensures) (at-verdict .verdict .ensures) (c .if1 .taken)
 
 accepted-run-requires : tie.Need-accepted-run-requires
-accepted-run-requires c κs = accepts (c .before .before .before .before .before .before .before .before .before .before .before .args .program .now) (c .before .before .before .before .before .before .before .before .before .before .before .args .schedule .now) (c .before .before .before .before .before .before .before .before .before .before .before .args .outcomes .now) (c .before .before .before .before .before .before .before .before .before .before .before .args .trace .now) (c .before .before .before .before .before .before .before .before .before .before .before .args .work .now) (c .before .before .before .before .before .ask .result) (c .before .before .before .before .before .ask .ensures) (c .before .before .before .before .verdict .ensures) (c .before .before .if1 .left)
+accepted-run-requires c κs =
+    let at-if1 = c .before .before in
+    let at-verdict = at-if1 .before .before in
+    let at-ask = at-verdict .before in
+    let args = at-ask .before .before .before .before .before .before .args in
+    accepts (args .program .now) (args .schedule .now) (args .outcomes .now) (args .trace .now) (args .work .now)
+    (at-ask .ask .result) (at-ask .ask .ensures) (at-verdict .verdict .ensures) (at-if1 .if1 .left)
 
 same-length : tie.Need-same-length
 same-length c = search needs
@@ -26,7 +37,16 @@ same-length-2 c = search needs
 
 returns-2 : tie.Need-returns-2
 unfolding answerNumbers
-returns-2 c = ran-so (c .before .before .before .before .before .before .before .before .before .before .before .before .before .before .before .before .args .program .now) (c .before .before .before .before .before .before .before .before .before .before .before .before .before .before .before .before .args .schedule .now) (c .before .before .before .before .before .before .before .before .before .before .before .before .before .before .before .before .args .outcomes .now) (c .before .before .before .before .before .before .before .before .before .before .before .before .before .before .before .before .args .trace .now) (c .before .before .before .before .before .before .before .before .before .before .before .before .before .before .before .before .args .work .now) (accepts (c .before .before .before .before .before .before .before .before .before .before .before .before .before .before .before .before .args .program .now) (c .before .before .before .before .before .before .before .before .before .before .before .before .before .before .before .before .args .schedule .now) (c .before .before .before .before .before .before .before .before .before .before .before .before .before .before .before .before .args .outcomes .now) (c .before .before .before .before .before .before .before .before .before .before .before .before .before .before .before .before .args .trace .now) (c .before .before .before .before .before .before .before .before .before .before .before .before .before .before .before .before .args .work .now) (c .before .before .before .before .before .before .before .before .before .before .ask .result) (c .before .before .before .before .before .before .before .before .before .before .ask .ensures) (c .before .before .before .before .before .before .before .before .before .verdict .ensures) (c .before .before .before .before .before .before .before .if1 .left)) (c .before .before .before .before .accepted-run .ensures)
+returns-2 c =
+    let at-accepted-run = c .before .before .before .before in
+    let at-if1 = at-accepted-run .before .before .before in
+    let at-verdict = at-if1 .before .before in
+    let at-ask = at-verdict .before in
+    let args = at-ask .before .before .before .before .before .before .args in
+    ran-so (args .program .now) (args .schedule .now) (args .outcomes .now) (args .trace .now) (args .work .now)
+    (accepts (args .program .now) (args .schedule .now) (args .outcomes .now) (args .trace .now) (args .work .now)
+    (at-ask .ask .result) (at-ask .ask .ensures) (at-verdict .verdict .ensures) (at-if1 .if1 .left))
+    (at-accepted-run .accepted-run .ensures)
 
 pub run-spec : {M : Type 1} → statement M
 run-spec =

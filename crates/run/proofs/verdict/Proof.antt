@@ -67,31 +67,52 @@ returns c = refused-as (c .before .before .before .args .c) Accepted (c .before 
 
 returns-2 : tie.Need-returns-2
 unfolding refusalOf verdictOf
-returns-2 c = refused-as (c .before .before .before .args .c) Sizes (c .before .enum-told2 .given .1) (c .said2 .ensures)
+returns-2 c =
+    let at-enum-told2 = c .before in
+    let args = at-enum-told2 .before .before .args in
+    refused-as (args .c) Sizes (at-enum-told2 .enum-told2 .given .1) (c .said2 .ensures)
 
 returns-3 : tie.Need-returns-3
 unfolding refusalOf verdictOf
-returns-3 c = refused-as (c .before .before .before .before .args .c) (Pairs _) (c .before .before .c .given .1) (c .said3 .ensures)
+returns-3 c =
+    let at-c = c .before .before in
+    let args = at-c .before .before .args in
+    refused-as (args .c) (Pairs _) (at-c .c .given .1) (c .said3 .ensures)
 
 returns-4 : tie.Need-returns-4
 unfolding refusalOf verdictOf
-returns-4 c = refused-as (c .before .before .before .before .args .c) (Rows _) (c .before .before .c2 .given .1) (c .said4 .ensures)
+returns-4 c =
+    let at-c2 = c .before .before in
+    let args = at-c2 .before .before .args in
+    refused-as (args .c) (Rows _) (at-c2 .c2 .given .1) (c .said4 .ensures)
 
 returns-5 : tie.Need-returns-5
 unfolding refusalOf verdictOf
-returns-5 c = refused-as (c .before .before .before .before .args .c) (Instruction _) (c .before .before .c3 .given .1) (c .said5 .ensures)
+returns-5 c =
+    let at-c3 = c .before .before in
+    let args = at-c3 .before .before .args in
+    refused-as (args .c) (Instruction _) (at-c3 .c3 .given .1) (c .said5 .ensures)
 
 returns-6 : tie.Need-returns-6
 unfolding refusalOf verdictOf
-returns-6 c = refused-as (c .before .before .before .before .args .c) (Reading _) (c .before .before .c4 .given .1) (c .said6 .ensures)
+returns-6 c =
+    let at-c4 = c .before .before in
+    let args = at-c4 .before .before .args in
+    refused-as (args .c) (Reading _) (at-c4 .c4 .given .1) (c .said6 .ensures)
 
 returns-7 : tie.Need-returns-7
 unfolding refusalOf verdictOf
-returns-7 c = refused-as (c .before .before .before .before .args .c) (Outcome _) (c .before .before .c5 .given .1) (c .said7 .ensures)
+returns-7 c =
+    let at-c5 = c .before .before in
+    let args = at-c5 .before .before .args in
+    refused-as (args .c) (Outcome _) (at-c5 .c5 .given .1) (c .said7 .ensures)
 
 returns-8 : tie.Need-returns-8
 unfolding refusalOf verdictOf
-returns-8 c = refused-as (c .before .before .before .args .c) Schedule (c .before .enum-told3 .given .1) (c .said8 .ensures)
+returns-8 c =
+    let at-enum-told3 = c .before in
+    let args = at-enum-told3 .before .before .args in
+    refused-as (args .c) Schedule (at-enum-told3 .enum-told3 .given .1) (c .said8 .ensures)
 
 returns-9 : tie.Need-returns-9
 unfolding refusalOf verdictOf

@@ -35,7 +35,17 @@ same-length : tie.Need-same-length
 same-length c = search needs
 
 returns : tie.Need-returns
-returns c = begins (c .before .before .before .before .before .before .before .before .before .before .before .before .before .before .before .before .before .before .args .p .now) (c .before .before .before .before .before .before .before .before .before .before .before .before .before .before .before .before .before .before .args .w .now) (c .before .before .before .before .before .before .before .before .before .before .before .before .before .before .before .before .before .before .args .m) (c .before .before .before .before .before .before .before .before .before .before .before .before .before .read-head .ensures) (c .before .before .before .before .before .before .before .before .before .before .before .before .before .before .before .word-at .ensures .0) (c .before .before .before .before .before .before .before .before .before .before .before .before .start .ensures) (c .before .before .before .before .before .before .before .before .before .before .put-status .ensures) (c .before .before .before .before .before .before .put .ensures) (c .before .before .put-top .ensures)
+returns c =
+    let at-put-top = c .before .before in
+    let at-put = at-put-top .before .before .before .before in
+    let at-put-status = at-put .before .before .before .before in
+    let at-start = at-put-status .before .before in
+    let at-read-head = at-start .before in
+    let at-word-at = at-read-head .before .before in
+    let args = at-word-at .before .before .before .args in
+    begins (args .p .now) (args .w .now) (args .m) (at-read-head .read-head .ensures) (at-word-at .word-at .ensures .0)
+    (at-start .start .ensures) (at-put-status .put-status .ensures) (at-put .put .ensures)
+    (at-put-top .put-top .ensures)
 
 pub begin-spec : {M : Type 1} → statement M
 begin-spec =

@@ -12,10 +12,16 @@ same-length : tie.Need-same-length
 same-length c = search needs
 
 returns : tie.Need-returns
-returns c = thing-given (c .before .before .before .before .before .before .before .args .w .now) (c .before .before .before .before .before .before .before .args .v) (omega (arith, c .before .before .before .before .if1 .taken)) (c .before .before .give-held .ensures)
+returns c =
+    let at-give-held = c .before .before in
+    let at-if1 = at-give-held .before .before in
+    let args = at-if1 .before .before .before .args in
+    thing-given (args .w .now) (args .v) (omega (arith, at-if1 .if1 .taken)) (at-give-held .give-held .ensures)
 
 returns-2 : tie.Need-returns-2
-returns-2 c = no-thing (c .before .before .before .before .before .args .w .now) (c .before .before .before .before .before .args .v) (c .if2 .taken)
+returns-2 c =
+    let args = c .before .before .before .before .before .args in
+    no-thing (args .w .now) (args .v) (c .if2 .taken)
 
 give-thing-requires : tie.Need-give-thing-requires
 give-thing-requires c κs = search needs
@@ -24,7 +30,11 @@ same-length-2 : tie.Need-same-length-2
 same-length-2 c = search needs
 
 returns-3 : tie.Need-returns-3
-returns-3 c = thing-given (c .before .before .before .before .before .before .before .before .before .args .w .now) (c .before .before .before .before .before .before .before .before .before .args .v) (c .before .before .before .before .if2 .left) (c .before .before .give-thing .ensures)
+returns-3 c =
+    let at-give-thing = c .before .before in
+    let at-if2 = at-give-thing .before .before in
+    let args = at-if2 .before .before .before .before .before .args in
+    thing-given (args .w .now) (args .v) (at-if2 .if2 .left) (at-give-thing .give-thing .ensures)
 
 pub give-spec : {M : Type 1} → statement M
 give-spec =

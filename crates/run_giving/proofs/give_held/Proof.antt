@@ -21,7 +21,12 @@ same-length : tie.Need-same-length
 same-length c = search needs
 
 returns : tie.Need-returns
-returns c = qubit-given (c .before .before .before .before .before .before .before .before .args .w .now) (c .before .before .before .before .before .before .before .before .args .v) refl (c .before .before .before .before .before .before .before .before .pre) (c .before .before .before .before .if2 .taken) (c .before .before .give-qubit .ensures)
+returns c =
+    let at-give-qubit = c .before .before in
+    let at-if2 = at-give-qubit .before .before in
+    let at-args = at-if2 .before .before .before .before in
+    qubit-given (at-args .args .w .now) (at-args .args .v) refl (at-args .pre) (at-if2 .if2 .taken)
+    (at-give-qubit .give-qubit .ensures)
 
 give-thing-requires : tie.Need-give-thing-requires
 give-thing-requires c κs = search needs

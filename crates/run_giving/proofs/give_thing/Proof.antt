@@ -28,7 +28,13 @@ same-length c = search needs
 
 returns : tie.Need-returns
 unfolding thingGiven
-returns c = c .before .before .give-away .ensures ∙ ap (λ (h : Head). emptiedBy (c .before .before .before .before .before .before .before .before .args .w .now) (c .before .before .before .before .before .before .before .before .args .v) ((24 * h .frames) % 65536)) (c .before .before .before .before .before .read-head .ensures)
+returns c =
+    let at-give-away = c .before .before in
+    let at-read-head = at-give-away .before .before .before in
+    let args = at-read-head .before .before .before .args in
+    at-give-away .give-away .ensures
+    ∙ ap (λ (h : Head). emptiedBy (args .w .now) (args .v) ((24 * h .frames) % 65536))
+    (at-read-head .read-head .ensures)
 
 pub give-thing-spec : {M : Type 1} → statement M
 give-thing-spec =

@@ -30,10 +30,15 @@ loop-less c = search needs
 
 loop-again : tie.Need-loop-again Inv-loop μ-loop
 loop-again c =
-    let loop = c .before .before .before .before .before .loop in (
+    let at-pop-once = c .before .before in
+    let at-loop = at-pop-once .before .before .before in
+    let args = at-loop .before .before .args in
+    let loop = at-loop .loop in (
       search needs,
-      dropped-more (c .before .before .before .before .before .before .before .args .w .now) (loop .j) (loop .inv .1) (c .before .before .pop-once .ensures),
-      c .before .before .pop-once .kept .0 ∙ loop .inv .2,
+      dropped-more (args .w .now) (loop .j) (loop .inv .1) (at-pop-once .pop-once .ensures),
+      at-pop-once
+          .pop-once .kept .0
+          ∙ loop .inv .2,
     )
 
 same-length : tie.Need-same-length Inv-loop μ-loop

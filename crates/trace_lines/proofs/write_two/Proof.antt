@@ -28,11 +28,14 @@ same-length c = search needs
 returns : tie.Need-returns
 unfolding withLine
 returns c =
-    let i = c .before .before .before .before .before .before .before .before .before .before .args .i in
+    let at-put-six2 = c .before .before in
+    let at-put-six = at-put-six2 .before .before .before .before in
+    let args = at-put-six .before .before .before .before .args in
+    let i = args .i in
     let next : 6 * i + 6 ≡ 6 * (i + 1) = omega arith in
-    c .before .before .put-six2 .ensures
-    ∙ ap (λ (k : ℕ). withSix (c .before .before .before .before .before .before .put-six .last .0) k (c .before .before .before .before .before .before .before .before .before .before .args .m)) next
-    ∙ ap (λ l. withSix l (6 * (i + 1)) (c .before .before .before .before .before .before .before .before .before .before .args .m)) (c .before .before .before .before .before .before .put-six .ensures)
+    at-put-six2 .put-six2 .ensures
+    ∙ ap (λ (k : ℕ). withSix (at-put-six .put-six .last .0) k (args .m)) next
+    ∙ ap (λ l. withSix l (6 * (i + 1)) (args .m)) (at-put-six .put-six .ensures)
 
 write-line-requires : tie.Need-write-line-requires
 write-line-requires c κs = search needs
@@ -47,7 +50,12 @@ same-length-2 : tie.Need-same-length-2
 same-length-2 c = search needs
 
 returns-2 : tie.Need-returns-2
-returns-2 c = c .before .before .write-line2 .ensures ∙ ap (λ l. withLine l (c .before .before .before .before .before .before .before .before .before .before .args .i + 1) (c .before .before .before .before .before .before .before .before .before .before .args .m)) (c .before .before .before .before .before .before .write-line .ensures)
+returns-2 c =
+    let at-write-line2 = c .before .before in
+    let at-write-line = at-write-line2 .before .before .before .before in
+    let args = at-write-line .before .before .before .before .args in
+    at-write-line2 .write-line2 .ensures
+    ∙ ap (λ l. withLine l (args .i + 1) (args .m)) (at-write-line .write-line .ensures)
 
 pub write-two-spec : {M : Type 1} → statement M
 write-two-spec =

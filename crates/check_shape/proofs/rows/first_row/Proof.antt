@@ -38,8 +38,12 @@ row-kept-requires c κs = (cc, search needs)
 
 returns : tie.Need-returns Inv-loop μ-loop
 returns c =
-    let loop = c .before .before .before .loop in
-    sym (first-halts _ _ _ (loop .inv .1) (loop .inv .0) (λ h. sym (c .before .row-kept .ensures) ∙ not-true _ (c .if1 .taken)))
+    let at-row-kept = c .before in
+    let at-loop = at-row-kept .before .before in
+    let loop = at-loop .loop in
+    sym
+    (first-halts _ _ _ (loop .inv .1) (loop .inv .0)
+    (λ h. sym (at-row-kept .row-kept .ensures) ∙ not-true _ (c .if1 .taken)))
 
 add-m : tie.Need-add-m Inv-loop μ-loop
 add-m c = search needs

@@ -14,7 +14,8 @@ use Rattle.check_types.proofs.steps.pass.Tie as tie
 
 abbrev Inv-loop : tie.InvT-loop
 Inv-loop p m at s₀ rest₀ s rest =
-    (s ≤ paramsOf p m) × (takeOffs (reverse (take s (slotTypes p m))) (resultIn rest) ≡ passedTo p m (resultIn rest₀)) × Held rest
+    (s ≤ paramsOf p m) × (takeOffs (reverse (take s (slotTypes p m))) (resultIn rest) ≡ passedTo p m (resultIn rest₀)) ×
+    Held rest
 
 abbrev μ-loop : tie.MeasureT-loop
 μ-loop p m at s₀ rest₀ s rest = s
@@ -63,10 +64,14 @@ loop-less c = search needs
 
 loop-again : tie.Need-loop-again Inv-loop μ-loop
 loop-again c =
-    let pre = c .before .before .before .before .before .before .pre in
-    let loop = c .before .before .before .loop in (
+    let at-word-at2 = c .before in
+    let at-loop = at-word-at2 .before .before in
+    let at-pre = at-loop .before .before .before in
+    let pre = at-pre .pre in
+    let loop = at-loop .loop in (
       search needs,
-      pass-goes-on _ _ _ (pre .0) _ _ _ _ _ (omega arith) (loop .inv .0) (c .before .word-at2 .ensures .0) (c .off .ensures .0) (loop .inv .1),
+      pass-goes-on _ _ _ (pre .0) _ _ _ _ _ (omega arith) (loop .inv .0)
+          (at-word-at2 .word-at2 .ensures .0) (c .off .ensures .0) (loop .inv .1),
       c .off .ensures .1,
     )
 

@@ -136,9 +136,13 @@ returns-3 c =
 returns-4 : tie.Need-returns-4
 unfolding stepped takeOffs ops-opened
 returns-4 c =
-    let args = c .before .before .before .args in
-    let pre = c .before .before .before .pre in
-    (rw (c .before .match .keys4) (c .put .ensures .0 ∙ gives-value (args .q) (pre .few) (_ ∷ []) _), c .put .ensures .1)
+    let at-match = c .before in
+    let at-pre = at-match .before .before in
+    let pre = at-pre .pre in (
+      rw (at-match .match .keys4) (c .put .ensures .0 ∙ gives-value (at-pre .args .q) (pre .few) (_ ∷ []) _),
+      c .put
+          .ensures .1,
+    )
 
 returns-5 : tie.Need-returns-5
 unfolding stepped ops-opened
@@ -164,16 +168,24 @@ returns-7 c =
 returns-8 : tie.Need-returns-8
 unfolding stepped takeOffs stepOf ops-opened
 returns-8 c =
-    let args = c .before .before .before .args in
-    let pre = c .before .before .before .pre in
-    (rw (c .before .match .keys8) (c .new-channel .ensures .0 ∙ gives-value (args .q) (pre .few) [] _), c .new-channel .ensures .1)
+    let at-match = c .before in
+    let at-pre = at-match .before .before in
+    let pre = at-pre .pre in (
+      rw (at-match .match .keys8) (c .new-channel .ensures .0 ∙ gives-value (at-pre .args .q) (pre .few) [] _),
+      c
+          .new-channel .ensures .1,
+    )
 
 returns-9 : tie.Need-returns-9
 unfolding stepped ended ops-opened
 returns-9 c =
-    let args = c .before .before .before .args in
-    let pre = c .before .before .before .pre in
-    (rw (c .before .match .keys9) (c .end .ensures .0 ∙ top-changes (args .q) (pre .few) isChannel endOfChannel refl), c .end .ensures .1)
+    let at-match = c .before in
+    let at-pre = at-match .before .before in
+    let pre = at-pre .pre in (
+      rw (at-match .match .keys9)
+          (c .end .ensures .0 ∙ top-changes (at-pre .args .q) (pre .few) isChannel endOfChannel refl),
+      c .end .ensures .1,
+    )
 
 returns-10 : tie.Need-returns-10
 unfolding stepped ops-opened
@@ -185,9 +197,13 @@ returns-10 c =
 returns-11 : tie.Need-returns-11
 unfolding stepped takeOffs ops-opened
 returns-11 c =
-    let args = c .before .before .before .args in
-    let pre = c .before .before .before .pre in
-    (rw (c .before .match .keys11) (c .one .ensures .0 ∙ gives-value (args .q) (pre .few) (3 ∷ []) 1), c .one .ensures .1)
+    let at-match = c .before in
+    let at-pre = at-match .before .before in
+    let pre = at-pre .pre in (
+      rw (at-match .match .keys11) (c .one .ensures .0 ∙ gives-value (at-pre .args .q) (pre .few) (3 ∷ []) 1),
+      c .one
+          .ensures .1,
+    )
 
 returns-12 : tie.Need-returns-12
 unfolding stepped ops-opened
@@ -224,58 +240,88 @@ returns-15 c =
 returns-16 : tie.Need-returns-16
 unfolding stepped received ops-opened
 returns-16 c =
-    let args = c .before .before .before .args in
-    let pre = c .before .before .before .pre in
-    (rw (c .before .match .keys16) (c .recv .ensures .0 ∙ top-changes (args .q) (pre .few) isEnd carriedBy refl), c .recv .ensures .1)
+    let at-match = c .before in
+    let at-pre = at-match .before .before in
+    let pre = at-pre .pre in (
+      rw (at-match .match .keys16) (c .recv .ensures .0 ∙ top-changes (at-pre .args .q) (pre .few) isEnd carriedBy refl),
+      c .recv .ensures .1,
+    )
 
 returns-17 : tie.Need-returns-17
 unfolding stepped takeOffs stepOf ops-opened
 returns-17 c =
-    let args = c .before .before .before .args in
-    let pre = c .before .before .before .pre in
-    (rw (c .before .match .keys17) (c .bare2 .ensures .0 ∙ leaves-nothing (args .q) (pre .few) []), c .bare2 .ensures .1)
+    let at-match = c .before in
+    let at-pre = at-match .before .before in
+    let pre = at-pre .pre in (
+      rw (at-match .match .keys17) (c .bare2 .ensures .0 ∙ leaves-nothing (at-pre .args .q) (pre .few) []),
+      c .bare2
+          .ensures .1,
+    )
 
 returns-18 : tie.Need-returns-18
 unfolding stepped takeOffs ops-opened
 returns-18 c =
-    let args = c .before .before .before .args in
-    let pre = c .before .before .before .pre in
-    (rw (c .before .match .keys18) (c .jump-on-false .ensures .0 ∙ leaves-nothing (args .q) (pre .few) (2 ∷ [])), c .jump-on-false .ensures .1)
+    let at-match = c .before in
+    let at-pre = at-match .before .before in
+    let pre = at-pre .pre in (
+      rw (at-match .match .keys18) (c .jump-on-false .ensures .0 ∙ leaves-nothing (at-pre .args .q) (pre .few) (2 ∷ [])),
+      c .jump-on-false .ensures .1,
+    )
 
 returns-19 : tie.Need-returns-19
 unfolding stepped takeOffs ops-opened
 returns-19 c =
-    let args = c .before .before .before .args in
-    let pre = c .before .before .before .pre in
-    (rw (c .before .match .keys19) (c .two .ensures .0 ∙ gives-value (args .q) (pre .few) (1 ∷ 1 ∷ []) 1), c .two .ensures .1)
+    let at-match = c .before in
+    let at-pre = at-match .before .before in
+    let pre = at-pre .pre in (
+      rw (at-match .match .keys19) (c .two .ensures .0 ∙ gives-value (at-pre .args .q) (pre .few) (1 ∷ 1 ∷ []) 1),
+      c .two
+          .ensures .1,
+    )
 
 returns-20 : tie.Need-returns-20
 unfolding stepped takeOffs ops-opened
 returns-20 c =
-    let args = c .before .before .before .args in
-    let pre = c .before .before .before .pre in
-    (rw (c .before .match .keys20) (c .two2 .ensures .0 ∙ gives-value (args .q) (pre .few) (1 ∷ 1 ∷ []) 1), c .two2 .ensures .1)
+    let at-match = c .before in
+    let at-pre = at-match .before .before in
+    let pre = at-pre .pre in (
+      rw (at-match .match .keys20) (c .two2 .ensures .0 ∙ gives-value (at-pre .args .q) (pre .few) (1 ∷ 1 ∷ []) 1),
+      c
+          .two2 .ensures .1,
+    )
 
 returns-21 : tie.Need-returns-21
 unfolding stepped takeOffs ops-opened
 returns-21 c =
-    let args = c .before .before .before .args in
-    let pre = c .before .before .before .pre in
-    (rw (c .before .match .keys21) (c .two3 .ensures .0 ∙ gives-value (args .q) (pre .few) (1 ∷ 1 ∷ []) 2), c .two3 .ensures .1)
+    let at-match = c .before in
+    let at-pre = at-match .before .before in
+    let pre = at-pre .pre in (
+      rw (at-match .match .keys21) (c .two3 .ensures .0 ∙ gives-value (at-pre .args .q) (pre .few) (1 ∷ 1 ∷ []) 2),
+      c
+          .two3 .ensures .1,
+    )
 
 returns-22 : tie.Need-returns-22
 unfolding stepped takeOffs ops-opened
 returns-22 c =
-    let args = c .before .before .before .args in
-    let pre = c .before .before .before .pre in
-    (rw (c .before .match .keys22) (c .two4 .ensures .0 ∙ gives-value (args .q) (pre .few) (1 ∷ 1 ∷ []) 2), c .two4 .ensures .1)
+    let at-match = c .before in
+    let at-pre = at-match .before .before in
+    let pre = at-pre .pre in (
+      rw (at-match .match .keys22) (c .two4 .ensures .0 ∙ gives-value (at-pre .args .q) (pre .few) (1 ∷ 1 ∷ []) 2),
+      c
+          .two4 .ensures .1,
+    )
 
 returns-23 : tie.Need-returns-23
 unfolding stepped takeOffs ops-opened
 returns-23 c =
-    let args = c .before .before .before .args in
-    let pre = c .before .before .before .pre in
-    (rw (c .before .match .keys23) (c .one2 .ensures .0 ∙ gives-value (args .q) (pre .few) (2 ∷ []) 2), c .one2 .ensures .1)
+    let at-match = c .before in
+    let at-pre = at-match .before .before in
+    let pre = at-pre .pre in (
+      rw (at-match .match .keys23) (c .one2 .ensures .0 ∙ gives-value (at-pre .args .q) (pre .few) (2 ∷ []) 2),
+      c .one2
+          .ensures .1,
+    )
 
 returns-24 : tie.Need-returns-24
 unfolding ops-opened

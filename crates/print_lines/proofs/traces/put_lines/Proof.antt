@@ -31,7 +31,10 @@ line-at-requires : tie.Need-line-at-requires Inv-loop μ-loop
 line-at-requires c κs = search needs
 
 put-line-requires : tie.Need-put-line-requires Inv-loop μ-loop
-put-line-requires c κs = omega (arith, first-length (linesOf (c .before .before .before .before .before .before .args .trace .now)) (c .before .before .before .loop .i) (omega arith))
+put-line-requires c κs =
+    let at-loop = c .before .before .before in
+    let args = at-loop .before .before .before .args in
+    omega (arith, first-length (linesOf (args .trace .now)) (at-loop .loop .i) (omega arith))
 
 add-i : tie.Need-add-i Inv-loop μ-loop
 add-i c = search needs
@@ -41,15 +44,18 @@ loop-less c = search needs
 
 loop-again : tie.Need-loop-again Inv-loop μ-loop
 loop-again c =
-    let args = c .before .before .before .before .before .before .before .before .before .args in
-    let loop = c .before .before .before .before .before .before .loop in
+    let at-put-line = c .before .before in
+    let at-line-at = at-put-line .before in
+    let at-loop = at-line-at .before .before .before in
+    let args = at-loop .before .before .before .args in
+    let loop = at-loop .loop in
     let out = args .out .now in
     let ls = linesOf (args .trace .now) in
     let text = linesText (take (loop .i) ls) in (
       search needs,
       put-same out (args .at)
-          (ap (λ (l : Line). text ++ lineText l) (c .before .before .before .line-at .ensures) ∙ linesText-next ls (loop .i) (omega arith))
-          (put-then out (args .at) text _ (loop .inv .1) (c .before .before .put-line .ensures)),
+          (ap (λ (l : Line). text ++ lineText l) (at-line-at .line-at .ensures) ∙ linesText-next ls (loop .i) (omega arith))
+          (put-then out (args .at) text _ (loop .inv .1) (at-put-line .put-line .ensures)),
     )
 
 same-length : tie.Need-same-length Inv-loop μ-loop
@@ -57,10 +63,12 @@ same-length c = ap length (c .before .loop .inv .1 .0) ∙ simp putFrom-length
 
 returns : tie.Need-returns Inv-loop μ-loop
 returns c =
-    let args = c .before .before .before .before .args in
-    let loop = c .before .loop in
+    let at-loop = c .before in
+    let args = at-loop .before .before .before .args in
+    let loop = at-loop .loop in
     let e : loop .i ≡ args .n = omega arith in
-    put-same (args .out .now) (args .at) (ap (λ (i : ℕ). linesText (take i (linesOf (args .trace .now)))) e) (loop .inv .1)
+    put-same (args .out .now) (args .at) (ap (λ (i : ℕ). linesText (take i (linesOf (args .trace .now)))) e)
+    (loop .inv .1)
 
 pub put-lines-spec : {M : Type 1} → statement M
 put-lines-spec =

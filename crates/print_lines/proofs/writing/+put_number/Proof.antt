@@ -67,7 +67,8 @@ put-number-returns : (t : ℕ) → put-number-lts.Need-returns (
 ) (put-number-at t) put-number.Post
 put-number-returns t c =
     let args = c .before .before .before .before .before .before .args in
-    put-same (args .out .now) (args .at) (sym (decimal-one (args .n) (omega arith))) (c .before .before .put-byte .ensures)
+    put-same (args .out .now) (args .at) (sym (decimal-one (args .n) (omega arith)))
+    (c .before .before .put-byte .ensures)
 
 put-number-put-number-requires : (t : ℕ) → put-number-lts.Need-put-number-requires (
   put-byte-reads.Asked,
@@ -99,7 +100,8 @@ put-number-put-byte-requires-2 : (t : ℕ) → put-number-lts.Need-put-byte-requ
   put-number-below t,
   put-number.Post,
 ) (put-number-at t) put-number.Post
-put-number-put-byte-requires-2 t c κs = omega (arith, decimal-length (c .before .before .before .before .before .before .before .args .n / 10))
+put-number-put-byte-requires-2 t c κs =
+    omega (arith, decimal-length (c .before .before .before .before .before .before .before .args .n / 10))
 
 put-number-same-length-2 : (t : ℕ) → put-number-lts.Need-same-length-2 (
   put-byte-reads.Asked,
@@ -120,7 +122,8 @@ put-number-returns-2 t c =
     let out = args .out .now in
     let last = (48 + args .n % 10) ∷ [] in
     put-same out (args .at) (sym (decimal-more (args .n) (omega arith) (omega arith)))
-    (put-then out (args .at) (decimal (args .n / 10)) last (c .before .before .before .before .before .before .put-number .ensures) (c .before .before .put-byte2 .ensures))
+    (put-then out (args .at) (decimal (args .n / 10)) last
+    (c .before .before .before .before .before .before .put-number .ensures) (c .before .before .put-byte2 .ensures))
 
 pub +put-number-spec : {M : Type 1} → statement M
 +put-number-spec = close μ-put-number λ t. put-number-lts.spec (

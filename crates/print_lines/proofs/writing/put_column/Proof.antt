@@ -17,9 +17,12 @@ same-length c = search needs
 returns : tie.Need-returns
 unfolding column
 returns c =
-    let args = c .before .before .before .before .before .before .args in
+    let at-put-spaced = c .before .before in
+    let at-if1 = at-put-spaced .before .before in
+    let args = at-if1 .before .before .args in
     let out = args .out .now in
-    put-same out (args .at) (sym (ap (λ (b : Bool). column b (args .n)) (c .before .before .before .before .if1 .taken))) (c .before .before .put-spaced .ensures)
+    put-same out (args .at) (sym (ap (λ (b : Bool). column b (args .n)) (at-if1 .if1 .taken)))
+    (at-put-spaced .put-spaced .ensures)
 
 put-byte-requires : tie.Need-put-byte-requires
 put-byte-requires c κs = search needs
@@ -33,11 +36,13 @@ same-length-2 c = search needs
 returns-2 : tie.Need-returns-2
 unfolding column
 returns-2 c =
-    let args = c .before .before .before .before .before .before .before .before .before .before .args in
+    let at-put-byte2 = c .before .before in
+    let at-put-byte = at-put-byte2 .before .before .before .before in
+    let at-if1 = at-put-byte .before .before in
+    let args = at-if1 .before .before .args in
     let out = args .out .now in
-    put-same out (args .at) (sym (ap (λ (b : Bool). column b (args .n)) (c .before .before .before .before .before .before .before .before .if1 .left)))
-    (put-then out (args .at) (32 ∷ []) (45 ∷ [])
-    (c .before .before .before .before .before .before .put-byte .ensures) (c .before .before .put-byte2 .ensures))
+    put-same out (args .at) (sym (ap (λ (b : Bool). column b (args .n)) (at-if1 .if1 .left)))
+    (put-then out (args .at) (32 ∷ []) (45 ∷ []) (at-put-byte .put-byte .ensures) (at-put-byte2 .put-byte2 .ensures))
 
 pub put-column-spec : {M : Type 1} → statement M
 put-column-spec =

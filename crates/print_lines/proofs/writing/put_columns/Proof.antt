@@ -29,7 +29,8 @@ cast-put-column-3 c = search needs
 
 put-column-requires-3 : tie.Need-put-column-requires-3
 put-column-requires-3 c κs =
-    let args = c .before .before .before .before .before .before .before .before .before .before .before .before .before .args in
+    let c9 = c .before .before .before .before .before .before .before .before .before in
+    let args = c9 .before .before .before .before .args in
     omega (arith, column-length (ltb 0 (args .used)) (args .l .a), column-length (ltb 1 (args .used)) (args .l .b))
 
 same-length : tie.Need-same-length
@@ -38,14 +39,16 @@ same-length c = search needs
 returns : tie.Need-returns
 unfolding columnsText
 returns c =
-    let args = c .before .before .before .before .before .before .before .before .before .before .before .before .before .before .before .before .args in
+    let at-put-column3 = c .before .before in
+    let at-put-column2 = at-put-column3 .before .before .before .before .before in
+    let at-put-column = at-put-column2 .before .before .before .before .before in
+    let args = at-put-column .before .before .before .before .args in
     let out = args .out .now in
-    let to1 = put-then out (args .at) (column (ltb 0 (args .used)) (args .l .a)) (column (ltb 1 (args .used)) (args .l .b))
-    (c .before .before .before .before .before .before .before .before .before .before .before .before .put-column .ensures)
-    (c .before .before .before .before .before .before .before .put-column2 .ensures) in
-    put-then out (args .at) (column (ltb 0 (args .used)) (args .l .a) ++ column (ltb 1 (args .used)) (args .l .b)) (column (ltb 2 (args .used)) (args .l .c))
-    to1
-    (c .before .before .put-column3 .ensures)
+    let to1 =
+    put-then out (args .at) (column (ltb 0 (args .used)) (args .l .a)) (column (ltb 1 (args .used)) (args .l .b))
+    (at-put-column .put-column .ensures) (at-put-column2 .put-column2 .ensures) in
+    put-then out (args .at) (column (ltb 0 (args .used)) (args .l .a) ++ column (ltb 1 (args .used)) (args .l .b))
+    (column (ltb 2 (args .used)) (args .l .c)) to1 (at-put-column3 .put-column3 .ensures)
 
 pub put-columns-spec : {M : Type 1} → statement M
 put-columns-spec =

@@ -20,14 +20,17 @@ cast-put-spaced : tie.Need-cast-put-spaced
 cast-put-spaced c = search needs
 
 put-spaced-requires : tie.Need-put-spaced-requires
-put-spaced-requires c κs = omega (arith, decimal-length (c .before .before .before .before .before .before .before .before .args .l .entry))
+put-spaced-requires c κs =
+    let args = c .before .before .before .before .before .before .before .before .args in
+    omega (arith, decimal-length (args .l .entry))
 
 cast-put-spaced-2 : tie.Need-cast-put-spaced-2
 cast-put-spaced-2 c = search needs
 
 put-spaced-requires-2 : tie.Need-put-spaced-requires-2
 put-spaced-requires-2 c κs =
-    let args = c .before .before .before .before .before .before .before .before .before .before .before .before .before .args in
+    let c9 = c .before .before .before .before .before .before .before .before .before in
+    let args = c9 .before .before .before .before .args in
     omega (arith, decimal-length (args .l .entry), spaced-length (args .l .process))
 
 same-length : tie.Need-same-length
@@ -36,14 +39,16 @@ same-length c = search needs
 returns : tie.Need-returns
 unfolding headText
 returns c =
-    let args = c .before .before .before .before .before .before .before .before .before .before .before .before .before .before .before .before .args in
+    let at-put-spaced2 = c .before .before in
+    let at-put-spaced = at-put-spaced2 .before .before .before .before .before in
+    let at-put-number = at-put-spaced .before .before .before .before .before in
+    let args = at-put-number .before .before .before .before .args in
     let out = args .out .now in
-    let to1 = put-then out (args .at) (decimal (args .l .entry)) (spaced (args .l .process))
-    (c .before .before .before .before .before .before .before .before .before .before .before .before .put-number .ensures)
-    (c .before .before .before .before .before .before .before .put-spaced .ensures) in
-    put-then out (args .at) (decimal (args .l .entry) ++ spaced (args .l .process)) (spaced (args .l .kind))
-    to1
-    (c .before .before .put-spaced2 .ensures)
+    let to1 =
+    put-then out (args .at) (decimal (args .l .entry)) (spaced (args .l .process))
+    (at-put-number .put-number .ensures) (at-put-spaced .put-spaced .ensures) in
+    put-then out (args .at) (decimal (args .l .entry) ++ spaced (args .l .process)) (spaced (args .l .kind)) to1
+    (at-put-spaced2 .put-spaced2 .ensures)
 
 pub put-head-spec : {M : Type 1} → statement M
 put-head-spec =

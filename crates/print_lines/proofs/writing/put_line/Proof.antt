@@ -17,29 +17,36 @@ columns-used-requires : tie.Need-columns-used-requires
 columns-used-requires c κs = search needs
 
 put-columns-requires : tie.Need-put-columns-requires
-put-columns-requires c κs = omega (arith, headText-length (c .before .before .before .before .before .before .before .args .l))
+put-columns-requires c κs =
+    let args = c .before .before .before .before .before .before .before .args in
+    omega (arith, headText-length (args .l))
 
 put-byte-requires : tie.Need-put-byte-requires
 put-byte-requires c κs =
-    let args = c .before .before .before .before .before .before .before .before .before .before .before .args in
-    omega (arith, headText-length (args .l), columnsText-length (c .before .before .before .before .columns-used .result) (args .l))
+    let at-columns-used = c .before .before .before .before in
+    let args = at-columns-used .before .before .before .before .before .before .before .args in
+    omega (arith, headText-length (args .l), columnsText-length (at-columns-used .columns-used .result) (args .l))
 
 same-length : tie.Need-same-length
 same-length c = search needs
 
 returns : tie.Need-returns
 returns c =
-    let args = c .before .before .before .before .before .before .before .before .before .before .before .before .before .before .args in
+    let at-put-byte = c .before .before in
+    let at-put-columns = at-put-byte .before .before .before .before in
+    let at-columns-used = at-put-columns .before in
+    let at-put-head = at-columns-used .before .before .before .before in
+    let args = at-put-head .before .before .before .args in
     let out = args .out .now in
-    let used = c .before .before .before .before .before .before .before .columns-used .result in
-    let to1 = put-then out (args .at) (headText (args .l)) (columnsText used (args .l))
-    (c .before .before .before .before .before .before .before .before .before .before .before .put-head .ensures)
-    (c .before .before .before .before .before .before .put-columns .ensures) in
+    let used = at-columns-used .columns-used .result in
+    let to1 =
+    put-then out (args .at) (headText (args .l)) (columnsText used (args .l)) (at-put-head .put-head .ensures)
+    (at-put-columns .put-columns .ensures) in
     put-same out (args .at)
-    (ap (λ (u : ℕ). headText (args .l) ++ columnsText u (args .l) ++ (10 ∷ [])) (c .before .before .before .before .before .before .before .columns-used .ensures) ∙ lineText-halves (args .l))
-    (put-then out (args .at) (headText (args .l) ++ columnsText used (args .l)) (10 ∷ [])
-    to1
-    (c .before .before .put-byte .ensures))
+    (ap (λ (u : ℕ). headText (args .l) ++ columnsText u (args .l) ++ (10 ∷ [])) (at-columns-used .columns-used .ensures)
+    ∙ lineText-halves (args .l))
+    (put-then out (args .at) (headText (args .l) ++ columnsText used (args .l)) (10 ∷ []) to1
+    (at-put-byte .put-byte .ensures))
 
 pub put-line-spec : {M : Type 1} → statement M
 put-line-spec =

@@ -17,12 +17,16 @@ put-spaced-requires c κs = omega arith
 
 put-spaced-requires-2 : tie.Need-put-spaced-requires-2
 unfolding refusedWord
-put-spaced-requires-2 c κs = omega (arith, spaced-length (c .before .before .before .before .before .before .before .before .before .before .args .n))
+put-spaced-requires-2 c κs =
+    let c9 = c .before .before .before .before .before .before .before .before .before in
+    let args = c9 .before .args in
+    omega (arith, spaced-length (args .n))
 
 put-byte-requires : tie.Need-put-byte-requires
 unfolding refusedWord
 put-byte-requires c κs =
-    let args = c .before .before .before .before .before .before .before .before .before .before .before .before .before .before .args in
+    let c9 = c .before .before .before .before .before .before .before .before .before in
+    let args = c9 .before .before .before .before .before .args in
     omega (arith, spaced-length (args .n), spaced-length (args .place))
 
 same-length : tie.Need-same-length
@@ -31,17 +35,20 @@ same-length c = search needs
 returns : tie.Need-returns
 unfolding refusedText
 returns c =
-    let args = c .before .before .before .before .before .before .before .before .before .before .before .before .before .before .before .before .before .args in
+    let at-put-byte = c .before .before in
+    let at-put-spaced2 = at-put-byte .before .before .before .before in
+    let at-put-spaced = at-put-spaced2 .before .before .before .before in
+    let at-put-refused-word = at-put-spaced .before .before .before .before in
+    let args = at-put-refused-word .before .before .before .args in
     let out = args .out .now in
-    let to1 = put-then out (args .at) refusedWord (spaced (args .n))
-    (c .before .before .before .before .before .before .before .before .before .before .before .before .before .before .put-refused-word .ensures)
-    (c .before .before .before .before .before .before .before .before .before .before .put-spaced .ensures) in
-    let to2 = put-then out (args .at) (refusedWord ++ spaced (args .n)) (spaced (args .place))
-    to1
-    (c .before .before .before .before .before .before .put-spaced2 .ensures) in
-    put-then out (args .at) (refusedWord ++ spaced (args .n) ++ spaced (args .place)) (10 ∷ [])
-    to2
-    (c .before .before .put-byte .ensures)
+    let to1 =
+    put-then out (args .at) refusedWord (spaced (args .n)) (at-put-refused-word .put-refused-word .ensures)
+    (at-put-spaced .put-spaced .ensures) in
+    let to2 =
+    put-then out (args .at) (refusedWord ++ spaced (args .n)) (spaced (args .place)) to1
+    (at-put-spaced2 .put-spaced2 .ensures) in
+    put-then out (args .at) (refusedWord ++ spaced (args .n) ++ spaced (args .place)) (10 ∷ []) to2
+    (at-put-byte .put-byte .ensures)
 
 pub put-refused-spec : {M : Type 1} → statement M
 put-refused-spec =

@@ -21,14 +21,16 @@ same-length c = search needs
 returns : tie.Need-returns
 unfolding refusedWord
 returns c =
-    let args = c .before .before .before .before .before .before .before .before .before .before .before .before .before .args in
+    let at-put-byte = c .before .before in
+    let at-put-three2 = at-put-byte .before .before .before .before in
+    let at-put-three = at-put-three2 .before .before .before .before in
+    let args = at-put-three .before .before .before .args in
     let out = args .out .now in
-    let to1 = put-then out (args .at) (114 ∷ 101 ∷ 102 ∷ []) (117 ∷ 115 ∷ 101 ∷ [])
-    (c .before .before .before .before .before .before .before .before .before .before .put-three .ensures)
-    (c .before .before .before .before .before .before .put-three2 .ensures) in
-    put-then out (args .at) (114 ∷ 101 ∷ 102 ∷ [] ++ (117 ∷ 115 ∷ 101 ∷ [])) (100 ∷ [])
-    to1
-    (c .before .before .put-byte .ensures)
+    let to1 =
+    put-then out (args .at) (114 ∷ 101 ∷ 102 ∷ []) (117 ∷ 115 ∷ 101 ∷ []) (at-put-three .put-three .ensures)
+    (at-put-three2 .put-three2 .ensures) in
+    put-then out (args .at) (114 ∷ 101 ∷ 102 ∷ [] ++ (117 ∷ 115 ∷ 101 ∷ [])) (100 ∷ []) to1
+    (at-put-byte .put-byte .ensures)
 
 pub put-refused-word-spec : {M : Type 1} → statement M
 put-refused-word-spec =

@@ -18,10 +18,12 @@ same-length c = search needs
 returns : tie.Need-returns
 unfolding spaced
 returns c =
-    let args = c .before .before .before .before .before .before .before .before .before .args in
+    let at-put-number = c .before .before in
+    let at-put-byte = at-put-number .before .before .before .before in
+    let args = at-put-byte .before .before .before .args in
     let out = args .out .now in
-    put-then out (args .at) (32 ∷ []) (decimal (args .n))
-    (c .before .before .before .before .before .before .put-byte .ensures) (c .before .before .put-number .ensures)
+    put-then out (args .at) (32 ∷ []) (decimal (args .n)) (at-put-byte .put-byte .ensures)
+    (at-put-number .put-number .ensures)
 
 pub put-spaced-spec : {M : Type 1} → statement M
 put-spaced-spec = tie.close (tie.spec put-byte-requires put-number-requires same-length returns)

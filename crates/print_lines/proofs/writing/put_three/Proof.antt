@@ -19,14 +19,15 @@ same-length c = search needs
 
 returns : tie.Need-returns
 returns c =
-    let args = c .before .before .before .before .before .before .before .before .before .before .before .before .before .args in
+    let at-put-byte3 = c .before .before in
+    let at-put-byte2 = at-put-byte3 .before .before .before .before in
+    let at-put-byte = at-put-byte2 .before .before .before .before in
+    let args = at-put-byte .before .before .before .args in
     let out = args .out .now in
-    let to1 = put-then out (args .at) (args .x ∷ []) (args .y ∷ [])
-    (c .before .before .before .before .before .before .before .before .before .before .put-byte .ensures)
-    (c .before .before .before .before .before .before .put-byte2 .ensures) in
-    put-then out (args .at) (args .x ∷ [] ++ (args .y ∷ [])) (args .z ∷ [])
-    to1
-    (c .before .before .put-byte3 .ensures)
+    let to1 =
+    put-then out (args .at) (args .x ∷ []) (args .y ∷ []) (at-put-byte .put-byte .ensures)
+    (at-put-byte2 .put-byte2 .ensures) in
+    put-then out (args .at) (args .x ∷ [] ++ (args .y ∷ [])) (args .z ∷ []) to1 (at-put-byte3 .put-byte3 .ensures)
 
 pub put-three-spec : {M : Type 1} → statement M
 put-three-spec =

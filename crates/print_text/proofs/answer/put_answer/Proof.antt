@@ -43,11 +43,13 @@ same-length c = search needs
 returns : tie.Need-returns
 unfolding linesNo answerNumbers answerText
 returns c =
-    let args = c .before .before .before .before .before .before .before .before .before .args in
+    let at-put-refused = c .before .before in
+    let at-a = at-put-refused .before .before .before in
+    let args = at-a .before .before .before .before .args in
     let ls = linesOf (args .trace .now) in
     prints-same (args .out .now)
-    (ap (λ (a : Answer). answerText (take (linesNo (answerNumbers a)) ls) (answerNumbers a)) (sym (c .before .before .before .before .before .a .given .1)))
-    (from-start (args .out .now) _ (c .before .before .put-refused .ensures))
+    (ap (λ (a : Answer). answerText (take (linesNo (answerNumbers a)) ls) (answerNumbers a)) (sym (at-a .a .given .1)))
+    (from-start (args .out .now) _ (at-put-refused .put-refused .ensures))
 
 same-length-2 : tie.Need-same-length-2
 same-length-2 c = search needs
@@ -55,11 +57,13 @@ same-length-2 c = search needs
 returns-2 : tie.Need-returns-2
 unfolding linesNo answerNumbers
 returns-2 c =
-    let args = c .before .before .before .before .before .before .before .before .before .args in
+    let at-put-ended = c .before .before in
+    let at-a2 = at-put-ended .before .before .before in
+    let args = at-a2 .before .before .before .before .args in
     let ls = linesOf (args .trace .now) in
     prints-same (args .out .now)
-    (ap (λ (a : Answer). answerText (take (linesNo (answerNumbers a)) ls) (answerNumbers a)) (sym (c .before .before .before .before .before .a2 .given .1)))
-    (c .before .before .put-ended .ensures)
+    (ap (λ (a : Answer). answerText (take (linesNo (answerNumbers a)) ls) (answerNumbers a)) (sym (at-a2 .a2 .given .1)))
+    (at-put-ended .put-ended .ensures)
 
 pub put-answer-spec : {M : Type 1} → statement M
 put-answer-spec =

@@ -16,20 +16,23 @@ put-lines-requires c κs = search needs
 
 put-end-requires : tie.Need-put-end-requires
 put-end-requires c κs =
-    let args = c .before .before .before .before .before .before .before .args in
-    omega (arith, first-length (linesOf (args .trace .now)) (args .lines) (c .before .before .before .before .before .before .before .pre .0))
+    let at-args = c .before .before .before .before .before .before .before in
+    omega (arith, first-length (linesOf (at-args .args .trace .now)) (at-args .args .lines) (at-args .pre .0))
 
 same-length : tie.Need-same-length
 same-length c = search needs
 
 returns : tie.Need-returns
 returns c =
-    let args = c .before .before .before .before .before .before .before .before .before .before .args in
+    let at-put-end = c .before .before in
+    let at-put-lines = at-put-end .before .before .before .before in
+    let args = at-put-lines .before .before .before .before .args in
     let out = args .out .now in
     let ls = take (args .lines) (linesOf (args .trace .now)) in
     from-start out _
     (put-same out 0 (ran-text ls (args .end) (args .entries) (args .lines) (args .outcomes))
-    (put-then out 0 (linesText ls) (endText (args .end) (args .entries) (args .lines) (args .outcomes)) (c .before .before .before .before .before .before .put-lines .ensures) (c .before .before .put-end .ensures)))
+    (put-then out 0 (linesText ls) (endText (args .end) (args .entries) (args .lines) (args .outcomes))
+    (at-put-lines .put-lines .ensures) (at-put-end .put-end .ensures)))
 
 pub put-ended-spec : {M : Type 1} → statement M
 put-ended-spec = tie.close (tie.spec put-lines-requires put-end-requires same-length returns)

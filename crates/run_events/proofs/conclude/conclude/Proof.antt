@@ -17,7 +17,10 @@ same-length c = search needs
 
 returns : tie.Need-returns
 unfolding concludeOp withStatus
-returns c = ap₂ afterEvent refl (c .before .before .update-status .ensures) ∙ ap withStatus (c .before .before .before .before .before .before .perform .ensures)
+returns c =
+    let at-update-status = c .before .before in
+    let at-perform = at-update-status .before .before .before .before in
+    ap₂ afterEvent refl (at-update-status .update-status .ensures) ∙ ap withStatus (at-perform .perform .ensures)
 
 pub conclude-spec : {M : Type 1} → statement M
 conclude-spec = tie.close (tie.spec perform-requires update-status-requires same-length returns)

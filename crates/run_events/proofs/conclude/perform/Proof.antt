@@ -19,11 +19,17 @@ mul-word-at c = search needs
 
 add-word-at : tie.Need-add-word-at
 unfolding methods word
-add-word-at c = omega (arith, c .before .before .before .before .before .before .pre, c .before .before .before .before .before .shared-slice-known .given 0)
+add-word-at c =
+    let at-shared-slice-known = c .before .before .before .before .before in
+    let at-pre = at-shared-slice-known .before in
+    omega (arith, at-pre .pre, at-shared-slice-known .shared-slice-known .given 0)
 
 add-word-at-2 : tie.Need-add-word-at-2
 unfolding methods word
-add-word-at-2 c = omega (arith, c .before .before .before .before .before .before .pre, c .before .before .before .before .before .shared-slice-known .given 0)
+add-word-at-2 c =
+    let at-shared-slice-known = c .before .before .before .before .before in
+    let at-pre = at-shared-slice-known .before in
+    omega (arith, at-pre .pre, at-shared-slice-known .shared-slice-known .given 0)
 
 word-at-requires : tie.Need-word-at-requires
 word-at-requires c κs = search needs
@@ -53,37 +59,74 @@ same-length : tie.Need-same-length
 same-length c = search needs
 
 returns : tie.Need-returns
-returns c = event-newq (c .before .before .before .before .before .before .before .before .before .before .before .before .args .p .now) (c .before .before .before .before .before .before .before .before .before .before .before .before .args .w .now) (c .before .before .before .before .before .before .before .before .before .before .before .before .args .code) (c .before .before .before .before .before .before .before .before .before .before .before .before .args .qubits) (c .before .before .before .before .before .before .before .before .before .before .before .before .args .channels) (c .before .before .before .before .before .before .before .before .before .before .before .before .args .outcomes .now) (c .before .before .before .before .before .before .before .before .before .before .before .before .args .used) (c .before .before .before .before .before .before .before .read-head .ensures) (c .before .before .before .before .match .keys1) (c .before .before .op-newq .ensures)
+returns c =
+    let at-op-newq = c .before .before in
+    let at-match = at-op-newq .before .before in
+    let at-read-head = at-match .before .before .before in
+    let args = at-read-head .before .before .before .before .before .args in
+    event-newq (args .p .now) (args .w .now) (args .code) (args .qubits) (args .channels) (args .outcomes .now)
+    (args .used) (at-read-head .read-head .ensures) (at-match .match .keys1) (at-op-newq .op-newq .ensures)
 
 same-length-2 : tie.Need-same-length-2
 same-length-2 c = search needs
 
 returns-2 : tie.Need-returns-2
-returns-2 c = event-newc (c .before .before .before .before .before .before .before .before .before .before .before .before .args .p .now) (c .before .before .before .before .before .before .before .before .before .before .before .before .args .w .now) (c .before .before .before .before .before .before .before .before .before .before .before .before .args .code) (c .before .before .before .before .before .before .before .before .before .before .before .before .args .qubits) (c .before .before .before .before .before .before .before .before .before .before .before .before .args .channels) (c .before .before .before .before .before .before .before .before .before .before .before .before .args .outcomes .now) (c .before .before .before .before .before .before .before .before .before .before .before .before .args .used) (c .before .before .before .before .before .before .before .read-head .ensures) (c .before .before .before .before .match .keys2) (c .before .before .op-newc .ensures)
+returns-2 c =
+    let at-op-newc = c .before .before in
+    let at-match = at-op-newc .before .before in
+    let at-read-head = at-match .before .before .before in
+    let args = at-read-head .before .before .before .before .before .args in
+    event-newc (args .p .now) (args .w .now) (args .code) (args .qubits) (args .channels) (args .outcomes .now)
+    (args .used) (at-read-head .read-head .ensures) (at-match .match .keys2) (at-op-newc .op-newc .ensures)
 
 same-length-3 : tie.Need-same-length-3
 same-length-3 c = search needs
 
 returns-3 : tie.Need-returns-3
-returns-3 c = event-gate (c .before .before .before .before .before .before .before .before .before .before .before .before .args .p .now) (c .before .before .before .before .before .before .before .before .before .before .before .before .args .w .now) (c .before .before .before .before .before .before .before .before .before .before .before .before .args .code) (c .before .before .before .before .before .before .before .before .before .before .before .before .args .qubits) (c .before .before .before .before .before .before .before .before .before .before .before .before .args .channels) (c .before .before .before .before .before .before .before .before .before .before .before .before .args .outcomes .now) (c .before .before .before .before .before .before .before .before .before .before .before .before .args .used) (c .before .before .before .before .before .before .before .read-head .ensures) (c .before .before .before .before .before .before .before .before .before .before .before .before .args .start) _ (c .before .before .before .before .before .before .before .before .before .before .before .before .pre) (c .before .before .before .before .before .word-at .ensures .0) (c .before .before .before .before .match .keys3) (c .before .before .op-gate .ensures)
+returns-3 c =
+    let at-op-gate = c .before .before in
+    let at-match = at-op-gate .before .before in
+    let at-word-at = at-match .before in
+    let at-read-head = at-word-at .before .before in
+    let at-args = at-read-head .before .before .before .before .before in
+    event-gate (at-args .args .p .now) (at-args .args .w .now) (at-args .args .code) (at-args .args .qubits)
+    (at-args .args .channels) (at-args .args .outcomes .now) (at-args .args .used) (at-read-head .read-head .ensures)
+    (at-args .args .start) _ (at-args .pre) (at-word-at .word-at .ensures .0) (at-match .match .keys3)
+    (at-op-gate .op-gate .ensures)
 
 same-length-4 : tie.Need-same-length-4
 same-length-4 c = search needs
 
 returns-4 : tie.Need-returns-4
-returns-4 c = event-meas (c .before .before .before .before .before .before .before .before .before .before .before .before .args .p .now) (c .before .before .before .before .before .before .before .before .before .before .before .before .args .w .now) (c .before .before .before .before .before .before .before .before .before .before .before .before .args .code) (c .before .before .before .before .before .before .before .before .before .before .before .before .args .qubits) (c .before .before .before .before .before .before .before .before .before .before .before .before .args .channels) (c .before .before .before .before .before .before .before .before .before .before .before .before .args .outcomes .now) (c .before .before .before .before .before .before .before .before .before .before .before .before .args .used) (c .before .before .before .before .before .before .before .read-head .ensures) (c .before .before .before .before .match .keys4) (c .before .before .op-meas .ensures)
+returns-4 c =
+    let at-op-meas = c .before .before in
+    let at-match = at-op-meas .before .before in
+    let at-read-head = at-match .before .before .before in
+    let args = at-read-head .before .before .before .before .before .args in
+    event-meas (args .p .now) (args .w .now) (args .code) (args .qubits) (args .channels) (args .outcomes .now)
+    (args .used) (at-read-head .read-head .ensures) (at-match .match .keys4) (at-op-meas .op-meas .ensures)
 
 same-length-5 : tie.Need-same-length-5
 same-length-5 c = search needs
 
 returns-5 : tie.Need-returns-5
-returns-5 c = event-end (c .before .before .before .before .before .before .before .before .before .args .p .now) (c .before .before .before .before .before .before .before .before .before .args .w .now) (c .before .before .before .before .before .before .before .before .before .args .code) (c .before .before .before .before .before .before .before .before .before .args .qubits) (c .before .before .before .before .before .before .before .before .before .args .channels) (c .before .before .before .before .before .before .before .before .before .args .outcomes .now) (c .before .before .before .before .before .before .before .before .before .args .used) (c .before .match .keys5) (ap₂ afterEvent (c .line .ensures) refl)
+returns-5 c =
+    let at-match = c .before in
+    let args = at-match .before .before .before .before .before .before .before .before .args in
+    event-end (args .p .now) (args .w .now) (args .code) (args .qubits) (args .channels) (args .outcomes .now)
+    (args .used) (at-match .match .keys5) (ap₂ afterEvent (c .line .ensures) refl)
 
 same-length-6 : tie.Need-same-length-6
 same-length-6 c = search needs
 
 returns-6 : tie.Need-returns-6
-returns-6 c = event-fault (c .before .before .before .before .before .before .before .before .before .args .p .now) (c .before .before .before .before .before .before .before .before .before .args .w .now) (c .before .before .before .before .before .before .before .before .before .args .code) (c .before .before .before .before .before .before .before .before .before .args .qubits) (c .before .before .before .before .before .before .before .before .before .args .channels) (c .before .before .before .before .before .before .before .before .before .args .outcomes .now) (c .before .before .before .before .before .before .before .before .before .args .used) (c .before .match .rest .0 .0 .0 .0 .1) (c .before .match .rest .0 .0 .0 .1) (c .before .match .rest .0 .0 .1) (c .before .match .rest .0 .1) (c .before .match .rest .1) (ap₂ afterEvent (c .fault .ensures) refl)
+returns-6 c =
+    let at-match = c .before in
+    let args = at-match .before .before .before .before .before .before .before .before .args in
+    event-fault (args .p .now) (args .w .now) (args .code) (args .qubits) (args .channels) (args .outcomes .now)
+    (args .used) (at-match .match .rest .0 .0 .0 .0 .1) (at-match .match .rest .0 .0 .0 .1)
+    (at-match .match .rest .0 .0 .1) (at-match .match .rest .0 .1) (at-match .match .rest .1)
+    (ap₂ afterEvent (c .fault .ensures) refl)
 
 pub perform-spec : {M : Type 1} → statement M
 perform-spec =

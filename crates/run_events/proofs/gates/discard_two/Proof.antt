@@ -39,8 +39,21 @@ same-length c = search needs
 
 returns : tie.Need-returns
 returns c =
-    let args = c .before .before .before .before .before .before .before .before .before .before .before .before .before .before .before .before .before .before .before .before .args in
-    two-dropped (args .w .now) (args .h) (c .before .before .before .before .before .before .before .before .before .before .before .before .before .before .before .before .before .before .pop .ensures) (c .before .before .before .before .before .before .before .before .before .before .before .before .before .before .before .before .top .ensures) (c .before .before .before .before .before .before .before .before .before .before .before .before .before .before .before .empty .ensures) (c .before .before .before .before .before .before .before .before .before .before .before .before .before .before .put-value .ensures) (c .before .before .before .before .before .before .before .before .before .before .top2 .ensures) (c .before .before .before .before .before .before .before .before .before .empty2 .ensures) (c .before .before .before .before .before .before .before .before .put-value2 .ensures) (c .before .before .before .before .pop2 .ensures) (c .before .before .before .step .ensures) (c .before .before .put-top .ensures)
+    let at-put-top = c .before .before in
+    let at-step = at-put-top .before in
+    let at-pop2 = at-step .before in
+    let at-put-value2 = at-pop2 .before .before .before .before in
+    let at-empty2 = at-put-value2 .before in
+    let at-top2 = at-empty2 .before in
+    let at-put-value = at-top2 .before .before .before .before in
+    let at-empty = at-put-value .before in
+    let at-top = at-empty .before in
+    let at-pop = at-top .before .before in
+    let args = at-pop .before .before .args in
+    two-dropped (args .w .now) (args .h) (at-pop .pop .ensures) (at-top .top .ensures) (at-empty .empty .ensures)
+    (at-put-value .put-value .ensures) (at-top2 .top2 .ensures) (at-empty2 .empty2 .ensures)
+    (at-put-value2 .put-value2 .ensures) (at-pop2 .pop2 .ensures) (at-step .step .ensures)
+    (at-put-top .put-top .ensures)
 
 pub discard-two-spec : {M : Type 1} → statement M
 discard-two-spec =

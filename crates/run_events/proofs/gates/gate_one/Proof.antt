@@ -24,7 +24,14 @@ same-length c = search needs
 
 returns : tie.Need-returns
 unfolding gateOne
-returns c = took _ _ _ (ap (λ (v : Val). eqb (v .tag) 0) (c .before .before .before .value .ensures ∙ ap (valueAt (c .before .before .before .before .before .before .before .args .w .now)) (c .before .before .before .before .top .ensures))) (eq-eqb _ 0 (c .before .if1 .taken)) (ap₂ afterEvent (c .fault .ensures) refl)
+returns c =
+    let at-if1 = c .before in
+    let at-value = at-if1 .before .before in
+    let at-top = at-value .before in
+    let args = at-top .before .before .before .args in
+    took _ _ _
+    (ap (λ (v : Val). eqb (v .tag) 0) (at-value .value .ensures ∙ ap (valueAt (args .w .now)) (at-top .top .ensures)))
+    (eq-eqb _ 0 (at-if1 .if1 .taken)) (ap₂ afterEvent (c .fault .ensures) refl)
 
 qubit-no-requires : tie.Need-qubit-no-requires
 qubit-no-requires c κs = search needs
@@ -40,7 +47,18 @@ same-length-2 c = search needs
 
 returns-2 : tie.Need-returns-2
 unfolding gateOne
-returns-2 c = passed-by _ _ _ (ap (λ (v : Val). eqb (v .tag) 0) (c .before .before .before .before .before .before .before .before .before .value .ensures ∙ ap (valueAt (c .before .before .before .before .before .before .before .before .before .before .before .before .before .args .w .now)) (c .before .before .before .before .before .before .before .before .before .before .top .ensures))) (ne-eqb _ 0 (c .before .before .before .before .before .before .before .if1 .left)) (ap₂ afterEvent (c .line .ensures ∙ ap (λ q. lineEvent 3 (c .before .before .before .before .before .before .before .before .before .before .before .before .before .args .a) q 65535) (c .before .before .before .before .before .qubit-no .ensures)) (c .before .before .before .discard .ensures))
+returns-2 c =
+    let at-discard = c .before .before .before in
+    let at-qubit-no = at-discard .before .before in
+    let at-if1 = at-qubit-no .before .before in
+    let at-value = at-if1 .before .before in
+    let at-top = at-value .before in
+    let args = at-top .before .before .before .args in
+    passed-by _ _ _
+    (ap (λ (v : Val). eqb (v .tag) 0) (at-value .value .ensures ∙ ap (valueAt (args .w .now)) (at-top .top .ensures)))
+    (ne-eqb _ 0 (at-if1 .if1 .left))
+    (ap₂ afterEvent (c .line .ensures ∙ ap (λ q. lineEvent 3 (args .a) q 65535) (at-qubit-no .qubit-no .ensures))
+    (at-discard .discard .ensures))
 
 pub gate-one-spec : {M : Type 1} → statement M
 gate-one-spec =

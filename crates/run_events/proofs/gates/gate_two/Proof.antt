@@ -19,7 +19,8 @@ same-length c = search needs
 
 returns : tie.Need-returns
 unfolding gateTwo
-returns c = took _ _ _ (c .before .before .two-empty .ensures) (c .before .if1 .taken) (ap₂ afterEvent (c .fault .ensures) refl)
+returns c =
+    took _ _ _ (c .before .before .two-empty .ensures) (c .before .if1 .taken) (ap₂ afterEvent (c .fault .ensures) refl)
 
 qubit-no-requires : tie.Need-qubit-no-requires
 qubit-no-requires c κs = search needs
@@ -35,7 +36,15 @@ same-length-2 c = search needs
 
 returns-2 : tie.Need-returns-2
 unfolding gateTwo
-returns-2 c = passed-by _ _ _ (c .before .before .before .before .before .before .before .before .before .two-empty .ensures) (c .before .before .before .before .before .before .before .before .if1 .left) (took _ _ _ (ap₂ eqb (c .before .before .before .before .before .before .qubit-no .ensures) (c .before .before .before .before .qubit-no2 .ensures)) (eq-eqb _ _ (c .before .if2 .taken)) (ap₂ afterEvent (c .fault2 .ensures) refl))
+returns-2 c =
+    let at-if2 = c .before in
+    let at-qubit-no2 = at-if2 .before .before .before in
+    let at-qubit-no = at-qubit-no2 .before .before in
+    let at-if1 = at-qubit-no .before .before in
+    let at-two-empty = at-if1 .before in
+    passed-by _ _ _ (at-two-empty .two-empty .ensures) (at-if1 .if1 .left)
+    (took _ _ _ (ap₂ eqb (at-qubit-no .qubit-no .ensures) (at-qubit-no2 .qubit-no2 .ensures))
+    (eq-eqb _ _ (at-if2 .if2 .taken)) (ap₂ afterEvent (c .fault2 .ensures) refl))
 
 discard-two-requires : tie.Need-discard-two-requires
 discard-two-requires c κs = search needs
@@ -48,7 +57,21 @@ same-length-3 c = search needs
 
 returns-3 : tie.Need-returns-3
 unfolding gateTwo
-returns-3 c = passed-by _ _ _ (c .before .before .before .before .before .before .before .before .before .before .before .before .before .two-empty .ensures) (c .before .before .before .before .before .before .before .before .before .before .before .before .if1 .left) (passed-by _ _ _ (ap₂ eqb (c .before .before .before .before .before .before .before .before .before .before .qubit-no .ensures) (c .before .before .before .before .before .before .before .before .qubit-no2 .ensures)) (ne-eqb _ _ (c .before .before .before .before .before .if2 .left)) (ap₂ afterEvent (c .line .ensures ∙ ap₂ (λ x y. lineEvent 3 (c .before .before .before .before .before .before .before .before .before .before .before .before .before .before .before .before .args .a) x y) (c .before .before .before .before .before .before .before .before .before .before .qubit-no .ensures) (c .before .before .before .before .before .before .before .before .qubit-no2 .ensures)) (c .before .before .before .discard-two .ensures)))
+returns-3 c =
+    let at-discard-two = c .before .before .before in
+    let at-if2 = at-discard-two .before .before in
+    let at-qubit-no2 = at-if2 .before .before .before in
+    let at-qubit-no = at-qubit-no2 .before .before in
+    let at-if1 = at-qubit-no .before .before in
+    let at-two-empty = at-if1 .before in
+    let args = at-two-empty .before .before .before .args in
+    passed-by _ _ _ (at-two-empty .two-empty .ensures) (at-if1 .if1 .left)
+    (passed-by _ _ _ (ap₂ eqb (at-qubit-no .qubit-no .ensures) (at-qubit-no2 .qubit-no2 .ensures))
+    (ne-eqb _ _ (at-if2 .if2 .left))
+    (ap₂ afterEvent
+    (c .line .ensures
+    ∙ ap₂ (λ x y. lineEvent 3 (args .a) x y) (at-qubit-no .qubit-no .ensures) (at-qubit-no2 .qubit-no2 .ensures))
+    (at-discard-two .discard-two .ensures)))
 
 pub gate-two-spec : {M : Type 1} → statement M
 gate-two-spec =

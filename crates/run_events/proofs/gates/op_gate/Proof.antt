@@ -15,7 +15,11 @@ same-length c = search needs
 
 returns : tie.Need-returns
 unfolding gateOp
-returns c = took _ _ _ refl (le-leb (c .before .before .before .before .before .before .args .a) 5 (c .before .before .before .before .if1 .taken)) (c .before .before .gate-one .ensures)
+returns c =
+    let at-gate-one = c .before .before in
+    let at-if1 = at-gate-one .before .before in
+    let args = at-if1 .before .before .args in
+    took _ _ _ refl (le-leb (args .a) 5 (at-if1 .if1 .taken)) (at-gate-one .gate-one .ensures)
 
 gate-two-requires : tie.Need-gate-two-requires
 gate-two-requires c κs = search needs
@@ -25,7 +29,11 @@ same-length-2 c = search needs
 
 returns-2 : tie.Need-returns-2
 unfolding gateOp
-returns-2 c = passed-by _ _ _ refl (lt-leb (c .before .before .before .before .before .before .args .a) 5 (c .before .before .before .before .if1 .left)) (c .before .before .gate-two .ensures)
+returns-2 c =
+    let at-gate-two = c .before .before in
+    let at-if1 = at-gate-two .before .before in
+    let args = at-if1 .before .before .args in
+    passed-by _ _ _ refl (lt-leb (args .a) 5 (at-if1 .if1 .left)) (at-gate-two .gate-two .ensures)
 
 pub op-gate-spec : {M : Type 1} → statement M
 op-gate-spec =

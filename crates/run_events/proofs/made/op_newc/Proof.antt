@@ -21,14 +21,22 @@ same-length c = search needs
 
 returns : tie.Need-returns
 unfolding newcOp
-returns c = took _ _ _ refl (lt-ltb (c .before .before .before .before .before .before .before .args .made) 16 (c .before .before .before .before .before .if1 .taken)) (ap₂ afterEvent (c .line .ensures) (c .before .before .before .push .ensures))
+returns c =
+    let at-push = c .before .before .before in
+    let at-if1 = at-push .before .before in
+    let args = at-if1 .before .before .args in
+    took _ _ _ refl (lt-ltb (args .made) 16 (at-if1 .if1 .taken))
+    (ap₂ afterEvent (c .line .ensures) (at-push .push .ensures))
 
 fault-requires : tie.Need-fault-requires
 fault-requires c κs = search needs
 
 returns-2 : tie.Need-returns-2
 unfolding newcOp
-returns-2 c = passed-by _ _ _ refl (le-ltb (c .before .before .before .args .made) 16 (c .before .if1 .left)) (ap₂ afterEvent (c .fault .ensures) refl)
+returns-2 c =
+    let at-if1 = c .before in
+    let args = at-if1 .before .before .args in
+    passed-by _ _ _ refl (le-ltb (args .made) 16 (at-if1 .if1 .left)) (ap₂ afterEvent (c .fault .ensures) refl)
 
 pub op-newc-spec : {M : Type 1} → statement M
 op-newc-spec =

@@ -19,7 +19,12 @@ same-length c = search needs
 
 returns : tie.Need-returns
 unfolding measuredAs
-returns c = ap₂ afterEvent (c .measured .ensures ∙ ap (λ q. measuredEvent q (c .before .before .before .before .before .before .before .before .args .outcome)) (c .before .before .before .before .before .qubit-no .ensures)) (c .before .before .before .replace .ensures)
+returns c =
+    let at-replace = c .before .before .before in
+    let at-qubit-no = at-replace .before .before in
+    let args = at-qubit-no .before .before .before .args in
+    ap₂ afterEvent (c .measured .ensures ∙ ap (λ q. measuredEvent q (args .outcome)) (at-qubit-no .qubit-no .ensures))
+    (at-replace .replace .ensures)
 
 pub measure-spec : {M : Type 1} → statement M
 measure-spec =

@@ -40,25 +40,49 @@ same-length c = search needs
 
 returns : tie.Need-returns
 unfolding outcomeNo measuredAs
-returns c = measured-next (c .before .before .before .before .before .before .before .before .before .args .w .now) (c .before .before .before .before .before .before .before .before .before .args .h) (c .before .before .before .before .before .before .before .before .before .args .outcomes .now) (c .before .before .before .before .before .before .before .before .before .args .used) Zero (c .before .before .before .before .enum-told .given .1) (c .before .before .before .before .before .before .next-outcome .ensures) (c .before .before .measure .ensures)
+returns c =
+    let at-measure = c .before .before in
+    let at-enum-told = at-measure .before .before in
+    let at-next-outcome = at-enum-told .before .before in
+    let args = at-next-outcome .before .before .before .args in
+    measured-next (args .w .now) (args .h) (args .outcomes .now) (args .used) Zero (at-enum-told .enum-told .given .1)
+    (at-next-outcome .next-outcome .ensures) (at-measure .measure .ensures)
 
 same-length-2 : tie.Need-same-length-2
 same-length-2 c = search needs
 
 returns-2 : tie.Need-returns-2
 unfolding outcomeNo measuredAs
-returns-2 c = measured-next (c .before .before .before .before .before .before .before .before .before .args .w .now) (c .before .before .before .before .before .before .before .before .before .args .h) (c .before .before .before .before .before .before .before .before .before .args .outcomes .now) (c .before .before .before .before .before .before .before .before .before .args .used) One (c .before .before .before .before .enum-told2 .given .1) (c .before .before .before .before .before .before .next-outcome .ensures) (c .before .before .measure2 .ensures)
+returns-2 c =
+    let at-measure2 = c .before .before in
+    let at-enum-told2 = at-measure2 .before .before in
+    let at-next-outcome = at-enum-told2 .before .before in
+    let args = at-next-outcome .before .before .before .args in
+    measured-next (args .w .now) (args .h) (args .outcomes .now) (args .used) One (at-enum-told2 .enum-told2 .given .1)
+    (at-next-outcome .next-outcome .ensures) (at-measure2 .measure2 .ensures)
 
 same-length-3 : tie.Need-same-length-3
 same-length-3 c = search needs
 
 returns-3 : tie.Need-returns-3
 unfolding outcomeNo measuredAs
-returns-3 c = measured-next (c .before .before .before .before .before .before .before .before .before .args .w .now) (c .before .before .before .before .before .before .before .before .before .args .h) (c .before .before .before .before .before .before .before .before .before .args .outcomes .now) (c .before .before .before .before .before .before .before .before .before .args .used) NoClick (c .before .before .before .before .enum-told3 .given .1) (c .before .before .before .before .before .before .next-outcome .ensures) (c .before .before .measure3 .ensures)
+returns-3 c =
+    let at-measure3 = c .before .before in
+    let at-enum-told3 = at-measure3 .before .before in
+    let at-next-outcome = at-enum-told3 .before .before in
+    let args = at-next-outcome .before .before .before .args in
+    measured-next (args .w .now) (args .h) (args .outcomes .now) (args .used) NoClick
+    (at-enum-told3 .enum-told3 .given .1) (at-next-outcome .next-outcome .ensures) (at-measure3 .measure3 .ensures)
 
 returns-4 : tie.Need-returns-4
 unfolding outcomeNo measuredAs
-returns-4 c = measured-next (c .before .before .before .before .before .before .args .w .now) (c .before .before .before .before .before .before .args .h) (c .before .before .before .before .before .before .args .outcomes .now) (c .before .before .before .before .before .before .args .used) NoneLeft (c .before .enum-told4 .given .1) (c .before .before .before .next-outcome .ensures) (ap₂ afterEvent (c .fault .ensures) refl)
+returns-4 c =
+    let at-enum-told4 = c .before in
+    let at-next-outcome = at-enum-told4 .before .before in
+    let args = at-next-outcome .before .before .before .args in
+    measured-next (args .w .now) (args .h) (args .outcomes .now) (args .used) NoneLeft
+    (at-enum-told4 .enum-told4 .given .1) (at-next-outcome .next-outcome .ensures)
+    (ap₂ afterEvent (c .fault .ensures) refl)
 
 pub measure-next-spec : {M : Type 1} → statement M
 measure-next-spec =

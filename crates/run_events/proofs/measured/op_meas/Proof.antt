@@ -24,7 +24,14 @@ same-length c = search needs
 
 returns : tie.Need-returns
 unfolding measOp
-returns c = took _ _ _ (ap (λ (v : Val). eqb (v .tag) 0) (c .before .before .before .value .ensures ∙ ap (valueAt (c .before .before .before .before .before .before .before .before .args .w .now)) (c .before .before .before .before .top .ensures))) (eq-eqb _ 0 (c .before .if1 .taken)) (ap₂ afterEvent (c .fault .ensures) refl)
+returns c =
+    let at-if1 = c .before in
+    let at-value = at-if1 .before .before in
+    let at-top = at-value .before in
+    let args = at-top .before .before .before .before .args in
+    took _ _ _
+    (ap (λ (v : Val). eqb (v .tag) 0) (at-value .value .ensures ∙ ap (valueAt (args .w .now)) (at-top .top .ensures)))
+    (eq-eqb _ 0 (at-if1 .if1 .taken)) (ap₂ afterEvent (c .fault .ensures) refl)
 
 measure-next-requires : tie.Need-measure-next-requires
 measure-next-requires c κs = search needs
@@ -34,7 +41,15 @@ same-length-2 c = search needs
 
 returns-2 : tie.Need-returns-2
 unfolding measOp
-returns-2 c = passed-by _ _ _ (ap (λ (v : Val). eqb (v .tag) 0) (c .before .before .before .before .before .before .value .ensures ∙ ap (valueAt (c .before .before .before .before .before .before .before .before .before .before .before .args .w .now)) (c .before .before .before .before .before .before .before .top .ensures))) (ne-eqb _ 0 (c .before .before .before .before .if1 .left)) (c .before .before .measure-next .ensures)
+returns-2 c =
+    let at-measure-next = c .before .before in
+    let at-if1 = at-measure-next .before .before in
+    let at-value = at-if1 .before .before in
+    let at-top = at-value .before in
+    let args = at-top .before .before .before .before .args in
+    passed-by _ _ _
+    (ap (λ (v : Val). eqb (v .tag) 0) (at-value .value .ensures ∙ ap (valueAt (args .w .now)) (at-top .top .ensures)))
+    (ne-eqb _ 0 (at-if1 .if1 .left)) (at-measure-next .measure-next .ensures)
 
 pub op-meas-spec : {M : Type 1} → statement M
 op-meas-spec =

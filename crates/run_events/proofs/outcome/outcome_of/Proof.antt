@@ -20,7 +20,9 @@ returns-2 c = sym (ap (λ (o : ℕ). some (clipped o)) (c .match .keys2))
 returns-3 : tie.Need-returns-3
 unfolding outcomeNo clipped
 returns-3 c =
-    sym (ap₂ (λ (a b : Bool). some (cond {A = ℕ} a 0 (cond b 1 2))) (ne-eqb _ 0 (c .match .rest .0 .1)) (ne-eqb _ 1 (c .match .rest .1)))
+    sym
+    (ap₂ (λ (a b : Bool). some (cond {A = ℕ} a 0 (cond b 1 2))) (ne-eqb _ 0 (c .match .rest .0 .1))
+    (ne-eqb _ 1 (c .match .rest .1)))
 
 pub outcome-of-spec : {M : Type 1} → statement M
 outcome-of-spec = tie.close (tie.spec returns returns-2 returns-3)

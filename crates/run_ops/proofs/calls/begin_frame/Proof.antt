@@ -41,7 +41,10 @@ same-length c = search needs
 
 returns : tie.Need-returns
 unfolding begun headAt offsetOf
-returns c = cc (c .before .before .before .before .before .before .before .before .before .before .before .before .word-at .ensures .0)
+returns c =
+    let c9 = c .before .before .before .before .before .before .before .before .before in
+    let at-word-at = c9 .before .before .before in
+    cc (at-word-at .word-at .ensures .0)
 
 pub begin-frame-spec : {M : Type 1} → statement M
 begin-frame-spec =

@@ -23,14 +23,30 @@ same-length c = search needs
 
 returns : tie.Need-returns
 unfolding callOp
-returns c = took _ _ _ (c .before .any-empty .ensures ∙ ap₂ (emptyDown (c .before .before .before .before .before .before .before .args .w .now)) (c .before .before .top .ensures) (c .before .before .before .before .params .ensures)) (c .if1 .taken) refl
+returns c =
+    let at-any-empty = c .before in
+    let at-top = at-any-empty .before in
+    let at-params = at-top .before .before in
+    let args = at-params .before .before .before .args in
+    took _ _ _
+    (at-any-empty .any-empty .ensures
+    ∙ ap₂ (emptyDown (args .w .now)) (at-top .top .ensures) (at-params .params .ensures)) (c .if1 .taken) refl
 
 same-length-2 : tie.Need-same-length-2
 same-length-2 c = search needs
 
 returns-2 : tie.Need-returns-2
 unfolding callOp
-returns-2 c = passed-by _ _ _ (c .before .before .before .any-empty .ensures ∙ ap₂ (emptyDown (c .before .before .before .before .before .before .before .before .before .args .w .now)) (c .before .before .before .before .top .ensures) (c .before .before .before .before .before .before .params .ensures)) (c .before .before .if1 .left) (took _ _ _ refl (le-leb 8 (c .before .before .before .before .before .before .before .before .before .args .h .frames) (c .if2 .taken)) refl)
+returns-2 c =
+    let at-if1 = c .before .before in
+    let at-any-empty = at-if1 .before in
+    let at-top = at-any-empty .before in
+    let at-params = at-top .before .before in
+    let args = at-params .before .before .before .args in
+    passed-by _ _ _
+    (at-any-empty .any-empty .ensures
+    ∙ ap₂ (emptyDown (args .w .now)) (at-top .top .ensures) (at-params .params .ensures)) (at-if1 .if1 .left)
+    (took _ _ _ refl (le-leb 8 (args .h .frames) (c .if2 .taken)) refl)
 
 open-frame-requires : tie.Need-open-frame-requires
 open-frame-requires c κs = search needs
@@ -40,7 +56,21 @@ same-length-3 c = search needs
 
 returns-3 : tie.Need-returns-3
 unfolding callOp
-returns-3 c = passed-by _ _ _ (c .before .before .before .before .before .before .before .any-empty .ensures ∙ ap₂ (emptyDown (c .before .before .before .before .before .before .before .before .before .before .before .before .before .args .w .now)) (c .before .before .before .before .before .before .before .before .top .ensures) (c .before .before .before .before .before .before .before .before .before .before .params .ensures)) (c .before .before .before .before .before .before .if1 .left) (passed-by _ _ _ refl (lt-leb 8 (c .before .before .before .before .before .before .before .before .before .before .before .before .before .args .h .frames) (c .before .before .before .before .if2 .left)) (ap (afterStep 0) (c .before .before .open-frame .ensures ∙ ap (opened (c .before .before .before .before .before .before .before .before .before .before .before .before .before .args .p .now) (c .before .before .before .before .before .before .before .before .before .before .before .before .before .args .w .now) (c .before .before .before .before .before .before .before .before .before .before .before .before .before .args .h) (c .before .before .before .before .before .before .before .before .before .before .before .before .before .args .a)) (c .before .before .before .before .before .before .before .before .before .before .params .ensures))))
+returns-3 c =
+    let at-open-frame = c .before .before in
+    let at-if2 = at-open-frame .before .before in
+    let at-if1 = at-if2 .before .before in
+    let at-any-empty = at-if1 .before in
+    let at-top = at-any-empty .before in
+    let at-params = at-top .before .before in
+    let args = at-params .before .before .before .args in
+    passed-by _ _ _
+    (at-any-empty .any-empty .ensures
+    ∙ ap₂ (emptyDown (args .w .now)) (at-top .top .ensures) (at-params .params .ensures)) (at-if1 .if1 .left)
+    (passed-by _ _ _ refl (lt-leb 8 (args .h .frames) (at-if2 .if2 .left))
+    (ap (afterStep 0)
+    (at-open-frame .open-frame .ensures
+    ∙ ap (opened (args .p .now) (args .w .now) (args .h) (args .a)) (at-params .params .ensures))))
 
 pub op-call-spec : {M : Type 1} → statement M
 op-call-spec =

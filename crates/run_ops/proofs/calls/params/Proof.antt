@@ -32,7 +32,11 @@ cast-result c = search needs
 
 returns : tie.Need-returns
 unfolding paramsOf row methods
-returns c = c .word-at2 .ensures .0 ∙ ap (λ (m : ℕ). word (c .before .before .before .args .p .now) (2 + 2 * m + 18 * c .before .before .before .args .m + 1)) (c .before .word-at .ensures .0)
+returns c =
+    let at-word-at = c .before in
+    let args = at-word-at .before .before .args in
+    c .word-at2 .ensures .0
+    ∙ ap (λ (m : ℕ). word (args .p .now) (2 + 2 * m + 18 * args .m + 1)) (at-word-at .word-at .ensures .0)
 
 pub params-spec : {M : Type 1} → statement M
 params-spec =

@@ -27,7 +27,12 @@ word-at-requires-2 c κs = search needs
 
 returns : tie.Need-returns
 unfolding returnOf row methods
-returns c = ap (λ (t : ℕ). eqb t 0) (c .word-at2 .ensures .0 ∙ ap (λ (m : ℕ). word (c .before .before .before .args .p .now) (2 + 2 * m + 18 * c .before .before .before .args .m)) (c .before .word-at .ensures .0))
+returns c =
+    let at-word-at = c .before in
+    let args = at-word-at .before .before .args in
+    ap (λ (t : ℕ). eqb t 0)
+    (c .word-at2 .ensures .0
+    ∙ ap (λ (m : ℕ). word (args .p .now) (2 + 2 * m + 18 * args .m)) (at-word-at .word-at .ensures .0))
 
 pub returns-void-spec : {M : Type 1} → statement M
 returns-void-spec =

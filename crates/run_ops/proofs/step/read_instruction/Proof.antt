@@ -29,11 +29,17 @@ shared-slice-read-t13 : tie.Need-shared-slice-read-t13
 shared-slice-read-t13 c = search needs
 
 cast-t14 : tie.Need-cast-t14
-cast-t14 c = omega (arith, c .before .before .before .shared-slice-known .given (c .before .before .before .before .args .at + 1))
+cast-t14 c =
+    let at-shared-slice-known = c .before .before .before in
+    let args = at-shared-slice-known .before .args in
+    omega (arith, at-shared-slice-known .shared-slice-known .given (args .at + 1))
 
 returns : tie.Need-returns
 unfolding word
-returns c = (refl, refl, omega (arith, c .before .before .before .shared-slice-known .given (c .before .before .before .before .args .at + 1)))
+returns c =
+    let at-shared-slice-known = c .before .before .before in
+    let args = at-shared-slice-known .before .args in
+    (refl, refl, omega (arith, at-shared-slice-known .shared-slice-known .given (args .at + 1)))
 
 word-at-requires : tie.Need-word-at-requires
 word-at-requires c κs = search needs

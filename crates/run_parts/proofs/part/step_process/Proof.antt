@@ -31,8 +31,11 @@ same-length c = search needs
 
 returns : tie.Need-returns
 returns c =
-    let args = c .before .before .before .before .before .before .before .args in
-    lifted (args .work .now) (args .n .0) (c .before .before .before .before .part-at .ensures) (c .before .before .step .result) (c .before .before .step .last .1 .1 .0) (stepOp (args .p .now)) (c .before .before .step .ensures)
+    let at-step = c .before .before in
+    let at-part-at = at-step .before .before in
+    let args = at-part-at .before .before .before .args in
+    lifted (args .work .now) (args .n .0) (at-part-at .part-at .ensures) (at-step .step .result)
+    (at-step .step .last .1 .1 .0) (stepOp (args .p .now)) (at-step .step .ensures)
 
 pub step-process-spec : {M : Type 1} → statement M
 step-process-spec =

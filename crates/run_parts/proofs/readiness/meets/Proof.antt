@@ -8,16 +8,28 @@ either-way-requires : tie.Need-either-way-requires
 either-way-requires c κs = search needs
 
 returns : tie.Need-returns
-returns c = meets-kinds (c .before .before .args .a) (c .before .before .args .b) (c .before .either-way .ensures) (c .if1 .taken)
+returns c =
+    meets-kinds (c .before .before .args .a) (c .before .before .args .b) (c .before .either-way .ensures)
+    (c .if1 .taken)
 
 returns-2 : tie.Need-returns-2
-returns-2 c = meets-apart (c .before .before .before .before .before .args .a) (c .before .before .before .before .before .args .b) (c .before .before .before .before .either-way .ensures) (c .before .before .before .if1 .left) (c .if2 .taken)
+returns-2 c =
+    let at-if1 = c .before .before .before in
+    let at-either-way = at-if1 .before in
+    let args = at-either-way .before .args in
+    meets-apart (args .a) (args .b) (at-either-way .either-way .ensures) (at-if1 .if1 .left) (c .if2 .taken)
 
 either-way-requires-2 : tie.Need-either-way-requires-2
 either-way-requires-2 c κs = search needs
 
 returns-3 : tie.Need-returns-3
-returns-3 c = meets-sides (c .before .before .before .before .before .before .args .a) (c .before .before .before .before .before .before .args .b) (c .before .before .before .before .before .either-way .ensures) (c .before .before .before .before .if1 .left) (c .before .if2 .left) (c .either-way2 .ensures)
+returns-3 c =
+    let at-if2 = c .before in
+    let at-if1 = at-if2 .before .before .before in
+    let at-either-way = at-if1 .before in
+    let args = at-either-way .before .args in
+    meets-sides (args .a) (args .b) (at-either-way .either-way .ensures) (at-if1 .if1 .left) (at-if2 .if2 .left)
+    (c .either-way2 .ensures)
 
 pub meets-spec : {M : Type 1} → statement M
 meets-spec =

@@ -10,7 +10,10 @@ get-requires : tie.Need-get-requires
 get-requires c κs = search needs
 
 returns : tie.Need-returns
-returns c = nothing-over (c .before .before .before .before .args .p .now) (c .before .before .before .before .args .w .now) (c .before .before .before .before .args .start) (c .before .get .ensures) (c .if1 .taken)
+returns c =
+    let at-get = c .before in
+    let args = at-get .before .before .before .args in
+    nothing-over (args .p .now) (args .w .now) (args .start) (at-get .get .ensures) (c .if1 .taken)
 
 place-of-requires : tie.Need-place-of-requires
 place-of-requires c κs = search needs
@@ -23,13 +26,22 @@ mul-word-at c = search needs
 
 add-word-at : tie.Need-add-word-at
 unfolding methods word
-add-word-at c = omega (arith, c .before .before .before .before .before .pre, c .before .before .before .before .shared-slice-known .given 0)
+add-word-at c =
+    let at-shared-slice-known = c .before .before .before .before in
+    let at-pre = at-shared-slice-known .before in
+    omega (arith, at-pre .pre, at-shared-slice-known .shared-slice-known .given 0)
 
 word-at-requires : tie.Need-word-at-requires
 word-at-requires c κs = search needs
 
 returns-2 : tie.Need-returns-2
-returns-2 c = nothing-at (c .before .before .before .before .before .before .args .p .now) (c .before .before .before .before .before .before .args .w .now) (c .before .before .before .before .before .before .args .start) (c .before .before .before .get .ensures) (c .before .before .if1 .left) (c .before .before .before .before .before .before .pre) (c .before .place-of .ensures) (c .word-at .ensures .0)
+returns-2 c =
+    let at-place-of = c .before in
+    let at-if1 = at-place-of .before in
+    let at-get = at-if1 .before in
+    let at-args = at-get .before .before .before in
+    nothing-at (at-args .args .p .now) (at-args .args .w .now) (at-args .args .start) (at-get .get .ensures)
+    (at-if1 .if1 .left) (at-args .pre) (at-place-of .place-of .ensures) (c .word-at .ensures .0)
 
 pub offers-nothing-spec : {M : Type 1} → statement M
 offers-nothing-spec =

@@ -15,14 +15,24 @@ sending-requires c κs = search needs
 
 returns : tie.Need-returns
 unfolding offerOf
-returns c = took _ _ _ refl (eq-eqb (c .before .before .before .before .args .code) 115 (c .before .if1 .taken)) (c .sending .ensures ∙ ap (sendOf (c .before .before .before .before .args .w .now)) (c .before .before .read-head .ensures))
+returns c =
+    let at-if1 = c .before in
+    let at-read-head = at-if1 .before in
+    let args = at-read-head .before .before .args in
+    took _ _ _ refl (eq-eqb (args .code) 115 (at-if1 .if1 .taken))
+    (c .sending .ensures ∙ ap (sendOf (args .w .now)) (at-read-head .read-head .ensures))
 
 receiving-requires : tie.Need-receiving-requires
 receiving-requires c κs = search needs
 
 returns-2 : tie.Need-returns-2
 unfolding offerOf
-returns-2 c = passed-by _ _ _ refl (ne-eqb (c .before .before .before .before .args .code) 115 (c .before .if1 .left)) (c .receiving .ensures ∙ ap (receiveOf (c .before .before .before .before .args .w .now)) (c .before .before .read-head .ensures))
+returns-2 c =
+    let at-if1 = c .before in
+    let at-read-head = at-if1 .before in
+    let args = at-read-head .before .before .args in
+    passed-by _ _ _ refl (ne-eqb (args .code) 115 (at-if1 .if1 .left))
+    (c .receiving .ensures ∙ ap (receiveOf (args .w .now)) (at-read-head .read-head .ensures))
 
 pub read-offer-spec : {M : Type 1} → statement M
 read-offer-spec =

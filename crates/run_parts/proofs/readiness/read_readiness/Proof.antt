@@ -20,7 +20,13 @@ bare-requires c κs = search needs
 
 returns : tie.Need-returns
 unfolding readinessOp
-returns c = passed-by _ _ _ refl (ne-eqb (headOf (c .before .before .before .before .before .before .args .w .now) .status) 1 (λ e. c .before .if1 .taken (ap (λ (h : Head). h .status) (c .before .before .before .read-head .ensures) ∙ e))) (c .bare .ensures)
+returns c =
+    let at-if1 = c .before in
+    let at-read-head = at-if1 .before .before in
+    let args = at-read-head .before .before .before .args in
+    passed-by _ _ _ refl
+    (ne-eqb (headOf (args .w .now) .status) 1
+    (λ e. at-if1 .if1 .taken (ap (λ (h : Head). h .status) (at-read-head .read-head .ensures) ∙ e))) (c .bare .ensures)
 
 cast-word-at : tie.Need-cast-word-at
 cast-word-at c = search needs
@@ -30,7 +36,10 @@ mul-word-at c = search needs
 
 add-word-at : tie.Need-add-word-at
 unfolding methods word
-add-word-at c = omega (arith, c .before .before .before .before .before .before .pre, c .before .before .before .before .before .shared-slice-known .given 0)
+add-word-at c =
+    let at-shared-slice-known = c .before .before .before .before .before in
+    let at-pre = at-shared-slice-known .before in
+    omega (arith, at-pre .pre, at-shared-slice-known .shared-slice-known .given 0)
 
 word-at-requires : tie.Need-word-at-requires
 word-at-requires c κs = search needs
@@ -42,7 +51,17 @@ sending-requires : tie.Need-sending-requires
 sending-requires c κs = search needs
 
 returns-2 : tie.Need-returns-2
-returns-2 c = stands-at (c .before .before .before .before .before .before .before .before .before .before .args .p .now) (c .before .before .before .before .before .before .before .before .before .before .args .w .now) (c .before .before .before .before .before .before .before .before .before .before .args .start) (c .before .before .before .before .before .before .before .read-head .ensures) (c .before .before .before .before .before .if1 .left) (c .before .before .before .before .before .before .before .before .before .before .pre) (c .before .before .before .word-at .ensures .0) (took _ _ _ refl (eq-eqb _ 15 (c .before .before .if2 .taken)) (c .sending .ensures ∙ ap (sendOf (c .before .before .before .before .before .before .before .before .before .before .args .w .now)) (c .before .wait .ensures)))
+returns-2 c =
+    let at-wait = c .before in
+    let at-if2 = at-wait .before in
+    let at-word-at = at-if2 .before in
+    let at-if1 = at-word-at .before .before in
+    let at-read-head = at-if1 .before .before in
+    let at-args = at-read-head .before .before .before in
+    stands-at (at-args .args .p .now) (at-args .args .w .now) (at-args .args .start) (at-read-head .read-head .ensures)
+    (at-if1 .if1 .left) (at-args .pre) (at-word-at .word-at .ensures .0)
+    (took _ _ _ refl (eq-eqb _ 15 (at-if2 .if2 .taken))
+    (c .sending .ensures ∙ ap (sendOf (at-args .args .w .now)) (at-wait .wait .ensures)))
 
 wait-requires-2 : tie.Need-wait-requires-2
 wait-requires-2 c κs = search needs
@@ -51,13 +70,35 @@ receiving-requires : tie.Need-receiving-requires
 receiving-requires c κs = search needs
 
 returns-3 : tie.Need-returns-3
-returns-3 c = stands-at (c .before .before .before .before .before .before .before .before .before .before .before .args .p .now) (c .before .before .before .before .before .before .before .before .before .before .before .args .w .now) (c .before .before .before .before .before .before .before .before .before .before .before .args .start) (c .before .before .before .before .before .before .before .before .read-head .ensures) (c .before .before .before .before .before .before .if1 .left) (c .before .before .before .before .before .before .before .before .before .before .before .pre) (c .before .before .before .before .word-at .ensures .0) (passed-by _ _ _ refl (ne-eqb _ 15 (c .before .before .before .if2 .left)) (took _ _ _ refl (eq-eqb _ 16 (c .before .before .if3 .taken)) (c .receiving .ensures ∙ ap (receiveOf (c .before .before .before .before .before .before .before .before .before .before .before .args .w .now)) (c .before .wait2 .ensures))))
+returns-3 c =
+    let at-wait2 = c .before in
+    let at-if3 = at-wait2 .before in
+    let at-if2 = at-if3 .before in
+    let at-word-at = at-if2 .before in
+    let at-if1 = at-word-at .before .before in
+    let at-read-head = at-if1 .before .before in
+    let at-args = at-read-head .before .before .before in
+    stands-at (at-args .args .p .now) (at-args .args .w .now) (at-args .args .start) (at-read-head .read-head .ensures)
+    (at-if1 .if1 .left) (at-args .pre) (at-word-at .word-at .ensures .0)
+    (passed-by _ _ _ refl (ne-eqb _ 15 (at-if2 .if2 .left))
+    (took _ _ _ refl (eq-eqb _ 16 (at-if3 .if3 .taken))
+    (c .receiving .ensures ∙ ap (receiveOf (at-args .args .w .now)) (at-wait2 .wait2 .ensures))))
 
 bare-requires-2 : tie.Need-bare-requires-2
 bare-requires-2 c κs = search needs
 
 returns-4 : tie.Need-returns-4
-returns-4 c = stands-at (c .before .before .before .before .before .before .before .before .before .before .args .p .now) (c .before .before .before .before .before .before .before .before .before .before .args .w .now) (c .before .before .before .before .before .before .before .before .before .before .args .start) (c .before .before .before .before .before .before .before .read-head .ensures) (c .before .before .before .before .before .if1 .left) (c .before .before .before .before .before .before .before .before .before .before .pre) (c .before .before .before .word-at .ensures .0) (passed-by _ _ _ refl (ne-eqb _ 15 (c .before .before .if2 .left)) (passed-by _ _ _ refl (ne-eqb _ 16 (c .before .if3 .left)) (c .bare2 .ensures)))
+returns-4 c =
+    let at-if3 = c .before in
+    let at-if2 = at-if3 .before in
+    let at-word-at = at-if2 .before in
+    let at-if1 = at-word-at .before .before in
+    let at-read-head = at-if1 .before .before in
+    let at-args = at-read-head .before .before .before in
+    stands-at (at-args .args .p .now) (at-args .args .w .now) (at-args .args .start) (at-read-head .read-head .ensures)
+    (at-if1 .if1 .left) (at-args .pre) (at-word-at .word-at .ensures .0)
+    (passed-by _ _ _ refl (ne-eqb _ 15 (at-if2 .if2 .left))
+    (passed-by _ _ _ refl (ne-eqb _ 16 (at-if3 .if3 .left)) (c .bare2 .ensures)))
 
 pub read-readiness-spec : {M : Type 1} → statement M
 read-readiness-spec =

@@ -21,14 +21,28 @@ bare-requires c κs = search needs
 
 returns : tie.Need-returns
 unfolding receiveOf
-returns c = took _ _ _ (ap (λ (v : Val). eqb (v .tag) 0) (c .before .before .before .value .ensures ∙ ap (valueAt (c .before .before .before .before .before .before .args .w .now)) (c .before .before .before .before .top .ensures))) (eq-eqb _ 0 (c .before .if1 .taken)) (c .bare .ensures)
+returns c =
+    let at-if1 = c .before in
+    let at-value = at-if1 .before .before in
+    let at-top = at-value .before in
+    let args = at-top .before .before .args in
+    took _ _ _
+    (ap (λ (v : Val). eqb (v .tag) 0) (at-value .value .ensures ∙ ap (valueAt (args .w .now)) (at-top .top .ensures)))
+    (eq-eqb _ 0 (at-if1 .if1 .taken)) (c .bare .ensures)
 
 empty-requires : tie.Need-empty-requires
 empty-requires c κs = search needs
 
 returns-2 : tie.Need-returns-2
 unfolding receiveOf
-returns-2 c = passed-by _ _ _ (ap (λ (v : Val). eqb (v .tag) 0) (c .before .before .before .value .ensures ∙ ap (valueAt (c .before .before .before .before .before .before .args .w .now)) (c .before .before .before .before .top .ensures))) (ne-eqb _ 0 (c .before .if1 .left)) (cc)
+returns-2 c =
+    let at-if1 = c .before in
+    let at-value = at-if1 .before .before in
+    let at-top = at-value .before in
+    let args = at-top .before .before .args in
+    passed-by _ _ _
+    (ap (λ (v : Val). eqb (v .tag) 0) (at-value .value .ensures ∙ ap (valueAt (args .w .now)) (at-top .top .ensures)))
+    (ne-eqb _ 0 (at-if1 .if1 .left)) (cc)
 
 pub receiving-spec : {M : Type 1} → statement M
 receiving-spec =

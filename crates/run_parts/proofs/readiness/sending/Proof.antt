@@ -29,7 +29,10 @@ value-requires-2 c κs = search needs
 
 returns-2 : tie.Need-returns-2
 unfolding sendOf
-returns-2 c = passed-by _ _ _ (c .before .before .before .before .before .two-empty .ensures) (c .before .before .before .before .if1 .left) (cc)
+returns-2 c =
+    let at-if1 = c .before .before .before .before in
+    let at-two-empty = at-if1 .before in
+    passed-by _ _ _ (at-two-empty .two-empty .ensures) (at-if1 .if1 .left) (cc)
 
 pub sending-spec : {M : Type 1} → statement M
 sending-spec =

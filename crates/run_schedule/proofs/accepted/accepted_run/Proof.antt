@@ -13,7 +13,10 @@ use Rattle.run_schedule.proofs.accepted.accepted_run.Statement.{stateme
 use Rattle.run_schedule.proofs.accepted.accepted_run.Tie as tie
 
 begin-run-requires : tie.Need-begin-run-requires
-begin-run-requires c κs = store-long (c .before .before .before .before .before .before .args .program .now) (c .before .before .before .before .before .before .args .schedule .now) (c .before .before .before .before .before .before .args .outcomes .now) (length (c .before .before .before .before .before .before .args .work .now)) (c .before .before .before .before .before .before .pre)
+begin-run-requires c κs =
+    let at-args = c .before .before .before .before .before .before in
+    store-long (at-args .args .program .now) (at-args .args .schedule .now) (at-args .args .outcomes .now)
+    (length (at-args .args .work .now)) (at-args .pre)
 
 word-at-requires : tie.Need-word-at-requires
 word-at-requires c κs = search needs
@@ -26,7 +29,29 @@ add-run-entries c = search needs
 
 run-entries-requires : tie.Need-run-entries-requires
 unfolding methods
-run-entries-requires c κs = let ok = c .before .before .before .before .before .before .before .before .before .before .before .before .pre in let long = store-long (c .before .before .before .before .before .before .before .before .before .before .before .before .args .program .now) (c .before .before .before .before .before .before .before .before .before .before .before .before .args .schedule .now) (c .before .before .before .before .before .before .before .before .before .before .before .before .args .outcomes .now) (length (c .before .before .before .before .before .before .before .before .before .before .before .before .args .work .now)) ok in let table = kept (c .before .before .before .before .before .before .before .before .before .before .before .before .args .program .now) (table-kept (c .before .before .before .before .before .before .before .before .before .before .before .before .args .program .now) (c .before .before .before .before .before .before .before .before .before .before .before .before .args .schedule .now) (c .before .before .before .before .before .before .before .before .before .before .before .before .args .outcomes .now) (length (c .before .before .before .before .before .before .before .before .before .before .before .before .args .work .now)) ok) in (ap (λ (m : ℕ). 2 + 20 * m) (c .before .before .word-at .ensures .0), omega (arith, long, c .before .before .before .before .before .begin-run .kept .1 .0), schedule-short (c .before .before .before .before .before .before .before .before .before .before .before .before .args .program .now) (c .before .before .before .before .before .before .before .before .before .before .before .before .args .schedule .now) (c .before .before .before .before .before .before .before .before .before .before .before .before .args .outcomes .now) (length (c .before .before .before .before .before .before .before .before .before .before .before .before .args .work .now)) ok, refl, table, starts-from (c .before .before .before .before .before .before .before .before .before .before .before .before .args .program .now) table (c .before .before .before .before .before .before .before .before .before .before .before .before .args .work .now) long (c .before .before .before .before .before .begin-run .ensures), outcomes-small (c .before .before .before .before .before .before .before .before .before .before .before .before .args .program .now) (c .before .before .before .before .before .before .before .before .before .before .before .before .args .schedule .now) (c .before .before .before .before .before .before .before .before .before .before .before .before .args .outcomes .now) (length (c .before .before .before .before .before .before .before .before .before .before .before .before .args .work .now)) ok)
+run-entries-requires c κs =
+    let at-word-at = c .before .before in
+    let at-begin-run = at-word-at .before .before .before in
+    let at-pre = at-begin-run .before .before .before .before .before .before .before in
+    let ok = at-pre .pre in
+    let long =
+    store-long (at-pre .args .program .now) (at-pre .args .schedule .now) (at-pre .args .outcomes .now)
+    (length (at-pre .args .work .now)) ok in
+    let table =
+    kept (at-pre .args .program .now)
+    (table-kept (at-pre .args .program .now) (at-pre .args .schedule .now) (at-pre .args .outcomes .now)
+    (length (at-pre .args .work .now)) ok) in (
+      ap (λ (m : ℕ). 2 + 20 * m) (at-word-at .word-at .ensures .0),
+      omega
+          (arith, long, at-begin-run .begin-run .kept .1 .0),
+      schedule-short (at-pre .args .program .now)
+          (at-pre .args .schedule .now) (at-pre .args .outcomes .now) (length (at-pre .args .work .now)) ok,
+      refl,
+      table,
+      starts-from (at-pre .args .program .now) table (at-pre .args .work .now) long (at-begin-run .begin-run .ensures),
+      outcomes-small (at-pre .args .program .now) (at-pre .args .schedule .now) (at-pre .args .outcomes .now)
+          (length (at-pre .args .work .now)) ok,
+    )
 
 same-length : tie.Need-same-length
 same-length c = search needs
@@ -35,7 +60,22 @@ same-length-2 : tie.Need-same-length-2
 same-length-2 c = search needs
 
 returns : tie.Need-returns
-returns c = let ok = c .before .before .before .before .before .before .before .before .before .before .before .before .before .before .before .before .before .pre in let long = store-long (c .before .before .before .before .before .before .before .before .before .before .before .before .before .before .before .before .before .args .program .now) (c .before .before .before .before .before .before .before .before .before .before .before .before .before .before .before .before .before .args .schedule .now) (c .before .before .before .before .before .before .before .before .before .before .before .before .before .before .before .before .before .args .outcomes .now) (length (c .before .before .before .before .before .before .before .before .before .before .before .before .before .before .before .before .before .args .work .now)) ok in let table = kept (c .before .before .before .before .before .before .before .before .before .before .before .before .before .before .before .before .before .args .program .now) (table-kept (c .before .before .before .before .before .before .before .before .before .before .before .before .before .before .before .before .before .args .program .now) (c .before .before .before .before .before .before .before .before .before .before .before .before .before .before .before .before .before .args .schedule .now) (c .before .before .before .before .before .before .before .before .before .before .before .before .before .before .before .before .before .args .outcomes .now) (length (c .before .before .before .before .before .before .before .before .before .before .before .before .before .before .before .before .before .args .work .now)) ok) in c .before .before .before .before .run-entries .ensures ∙ leaves-same (c .before .before .before .before .before .before .before .before .before .before .before .before .before .before .before .before .before .args .program .now) table (c .before .before .before .before .before .before .before .before .before .before .before .before .before .before .before .before .before .args .work .now) long (c .before .before .before .before .before .before .before .before .before .before .begin-run .ensures) (run (c .before .before .before .before .before .before .before .before .before .before .before .before .before .before .before .before .before .args .program .now) (c .before .before .before .before .before .before .before .before .before .before .before .before .before .before .before .before .before .args .outcomes .now) (length (c .before .before .before .before .before .before .before .before .before .before .before .before .before .before .before .before .before .args .trace .now) / 6) (c .before .before .before .before .before .before .before .before .before .before .before .before .before .before .before .before .before .args .schedule .now)) (c .before .before .before .before .before .before .before .before .before .before .before .before .before .before .before .before .before .args .trace .now)
+returns c =
+    let at-run-entries = c .before .before .before .before in
+    let at-begin-run = at-run-entries .before .before .before .before .before .before in
+    let at-pre = at-begin-run .before .before .before .before .before .before .before in
+    let ok = at-pre .pre in
+    let long =
+    store-long (at-pre .args .program .now) (at-pre .args .schedule .now) (at-pre .args .outcomes .now)
+    (length (at-pre .args .work .now)) ok in
+    let table =
+    kept (at-pre .args .program .now)
+    (table-kept (at-pre .args .program .now) (at-pre .args .schedule .now) (at-pre .args .outcomes .now)
+    (length (at-pre .args .work .now)) ok) in
+    at-run-entries .run-entries .ensures
+    ∙ leaves-same (at-pre .args .program .now) table (at-pre .args .work .now) long (at-begin-run .begin-run .ensures)
+    (run (at-pre .args .program .now) (at-pre .args .outcomes .now) (length (at-pre .args .trace .now) / 6)
+    (at-pre .args .schedule .now)) (at-pre .args .trace .now)
 
 pub accepted-run-spec : {M : Type 1} → statement M
 accepted-run-spec =

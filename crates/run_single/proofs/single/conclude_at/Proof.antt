@@ -43,12 +43,18 @@ same-length c = search needs
 returns : tie.Need-returns
 unfolding concludedAt
 returns c =
-    let args = c .before .before .before .before .before .before .before .before .before .before .before .before .args in
-    lifted-left (args .work .now) (args .n .0) (c .before .before .before .before .part-at .ensures) (c .before .before .conclude .last .1 .1 .0)
-    (λ (l : List ℕ). concludeOp (args .p .now) l (args .code) (c .before .before .before .before .before .before .before .get .result) (c .before .before .before .before .before .get2 .result) (args .outcomes .now) (args .used))
-    (c .before .before .conclude .ensures)
-    ∙ ap₂ (λ (q c : ℕ). inPart (args .work .now) (args .n .0) (concludeOp (args .p .now) (partOf (args .work .now) (args .n .0)) (args .code) q c (args .outcomes .now) (args .used)))
-    (c .before .before .before .before .before .before .before .get .ensures) (c .before .before .before .before .before .get2 .ensures)
+    let at-conclude = c .before .before in
+    let at-part-at = at-conclude .before .before in
+    let at-get2 = at-part-at .before in
+    let at-get = at-get2 .before .before in
+    let args = at-get .before .before .before .before .before .args in
+    lifted-left (args .work .now) (args .n .0) (at-part-at .part-at .ensures) (at-conclude .conclude .last .1 .1 .0)
+    (λ (l : List ℕ). concludeOp (args .p .now) l (args .code) (at-get .get .result) (at-get2 .get2 .result)
+    (args .outcomes .now) (args .used)) (at-conclude .conclude .ensures)
+    ∙ ap₂
+    (λ (q c : ℕ). inPart (args .work .now) (args .n .0)
+    (concludeOp (args .p .now) (partOf (args .work .now) (args .n .0)) (args .code) q c (args .outcomes .now)
+    (args .used))) (at-get .get .ensures) (at-get2 .get2 .ensures)
 
 pub conclude-at-spec : {M : Type 1} → statement M
 conclude-at-spec =

@@ -24,8 +24,13 @@ same-length c = search needs
 
 returns : tie.Need-returns
 returns c =
-    let args = c .before .before .before .before .before .before .before .before .before .args in
-    counts-qubit (args .work .now) (args .kind) (c .before .before .before .before .before .before .before .if1 .taken) (c .before .before .before .before .before .get .ensures) (c .before .before .before .low .ensures) (c .before .before .put .ensures)
+    let at-put = c .before .before in
+    let at-low = at-put .before in
+    let at-get = at-low .before .before in
+    let at-if1 = at-get .before .before in
+    let args = at-if1 .before .before .args in
+    counts-qubit (args .work .now) (args .kind) (at-if1 .if1 .taken) (at-get .get .ensures) (at-low .low .ensures)
+    (at-put .put .ensures)
 
 get-requires-2 : tie.Need-get-requires-2
 get-requires-2 c κs = search needs
@@ -47,8 +52,14 @@ same-length-2 c = search needs
 
 returns-2 : tie.Need-returns-2
 returns-2 c =
-    let args = c .before .before .before .before .before .before .before .before .before .before .args in
-    counts-channel (args .work .now) (args .kind) (c .before .before .before .before .before .before .before .before .if1 .left) (c .before .before .before .before .before .before .before .if2 .taken) (c .before .before .before .before .before .get2 .ensures) (c .before .before .before .low2 .ensures) (c .before .before .put2 .ensures)
+    let at-put2 = c .before .before in
+    let at-low2 = at-put2 .before in
+    let at-get2 = at-low2 .before .before in
+    let at-if2 = at-get2 .before .before in
+    let at-if1 = at-if2 .before in
+    let args = at-if1 .before .before .args in
+    counts-channel (args .work .now) (args .kind) (at-if1 .if1 .left) (at-if2 .if2 .taken) (at-get2 .get2 .ensures)
+    (at-low2 .low2 .ensures) (at-put2 .put2 .ensures)
 
 returns-3 : tie.Need-returns-3
 returns-3 c =

@@ -13,8 +13,10 @@ full-requires c κs = search needs
 
 returns : tie.Need-returns
 returns c =
-    let args = c .before .before .before .before .before .before .before .args in
-    single-full (args .p .now) (args .outcomes .now) (args .trace .now) (args .work .now) (args .room) (args .g) (args .n .0) (args .code) (c .before .if1 .taken) (c .full .ensures)
+    let at-if1 = c .before in
+    let args = at-if1 .before .before .before .before .before .before .args in
+    single-full (args .p .now) (args .outcomes .now) (args .trace .now) (args .work .now) (args .room) (args .g)
+    (args .n .0) (args .code) (at-if1 .if1 .taken) (c .full .ensures)
 
 conclude-at-requires : tie.Need-conclude-at-requires
 conclude-at-requires c κs = search needs
@@ -29,7 +31,11 @@ write-line-requires : tie.Need-write-line-requires
 write-line-requires c κs = search needs
 
 add-taken : tie.Need-add-taken
-add-taken c = omega (arith, c .before .before .before .before .before .before .before .before .before .before .before .before .before .before .before .before .before .before .before .before .pre .3)
+add-taken c =
+    let c9 = c .before .before .before .before .before .before .before .before .before in
+    let c18 = c9 .before .before .before .before .before .before .before .before .before in
+    let at-pre = c18 .before .before in
+    omega (arith, at-pre .pre .3)
 
 cast-low : tie.Need-cast-low
 cast-low c = search needs
@@ -54,9 +60,17 @@ same-length-2 c = search needs
 
 returns-2 : tie.Need-returns-2
 returns-2 c =
-    let args = c .before .before .before .before .before .before .before .before .before .before .before .before .before .before .before .before .before .before .before .before .before .before .before .before .args in
-    single-noted (args .p .now) (args .outcomes .now) (args .trace .now) (args .work .now) (args .room) (args .g) (args .n .0) (args .code)
-    (c .before .before .before .before .before .before .before .before .before .before .before .before .before .before .before .before .before .before .if1 .left) (c .before .before .before .before .before .before .before .before .before .before .before .before .before .before .before .before .conclude-at .ensures) (c .before .before .before .before .before .before .before .before .before .before .before .before .count-made .ensures) (c .before .before .before .before .before .before .before .before .event-line .ensures) (c .before .before .before .before .before .before .before .write-line .ensures) (c .before .low .ensures) (c .taken .ensures)
+    let at-low = c .before in
+    let at-write-line = at-low .before .before .before .before .before .before in
+    let at-event-line = at-write-line .before in
+    let at-count-made = at-event-line .before .before .before .before in
+    let at-conclude-at = at-count-made .before .before .before .before in
+    let at-if1 = at-conclude-at .before .before in
+    let args = at-if1 .before .before .before .before .before .before .args in
+    single-noted (args .p .now) (args .outcomes .now) (args .trace .now) (args .work .now) (args .room) (args .g)
+    (args .n .0) (args .code) (at-if1 .if1 .left) (at-conclude-at .conclude-at .ensures)
+    (at-count-made .count-made .ensures) (at-event-line .event-line .ensures) (at-write-line .write-line .ensures)
+    (at-low .low .ensures) (c .taken .ensures)
 
 pub single-spec : {M : Type 1} → statement M
 single-spec =

@@ -26,7 +26,14 @@ get-requires : tie.Need-get-requires Inv-loop μ-loop
 get-requires c κs = search needs
 
 returns : tie.Need-returns Inv-loop μ-loop
-returns c = empty-found (c .before .before .before .before .before .before .args .w .now) (c .before .before .before .before .before .before .args .top) (c .before .before .before .before .before .before .args .n) (c .before .before .before .before .loop .j) (c .before .before .before .loop-test .taken) (c .before .before .below .ensures) (c .before .get .ensures) (c .if1 .taken)
+returns c =
+    let at-get = c .before in
+    let at-below = at-get .before in
+    let at-loop-test = at-below .before in
+    let at-loop = at-loop-test .before in
+    let args = at-loop .before .before .args in
+    empty-found (args .w .now) (args .top) (args .n) (at-loop .loop .j) (at-loop-test .loop-test .taken)
+    (at-below .below .ensures) (at-get .get .ensures) (c .if1 .taken)
 
 add-j : tie.Need-add-j Inv-loop μ-loop
 add-j c = search needs
@@ -35,10 +42,22 @@ loop-less : tie.Need-loop-less Inv-loop μ-loop
 loop-less c = search needs
 
 loop-again : tie.Need-loop-again Inv-loop μ-loop
-loop-again c = (search needs, empty-more (c .before .before .before .before .before .before .args .w .now) (c .before .before .before .before .before .before .args .top) (c .before .before .before .before .loop .j) (c .before .before .before .before .loop .inv .1) (c .before .before .below .ensures) (c .before .get .ensures) (c .if1 .left))
+loop-again c =
+    let at-get = c .before in
+    let at-below = at-get .before in
+    let at-loop = at-below .before .before in
+    let args = at-loop .before .before .args in (
+      search needs,
+      empty-more (args .w .now) (args .top) (at-loop .loop .j) (at-loop .loop .inv .1)
+          (at-below .below .ensures) (at-get .get .ensures) (c .if1 .left),
+    )
 
 returns-2 : tie.Need-returns-2 Inv-loop μ-loop
-returns-2 c = let e : c .before .loop .j ≡ c .before .before .before .args .n = omega arith in subst (λ (i : ℕ). false ≡ emptyDown (c .before .before .before .args .w .now) (c .before .before .before .args .top) i) e (sym (c .before .loop .inv .1))
+returns-2 c =
+    let at-loop = c .before in
+    let args = at-loop .before .before .args in
+    let e : at-loop .loop .j ≡ args .n = omega arith in
+    subst (λ (i : ℕ). false ≡ emptyDown (args .w .now) (args .top) i) e (sym (at-loop .loop .inv .1))
 
 pub any-empty-spec : {M : Type 1} → statement M
 any-empty-spec =

@@ -47,13 +47,30 @@ loop-less : tie.Need-loop-less Inv-loop μ-loop
 loop-less c = search needs
 
 loop-again : tie.Need-loop-again Inv-loop μ-loop
-loop-again c = (search needs, moved-more (c .before .before .before .before .before .before .before .before .args .w .now) (c .before .before .before .before .before .before .before .before .args .top) (c .before .before .before .before .before .before .before .before .args .to) (c .before .before .before .before .before .before .before .before .args .n) (c .before .before .before .before .before .before .loop .j) (c .before .before .before .before .before .loop-test .taken) (c .before .before .before .before .before .before .loop .inv .1) (c .before .before .before .below .ensures) (c .before .before .move-one .ensures), c .before .before .move-one .kept .0 ∙ c .before .before .before .before .before .before .loop .inv .2)
+loop-again c =
+    let at-move-one = c .before .before in
+    let at-below = at-move-one .before in
+    let at-loop-test = at-below .before .before in
+    let at-loop = at-loop-test .before in
+    let args = at-loop .before .before .args in (
+      search needs,
+      moved-more (args .w .now) (args .top) (args .to) (args .n) (at-loop .loop .j)
+          (at-loop-test .loop-test .taken) (at-loop .loop .inv .1) (at-below .below .ensures)
+          (at-move-one .move-one .ensures),
+      at-move-one .move-one .kept .0
+          ∙ at-loop .loop .inv .2,
+    )
 
 same-length : tie.Need-same-length Inv-loop μ-loop
 same-length c = search needs
 
 returns : tie.Need-returns Inv-loop μ-loop
-returns c = let e : c .before .loop .j ≡ c .before .before .before .args .n = omega arith in subst (λ (i : ℕ). c .before .loop .w ≡ movedDown (c .before .before .before .args .w .now) (c .before .before .before .args .top) (c .before .before .before .args .to) (c .before .before .before .args .n) i) e (c .before .loop .inv .1)
+returns c =
+    let at-loop = c .before in
+    let args = at-loop .before .before .args in
+    let e : at-loop .loop .j ≡ args .n = omega arith in
+    subst (λ (i : ℕ). at-loop .loop .w ≡ movedDown (args .w .now) (args .top) (args .to) (args .n) i) e
+    (at-loop .loop .inv .1)
 
 pub move-down-spec : {M : Type 1} → statement M
 move-down-spec =

@@ -20,13 +20,25 @@ same-length : tie.Need-same-length
 same-length c = search needs
 
 returns : tie.Need-returns
-returns c = one-emptied (c .before .before .before .before .before .before .before .before .before .before .args .w .now) (c .before .before .before .before .before .before .before .before .before .before .args .t) (c .before .before .before .before .before .before .before .before .before .before .args .i) (c .before .before .before .before .before .before .before .value .ensures) (c .before .before .before .before .before .before .is-lost .ensures) (c .before .before .before .before .before .if1 .taken) (c .before .before .before .empty .ensures) (c .before .before .put-value .ensures)
+returns c =
+    let at-put-value = c .before .before in
+    let at-empty = at-put-value .before in
+    let at-if1 = at-empty .before .before in
+    let at-is-lost = at-if1 .before in
+    let at-value = at-is-lost .before in
+    let args = at-value .before .before .before .args in
+    one-emptied (args .w .now) (args .t) (args .i) (at-value .value .ensures) (at-is-lost .is-lost .ensures)
+    (at-if1 .if1 .taken) (at-empty .empty .ensures) (at-put-value .put-value .ensures)
 
 same-length-2 : tie.Need-same-length-2
 same-length-2 c = search needs
 
 returns-2 : tie.Need-returns-2
-returns-2 c = one-kept (c .before .before .before .before .before .args .w .now) (c .before .before .before .before .before .args .t) (c .before .before .before .before .before .args .i) (c .before .before .value .ensures) (c .before .is-lost .ensures) (c .if1 .left)
+returns-2 c =
+    let at-is-lost = c .before in
+    let at-value = at-is-lost .before in
+    let args = at-value .before .before .before .args in
+    one-kept (args .w .now) (args .t) (args .i) (at-value .value .ensures) (at-is-lost .is-lost .ensures) (c .if1 .left)
 
 pub empty-one-spec : {M : Type 1} → statement M
 empty-one-spec =

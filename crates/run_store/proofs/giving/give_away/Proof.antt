@@ -38,13 +38,26 @@ loop-less : tie.Need-loop-less Inv-loop μ-loop
 loop-less c = search needs
 
 loop-again : tie.Need-loop-again Inv-loop μ-loop
-loop-again c = (search needs, emptied-more (c .before .before .before .before .before .before .before .args .w .now) (c .before .before .before .before .before .before .before .args .t) (c .before .before .before .before .before .loop .j) (c .before .before .before .before .before .loop .inv .1) (c .before .before .empty-one .ensures), c .before .before .empty-one .kept .0 ∙ c .before .before .before .before .before .loop .inv .2)
+loop-again c =
+    let at-empty-one = c .before .before in
+    let at-loop = at-empty-one .before .before .before in
+    let args = at-loop .before .before .args in (
+      search needs,
+      emptied-more (args .w .now) (args .t) (at-loop .loop .j) (at-loop .loop .inv .1)
+          (at-empty-one .empty-one .ensures),
+      at-empty-one .empty-one .kept .0
+          ∙ at-loop .loop .inv .2,
+    )
 
 same-length : tie.Need-same-length Inv-loop μ-loop
 same-length c = search needs
 
 returns : tie.Need-returns Inv-loop μ-loop
-returns c = let e : c .before .loop .j ≡ c .before .before .before .args .n = omega arith in subst (λ (i : ℕ). c .before .loop .w ≡ emptiedBy (c .before .before .before .args .w .now) (c .before .before .before .args .t) i) e (c .before .loop .inv .1)
+returns c =
+    let at-loop = c .before in
+    let args = at-loop .before .before .args in
+    let e : at-loop .loop .j ≡ args .n = omega arith in
+    subst (λ (i : ℕ). at-loop .loop .w ≡ emptiedBy (args .w .now) (args .t) i) e (at-loop .loop .inv .1)
 
 pub give-away-spec : {M : Type 1} → statement M
 give-away-spec =

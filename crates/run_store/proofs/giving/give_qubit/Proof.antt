@@ -39,17 +39,26 @@ loop-less c = search needs
 
 loop-again : tie.Need-loop-again Inv-loop μ-loop
 loop-again c =
-    let args = c .before .before .before .before .before .before .before .args in
-    (search needs, emptied-eight (args .w .now) (record { tag = 3; number = args .number }) (c .before .before .before .before .before .loop .j) (c .before .before .before .before .before .loop .inv .1) (c .before .before .lose-eight .ensures), c .before .before .lose-eight .kept .0 ∙ c .before .before .before .before .before .loop .inv .2)
+    let at-lose-eight = c .before .before in
+    let at-loop = at-lose-eight .before .before .before in
+    let args = at-loop .before .before .args in (
+      search needs,
+      emptied-eight (args .w .now) (record { tag = 3; number = args .number }) (at-loop .loop .j)
+          (at-loop .loop .inv .1) (at-lose-eight .lose-eight .ensures),
+      at-lose-eight .lose-eight .kept .0
+          ∙ at-loop .loop .inv .2,
+    )
 
 same-length : tie.Need-same-length Inv-loop μ-loop
 same-length c = search needs
 
 returns : tie.Need-returns Inv-loop μ-loop
 returns c =
-    let args = c .before .before .before .args in
-    let e : c .before .loop .j ≡ args .n = omega arith in
-    subst (λ (i : ℕ). c .before .loop .w ≡ emptiedBy (args .w .now) (record { tag = 3; number = args .number }) (8 * i)) e (c .before .loop .inv .1)
+    let at-loop = c .before in
+    let args = at-loop .before .before .args in
+    let e : at-loop .loop .j ≡ args .n = omega arith in
+    subst (λ (i : ℕ). at-loop .loop .w ≡ emptiedBy (args .w .now) (record { tag = 3; number = args .number }) (8 * i)) e
+    (at-loop .loop .inv .1)
 
 pub give-qubit-spec : {M : Type 1} → statement M
 give-qubit-spec =

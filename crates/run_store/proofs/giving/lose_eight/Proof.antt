@@ -54,16 +54,19 @@ same-length c = search needs
 
 returns : tie.Need-returns
 returns c =
-    let args = c .before .before .before .before .before .before .before .before .before .before .before .before .before .before .before .before .before .before .before .before .before .before .before .before .before .before .before .before .before .before .before .before .before .args in
+    let at-lose-qubit8 = c .before .before in
+    let at-lose-qubit7 = at-lose-qubit8 .before .before .before .before in
+    let at-lose-qubit6 = at-lose-qubit7 .before .before .before .before in
+    let at-lose-qubit5 = at-lose-qubit6 .before .before .before .before in
+    let at-lose-qubit4 = at-lose-qubit5 .before .before .before .before in
+    let at-lose-qubit3 = at-lose-qubit4 .before .before .before .before in
+    let at-lose-qubit2 = at-lose-qubit3 .before .before .before .before in
+    let at-lose-qubit = at-lose-qubit2 .before .before .before .before in
+    let args = at-lose-qubit .before .before .before .args in
     eight-emptied (args .w .now) (record { tag = 3; number = args .number }) (args .i)
-    (c .before .before .before .before .before .before .before .before .before .before .before .before .before .before .before .before .before .before .before .before .before .before .before .before .before .before .before .before .before .before .lose-qubit .ensures)
-    (c .before .before .before .before .before .before .before .before .before .before .before .before .before .before .before .before .before .before .before .before .before .before .before .before .before .before .lose-qubit2 .ensures)
-    (c .before .before .before .before .before .before .before .before .before .before .before .before .before .before .before .before .before .before .before .before .before .before .lose-qubit3 .ensures)
-    (c .before .before .before .before .before .before .before .before .before .before .before .before .before .before .before .before .before .before .lose-qubit4 .ensures)
-    (c .before .before .before .before .before .before .before .before .before .before .before .before .before .before .lose-qubit5 .ensures)
-    (c .before .before .before .before .before .before .before .before .before .before .lose-qubit6 .ensures)
-    (c .before .before .before .before .before .before .lose-qubit7 .ensures)
-    (c .before .before .lose-qubit8 .ensures)
+    (at-lose-qubit .lose-qubit .ensures) (at-lose-qubit2 .lose-qubit2 .ensures) (at-lose-qubit3 .lose-qubit3 .ensures)
+    (at-lose-qubit4 .lose-qubit4 .ensures) (at-lose-qubit5 .lose-qubit5 .ensures) (at-lose-qubit6 .lose-qubit6 .ensures)
+    (at-lose-qubit7 .lose-qubit7 .ensures) (at-lose-qubit8 .lose-qubit8 .ensures)
 
 pub lose-eight-spec : {M : Type 1} → statement M
 lose-eight-spec =

@@ -22,7 +22,9 @@ unfolding putValue
 returns c = cc
 
 returns-2 : tie.Need-returns-2
-returns-2 c = put-beyond (c .before .before .args .w .now) (c .before .before .args .at) (c .before .before .args .v) (c .if1 .left)
+returns-2 c =
+    put-beyond (c .before .before .args .w .now) (c .before .before .args .at) (c .before .before .args .v)
+    (c .if1 .left)
 
 pub put-value-spec : {M : Type 1} → statement M
 put-value-spec =

@@ -26,7 +26,10 @@ empty-requires : tie.Need-empty-requires
 empty-requires c κs = search needs
 
 returns-2 : tie.Need-returns-2
-returns-2 c = c .empty .ensures ∙ value-beyond (c .before .before .before .args .w .now) (c .before .before .before .args .at) (c .before .if1 .left)
+returns-2 c =
+    let at-if1 = c .before in
+    let args = at-if1 .before .before .args in
+    c .empty .ensures ∙ value-beyond (args .w .now) (args .at) (at-if1 .if1 .left)
 
 pub value-spec : {M : Type 1} → statement M
 value-spec =

@@ -36,19 +36,36 @@ loop-less c = search needs
 
 loop-again : tie.Need-loop-again Inv-loop μ-loop
 loop-again c =
-    let args = c .before .before .before .before .before .before .args in
-    let loop = c .before .before .before .before .loop in
+    let at-operand-of = c .before .before in
+    let at-loop = at-operand-of .before .before in
+    let args = at-loop .before .before .args in
+    let loop = at-loop .loop in
     ⊎-elim
-    (λ w. (search needs, w .1 ∙ thing-more (args .work .now) (args .n .0) (args .args) (loop .j) (loop .inv .1) (c .before .before .operand-of .ensures) (w .0 .taken), search needs))
-    (λ w. (search needs, w .1 ∙ thing-passed (args .work .now) (args .n .0) (args .args) (loop .j) (loop .inv .1) (c .before .before .operand-of .ensures) (w .0 .left), search needs))
-    (c .if1 .came)
+    (λ w. (
+      search needs,
+      w .1
+          ∙ thing-more (args .work .now) (args .n .0) (args .args) (loop .j) (loop .inv .1)
+          (at-operand-of .operand-of .ensures) (w .0 .taken),
+      search needs,
+    ))
+    (λ w. (
+      search needs,
+      w .1
+          ∙ thing-passed (args .work .now) (args .n .0) (args .args) (loop .j) (loop .inv .1)
+          (at-operand-of .operand-of .ensures) (w .0 .left),
+      search needs,
+    )) (c .if1 .came)
 
 returns : tie.Need-returns Inv-loop μ-loop
 returns c =
-    let args = c .before .before .before .args in
-    let loop = c .before .loop in
-    let e : loop .j ≡ args .args = omega arith in
-    (subst (λ (i : ℕ). loop .count ≡ thingsIn (args .work .now) (args .n .0) (args .args) i) e (loop .inv .1), search needs)
+    let at-loop = c .before in
+    let args = at-loop .before .before .args in
+    let loop = at-loop .loop in
+    let e : loop .j ≡ args .args = omega arith in (
+      subst (λ (i : ℕ). loop .count ≡ thingsIn (args .work .now) (args .n .0) (args .args) i) e (loop .inv .1),
+      search
+          needs,
+    )
 
 pub count-things-spec : {M : Type 1} → statement M
 count-things-spec =

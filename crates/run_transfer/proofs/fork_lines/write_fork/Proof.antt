@@ -21,9 +21,13 @@ same-length c = search needs
 
 returns : tie.Need-returns
 returns c =
-    let args = c .before .before .before .before .before .before .before .before .before .before .before .args in
-    fork-lines (args .trace .now) (args .line) (args .entry) (args .n .0) (args .child .0) (args .work .now) (args .m) (args .args)
-    (c .before .before .before .before .before .before .before .fork-line .ensures) (c .before .before .before .before .before .before .write-line .ensures) (c .before .before .write-gifts .ensures)
+    let at-write-gifts = c .before .before in
+    let at-write-line = at-write-gifts .before .before .before .before in
+    let at-fork-line = at-write-line .before in
+    let args = at-fork-line .before .before .before .before .args in
+    fork-lines (args .trace .now) (args .line) (args .entry) (args .n .0) (args .child .0) (args .work .now) (args .m)
+    (args .args) (at-fork-line .fork-line .ensures) (at-write-line .write-line .ensures)
+    (at-write-gifts .write-gifts .ensures)
 
 pub write-fork-spec : {M : Type 1} → statement M
 write-fork-spec =

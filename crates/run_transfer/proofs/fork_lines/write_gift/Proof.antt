@@ -6,8 +6,10 @@ use Rattle.run_transfer.proofs.fork_lines.write_gift.Tie as tie
 
 returns : tie.Need-returns
 returns c =
-    let args = c .before .before .before .args in
-    (gift-passed (args .trace .now) (args .line) (args .entry) (args .from .0) (args .to .0) (args .v) (c .if1 .taken), search needs)
+    let args = c .before .before .before .args in (
+      gift-passed (args .trace .now) (args .line) (args .entry) (args .from .0) (args .to .0) (args .v) (c .if1 .taken),
+      search needs,
+    )
 
 gift-line-requires : tie.Need-gift-line-requires
 gift-line-requires c κs = search needs
@@ -23,10 +25,12 @@ same-length c = search needs
 
 returns-2 : tie.Need-returns-2
 returns-2 c =
-    let args = c .before .before .before .before .before .before .before .before .args in (
+    let at-write-line = c .before .before in
+    let at-gift-line = at-write-line .before in
+    let at-if1 = at-gift-line .before .before in
+    let args = at-if1 .before .before .before .args in (
       gift-written (args .trace .now) (args .line) (args .entry) (args .from .0) (args .to .0) (args .v)
-          (c .before .before .before .before .before .if1 .left) (c .before .before .before .gift-line .ensures)
-          (c .before .before .write-line .ensures),
+          (at-if1 .if1 .left) (at-gift-line .gift-line .ensures) (at-write-line .write-line .ensures),
       search needs,
     )
 

@@ -11,7 +11,8 @@ use Rattle.run_transfer.proofs.fork_lines.write_gifts.Tie as tie
 
 abbrev Inv-loop : tie.InvT-loop
 Inv-loop trace₀ work line entry from to args next₀ j₀ trace next j =
-    (j ≤ args) × (gifts next trace ≡ giftsAdded (gifts line trace₀) work entry (from .0) (to .0) args j) × (next ≤ line + j) × (length trace ≡ length trace₀)
+    (j ≤ args) × (gifts next trace ≡ giftsAdded (gifts line trace₀) work entry (from .0) (to .0) args j) ×
+    (next ≤ line + j) × (length trace ≡ length trace₀)
 
 abbrev μ-loop : tie.MeasureT-loop
 μ-loop trace₀ work line entry from to args next₀ j₀ trace next j = args - j
@@ -37,13 +38,18 @@ loop-less c = search needs
 
 loop-again : tie.Need-loop-again Inv-loop μ-loop
 loop-again c =
-    let args = c .before .before .before .before .before .before .before .before .before .args in
-    let loop = c .before .before .before .before .before .before .loop in (
+    let at-write-gift = c .before .before in
+    let at-operand-of = at-write-gift .before .before in
+    let at-loop = at-operand-of .before .before in
+    let args = at-loop .before .before .before .args in
+    let loop = at-loop .loop in (
       search needs,
-      gift-more (gifts (args .line) (args .trace .now)) (args .work .now) (args .entry) (args .from .0) (args .to .0) (args .args) (loop .j)
-          (loop .inv .1) (c .before .before .before .before .operand-of .ensures) (c .before .before .write-gift .ensures .0),
+      gift-more (gifts (args .line) (args .trace .now)) (args .work .now) (args .entry) (args .from .0)
+          (args .to .0) (args .args) (loop .j) (loop .inv .1) (at-operand-of .operand-of .ensures)
+          (at-write-gift .write-gift .ensures .0),
       search needs,
-      c .before .before .write-gift .kept .0 ∙ loop .inv .3,
+      at-write-gift .write-gift .kept .0
+          ∙ loop .inv .3,
     )
 
 same-length : tie.Need-same-length Inv-loop μ-loop
@@ -51,10 +57,13 @@ same-length c = search needs
 
 returns : tie.Need-returns Inv-loop μ-loop
 returns c =
-    let args = c .before .before .before .before .args in
-    let loop = c .before .loop in
+    let at-loop = c .before in
+    let args = at-loop .before .before .before .args in
+    let loop = at-loop .loop in
     let e : loop .j ≡ args .args = omega arith in
-    subst (λ (i : ℕ). gifts (loop .next) (loop .trace) ≡ giftsAdded (gifts (args .line) (args .trace .now)) (args .work .now) (args .entry) (args .from .0) (args .to .0) (args .args) i) e (loop .inv .1)
+    subst
+    (λ (i : ℕ). gifts (loop .next) (loop .trace) ≡ giftsAdded (gifts (args .line) (args .trace .now)) (args .work .now)
+    (args .entry) (args .from .0) (args .to .0) (args .args) i) e (loop .inv .1)
 
 pub write-gifts-spec : {M : Type 1} → statement M
 write-gifts-spec =

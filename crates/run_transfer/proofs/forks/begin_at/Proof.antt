@@ -33,8 +33,11 @@ same-length c = search needs
 
 returns : tie.Need-returns
 returns c =
-    let args = c .before .before .before .before .before .before .before .args in
-    lifted-words (args .work .now) (args .child .0) (c .before .before .before .before .part-at .ensures) (c .before .before .begin .last .1 .0) (λ (l : List ℕ). beganWords (args .p .now) l (args .m)) (c .before .before .begin .ensures)
+    let at-begin = c .before .before in
+    let at-part-at = at-begin .before .before in
+    let args = at-part-at .before .before .before .args in
+    lifted-words (args .work .now) (args .child .0) (at-part-at .part-at .ensures) (at-begin .begin .last .1 .0)
+    (λ (l : List ℕ). beganWords (args .p .now) l (args .m)) (at-begin .begin .ensures)
 
 pub begin-at-spec : {M : Type 1} → statement M
 begin-at-spec =

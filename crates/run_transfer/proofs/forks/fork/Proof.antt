@@ -34,16 +34,20 @@ same-length c = search needs
 returns : tie.Need-returns
 unfolding forkedWords beganAt argumentsPoppedAt
 returns c =
-    let args = c .before .before .before .before .before .before .before .before .before .before .before .before .before .before .before .before .before .before .before .before .before .before .before .args in
-    c .before .before .give-args .ensures
+    let at-give-args = c .before .before in
+    let at-pop-arguments-at = at-give-args .before .before .before .before in
+    let at-hand-args = at-pop-arguments-at .before .before .before .before in
+    let at-begin-at = at-hand-args .before .before .before .before in
+    let at-put = at-begin-at .before .before .before .before in
+    let args = at-put .before .before .before .before .before .args in
+    at-give-args .give-args .ensures
     ∙ ap (λ (l : List ℕ). argsGiven l (args .n .0) (args .child .0) (args .args))
-    (c .before .before .before .before .before .before .pop-arguments-at .ensures
+    (at-pop-arguments-at .pop-arguments-at .ensures
     ∙ ap (λ (l : List ℕ). argumentsPoppedAt l (args .n .0) (args .args))
-    (c .before .before .before .before .before .before .before .before .before .before .hand-args .ensures
+    (at-hand-args .hand-args .ensures
     ∙ ap (λ (l : List ℕ). argsHanded l (args .n .0) (args .child .0) (args .args) (args .args))
-    (c .before .before .before .before .before .before .before .before .before .before .before .before .before .before .begin-at .ensures
-    ∙ ap (λ (l : List ℕ). beganAt (args .p .now) l (args .child .0) (args .m))
-    (c .before .before .before .before .before .before .before .before .before .before .before .before .before .before .before .before .before .before .put .ensures))))
+    (at-begin-at .begin-at .ensures
+    ∙ ap (λ (l : List ℕ). beganAt (args .p .now) l (args .child .0) (args .m)) (at-put .put .ensures))))
 
 pub fork-spec : {M : Type 1} → statement M
 fork-spec =

@@ -10,7 +10,8 @@ use Rattle.run_transfer.proofs.forks.give_args.Statement.{statement}
 use Rattle.run_transfer.proofs.forks.give_args.Tie as tie
 
 abbrev Inv-loop : tie.InvT-loop
-Inv-loop work₀ n child args j₀ work j = (j ≤ args) × (work ≡ argsGiven work₀ (n .0) (child .0) j) × (length work ≡ length work₀)
+Inv-loop work₀ n child args j₀ work j =
+    (j ≤ args) × (work ≡ argsGiven work₀ (n .0) (child .0) j) × (length work ≡ length work₀)
 
 abbrev μ-loop : tie.MeasureT-loop
 μ-loop work₀ n child args j₀ work j = args - j
@@ -30,11 +31,15 @@ loop-less c = search needs
 
 loop-again : tie.Need-loop-again Inv-loop μ-loop
 loop-again c =
-    let args = c .before .before .before .before .before .before .before .args in
-    let loop = c .before .before .before .before .before .loop in (
+    let at-give-arg = c .before .before in
+    let at-loop = at-give-arg .before .before .before in
+    let args = at-loop .before .before .args in
+    let loop = at-loop .loop in (
       search needs,
-      given-more (args .work .now) (args .n .0) (args .child .0) (loop .j) (loop .inv .1) (c .before .before .give-arg .ensures),
-      c .before .before .give-arg .kept .0 ∙ loop .inv .2,
+      given-more (args .work .now) (args .n .0) (args .child .0) (loop .j) (loop .inv .1)
+          (at-give-arg .give-arg .ensures),
+      at-give-arg .give-arg .kept .0
+          ∙ loop .inv .2,
     )
 
 same-length : tie.Need-same-length Inv-loop μ-loop

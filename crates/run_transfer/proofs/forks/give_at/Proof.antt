@@ -33,8 +33,11 @@ same-length c = search needs
 
 returns : tie.Need-returns
 returns c =
-    let args = c .before .before .before .before .before .before .args in
-    lifted-words (args .work .now) (args .n .0) (c .before .before .before .before .part-at .ensures) (c .before .before .give .last .0) (λ (l : List ℕ). givenWords l (args .v)) (c .before .before .give .ensures)
+    let at-give = c .before .before in
+    let at-part-at = at-give .before .before in
+    let args = at-part-at .before .before .args in
+    lifted-words (args .work .now) (args .n .0) (at-part-at .part-at .ensures) (at-give .give .last .0)
+    (λ (l : List ℕ). givenWords l (args .v)) (at-give .give .ensures)
 
 pub give-at-spec : {M : Type 1} → statement M
 give-at-spec =

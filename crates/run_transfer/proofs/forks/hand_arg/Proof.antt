@@ -50,12 +50,16 @@ same-length c = search needs
 returns : tie.Need-returns
 unfolding argHanded
 returns c =
-    let args = c .before .before .before .before .before .before .before .before .args in
-    lifted-words (args .work .now) (args .child .0) (c .before .before .before .before .part-at .ensures) (c .before .before .put-value .last .0)
-    (λ (l : List ℕ). putValue l (64 + 2 * args .j) (c .before .before .before .before .before .operand-of .result))
-    (c .before .before .put-value .ensures)
-    ∙ ap (λ (v : Val). withPart (args .work .now) (args .child .0) (putValue (partOf (args .work .now) (args .child .0)) (64 + 2 * args .j) v))
-    (c .before .before .before .before .before .operand-of .ensures)
+    let at-put-value = c .before .before in
+    let at-part-at = at-put-value .before .before in
+    let at-operand-of = at-part-at .before in
+    let args = at-operand-of .before .before .before .args in
+    lifted-words (args .work .now) (args .child .0) (at-part-at .part-at .ensures) (at-put-value .put-value .last .0)
+    (λ (l : List ℕ). putValue l (64 + 2 * args .j) (at-operand-of .operand-of .result))
+    (at-put-value .put-value .ensures)
+    ∙ ap
+    (λ (v : Val). withPart (args .work .now) (args .child .0)
+    (putValue (partOf (args .work .now) (args .child .0)) (64 + 2 * args .j) v)) (at-operand-of .operand-of .ensures)
 
 pub hand-arg-spec : {M : Type 1} → statement M
 hand-arg-spec =

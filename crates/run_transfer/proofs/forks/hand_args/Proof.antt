@@ -10,7 +10,8 @@ use Rattle.run_transfer.proofs.forks.hand_args.Statement.{statement}
 use Rattle.run_transfer.proofs.forks.hand_args.Tie as tie
 
 abbrev Inv-loop : tie.InvT-loop
-Inv-loop work₀ n child args j₀ work j = (j ≤ args) × (work ≡ argsHanded work₀ (n .0) (child .0) args j) × (length work ≡ length work₀)
+Inv-loop work₀ n child args j₀ work j =
+    (j ≤ args) × (work ≡ argsHanded work₀ (n .0) (child .0) args j) × (length work ≡ length work₀)
 
 abbrev μ-loop : tie.MeasureT-loop
 μ-loop work₀ n child args j₀ work j = args - j
@@ -30,11 +31,15 @@ loop-less c = search needs
 
 loop-again : tie.Need-loop-again Inv-loop μ-loop
 loop-again c =
-    let args = c .before .before .before .before .before .before .before .args in
-    let loop = c .before .before .before .before .before .loop in (
+    let at-hand-arg = c .before .before in
+    let at-loop = at-hand-arg .before .before .before in
+    let args = at-loop .before .before .args in
+    let loop = at-loop .loop in (
       search needs,
-      handed-more (args .work .now) (args .n .0) (args .child .0) (args .args) (loop .j) (loop .inv .1) (c .before .before .hand-arg .ensures),
-      c .before .before .hand-arg .kept .0 ∙ loop .inv .2,
+      handed-more (args .work .now) (args .n .0) (args .child .0) (args .args) (loop .j) (loop .inv .1)
+          (at-hand-arg .hand-arg .ensures),
+      at-hand-arg .hand-arg .kept .0
+          ∙ loop .inv .2,
     )
 
 same-length : tie.Need-same-length Inv-loop μ-loop
@@ -42,10 +47,12 @@ same-length c = search needs
 
 returns : tie.Need-returns Inv-loop μ-loop
 returns c =
-    let args = c .before .before .before .args in
-    let loop = c .before .loop in
+    let at-loop = c .before in
+    let args = at-loop .before .before .args in
+    let loop = at-loop .loop in
     let e : loop .j ≡ args .args = omega arith in
-    subst (λ (i : ℕ). loop .work ≡ argsHanded (args .work .now) (args .n .0) (args .child .0) (args .args) i) e (loop .inv .1)
+    subst (λ (i : ℕ). loop .work ≡ argsHanded (args .work .now) (args .n .0) (args .child .0) (args .args) i) e
+    (loop .inv .1)
 
 pub hand-args-spec : {M : Type 1} → statement M
 hand-args-spec =

@@ -33,8 +33,11 @@ operand-requires c κs = search needs
 returns : tie.Need-returns
 unfolding operandOf
 returns c =
-    let args = c .before .before .before .before .args in
-    c .operand .ensures ∙ ap (λ (l : List ℕ). valueAt l (topAt (headOf l) (args .d))) (part-lent (args .work .now) (args .n .0) (c .before .before .part-at .ensures))
+    let at-part-at = c .before .before in
+    let args = at-part-at .before .before .args in
+    c .operand .ensures
+    ∙ ap (λ (l : List ℕ). valueAt l (topAt (headOf l) (args .d)))
+    (part-lent (args .work .now) (args .n .0) (at-part-at .part-at .ensures))
 
 pub operand-of-spec : {M : Type 1} → statement M
 operand-of-spec =

@@ -33,8 +33,12 @@ same-length c = search needs
 
 returns : tie.Need-returns
 returns c =
-    let args = c .before .before .before .before .before .before .args in
-    lifted-words (args .work .now) (args .n .0) (c .before .before .before .before .part-at .ensures) (c .before .before .pop-arguments .last .0) (λ (l : List ℕ). argumentsPopped l (args .args)) (c .before .before .pop-arguments .ensures)
+    let at-pop-arguments = c .before .before in
+    let at-part-at = at-pop-arguments .before .before in
+    let args = at-part-at .before .before .args in
+    lifted-words (args .work .now) (args .n .0) (at-part-at .part-at .ensures)
+    (at-pop-arguments .pop-arguments .last .0) (λ (l : List ℕ). argumentsPopped l (args .args))
+    (at-pop-arguments .pop-arguments .ensures)
 
 pub pop-arguments-at-spec : {M : Type 1} → statement M
 pop-arguments-at-spec =

@@ -37,8 +37,11 @@ value-requires c κs = search needs
 
 returns : tie.Need-returns
 returns c =
-    let args = c .before .before .before .before .args in
-    c .value .ensures ∙ ap (λ (l : List ℕ). valueAt l (64 + 2 * args .j)) (part-lent (args .work .now) (args .child .0) (c .before .before .part-at .ensures))
+    let at-part-at = c .before .before in
+    let args = at-part-at .before .before .args in
+    c .value .ensures
+    ∙ ap (λ (l : List ℕ). valueAt l (64 + 2 * args .j))
+    (part-lent (args .work .now) (args .child .0) (at-part-at .part-at .ensures))
 
 pub slot-of-spec : {M : Type 1} → statement M
 slot-of-spec =

@@ -17,7 +17,13 @@ same-length : tie.Need-same-length
 same-length c = search needs
 
 returns : tie.Need-returns
-returns c = meeting-lines (c .before .before .before .before .before .before .before .args .trace .now) (c .before .before .before .before .before .before .before .args .line) (c .before .before .before .before .before .before .before .args .entry) (c .before .before .before .before .before .before .before .args .sender .0) (c .before .before .before .before .before .before .before .args .receiver .0) (c .before .before .before .before .before .before .before .args .e) (c .before .before .before .before .before .before .before .args .v) (c .before .before .before .before .before .met-line .ensures) (c .before .before .before .before .value-line .ensures) (c .before .before .write-two .ensures)
+returns c =
+    let at-write-two = c .before .before in
+    let at-value-line = at-write-two .before .before in
+    let at-met-line = at-value-line .before in
+    let args = at-met-line .before .before .args in
+    meeting-lines (args .trace .now) (args .line) (args .entry) (args .sender .0) (args .receiver .0) (args .e)
+    (args .v) (at-met-line .met-line .ensures) (at-value-line .value-line .ensures) (at-write-two .write-two .ensures)
 
 pub write-meeting-spec : {M : Type 1} → statement M
 write-meeting-spec =

@@ -33,8 +33,11 @@ same-length c = search needs
 
 returns : tie.Need-returns
 returns c =
-    let args = c .before .before .before .before .before .before .args in
-    lifted-words (args .work .now) (args .n .0) (c .before .before .before .before .part-at .ensures) (c .before .before .receive .last .0) (λ (l : List ℕ). receivedWords l (args .v)) (c .before .before .receive .ensures)
+    let at-receive = c .before .before in
+    let at-part-at = at-receive .before .before in
+    let args = at-part-at .before .before .args in
+    lifted-words (args .work .now) (args .n .0) (at-part-at .part-at .ensures) (at-receive .receive .last .0)
+    (λ (l : List ℕ). receivedWords l (args .v)) (at-receive .receive .ensures)
 
 pub receive-at-spec : {M : Type 1} → statement M
 receive-at-spec =

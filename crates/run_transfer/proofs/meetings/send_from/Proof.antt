@@ -33,8 +33,11 @@ same-length c = search needs
 
 returns : tie.Need-returns
 returns c =
-    let args = c .before .before .before .before .before .before .args in
-    lifted-words (args .work .now) (args .n .0) (c .before .before .before .before .part-at .ensures) (c .before .before .send .last .0) (λ (l : List ℕ). sentWords l (args .v)) (c .before .before .send .ensures)
+    let at-send = c .before .before in
+    let at-part-at = at-send .before .before in
+    let args = at-part-at .before .before .args in
+    lifted-words (args .work .now) (args .n .0) (at-part-at .part-at .ensures) (at-send .send .last .0)
+    (λ (l : List ℕ). sentWords l (args .v)) (at-send .send .ensures)
 
 pub send-from-spec : {M : Type 1} → statement M
 send-from-spec =

@@ -18,7 +18,11 @@ same-length c = search needs
 
 returns : tie.Need-returns
 unfolding jfalseOp
-returns c = empty-stops _ _ _ (c .before .before .value .ensures ∙ ap (valueAt (c .before .before .before .before .before .before .before .args .w .now)) (c .before .before .before .top .ensures)) (c .if1 .taken)
+returns c =
+    let at-value = c .before .before in
+    let at-top = at-value .before in
+    let args = at-top .before .before .before .before .args in
+    empty-stops _ _ _ (at-value .value .ensures ∙ ap (valueAt (args .w .now)) (at-top .top .ensures)) (c .if1 .taken)
 
 target-requires : tie.Need-target-requires
 target-requires c κs = search needs
@@ -31,7 +35,19 @@ same-length-2 c = search needs
 
 returns-2 : tie.Need-returns-2
 unfolding jfalseOp
-returns-2 c = full-goes _ _ _ (c .before .before .before .before .before .before .before .before .before .value .ensures ∙ ap (valueAt (c .before .before .before .before .before .before .before .before .before .before .before .before .before .before .args .w .now)) (c .before .before .before .before .before .before .before .before .before .before .top .ensures)) (c .before .before .before .before .before .before .before .if1 .left) (jfalse-jumps _ _ _ (c .before .before .before .before .before .before .before .before .before .value .ensures ∙ ap (valueAt (c .before .before .before .before .before .before .before .before .before .before .before .before .before .before .args .w .now)) (c .before .before .before .before .before .before .before .before .before .before .top .ensures)) (c .before .before .before .before .before .if2 .taken) (ap (afterStep 0) (c .before .before .discard-to .ensures ∙ ap (dropTo (c .before .before .before .before .before .before .before .before .before .before .before .before .before .before .args .w .now) (c .before .before .before .before .before .before .before .before .before .before .before .before .before .before .args .h)) (c .before .before .before .target .ensures))))
+returns-2 c =
+    let at-discard-to = c .before .before in
+    let at-target = at-discard-to .before in
+    let at-if2 = at-target .before .before in
+    let at-if1 = at-if2 .before .before in
+    let at-value = at-if1 .before .before in
+    let at-top = at-value .before in
+    let args = at-top .before .before .before .before .args in
+    full-goes _ _ _ (at-value .value .ensures ∙ ap (valueAt (args .w .now)) (at-top .top .ensures)) (at-if1 .if1 .left)
+    (jfalse-jumps _ _ _ (at-value .value .ensures ∙ ap (valueAt (args .w .now)) (at-top .top .ensures))
+    (at-if2 .if2 .taken)
+    (ap (afterStep 0)
+    (at-discard-to .discard-to .ensures ∙ ap (dropTo (args .w .now) (args .h)) (at-target .target .ensures))))
 
 discard-requires : tie.Need-discard-requires
 discard-requires c κs = search needs
@@ -41,7 +57,16 @@ same-length-3 c = search needs
 
 returns-3 : tie.Need-returns-3
 unfolding jfalseOp
-returns-3 c = full-goes _ _ _ (c .before .before .before .before .before .before .before .before .value .ensures ∙ ap (valueAt (c .before .before .before .before .before .before .before .before .before .before .before .before .before .args .w .now)) (c .before .before .before .before .before .before .before .before .before .top .ensures)) (c .before .before .before .before .before .before .if1 .left) (jfalse-goes _ _ _ (c .before .before .before .before .before .before .before .before .value .ensures ∙ ap (valueAt (c .before .before .before .before .before .before .before .before .before .before .before .before .before .args .w .now)) (c .before .before .before .before .before .before .before .before .before .top .ensures)) (c .before .before .before .before .if2 .left) (ap (afterStep 0) (c .before .before .discard .ensures)))
+returns-3 c =
+    let at-discard = c .before .before in
+    let at-if2 = at-discard .before .before in
+    let at-if1 = at-if2 .before .before in
+    let at-value = at-if1 .before .before in
+    let at-top = at-value .before in
+    let args = at-top .before .before .before .before .args in
+    full-goes _ _ _ (at-value .value .ensures ∙ ap (valueAt (args .w .now)) (at-top .top .ensures)) (at-if1 .if1 .left)
+    (jfalse-goes _ _ _ (at-value .value .ensures ∙ ap (valueAt (args .w .now)) (at-top .top .ensures))
+    (at-if2 .if2 .left) (ap (afterStep 0) (at-discard .discard .ensures)))
 
 pub op-jfalse-spec : {M : Type 1} → statement M
 op-jfalse-spec =

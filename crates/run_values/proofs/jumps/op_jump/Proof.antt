@@ -20,7 +20,14 @@ same-length c = search needs
 
 returns : tie.Need-returns
 unfolding jumpOp
-returns c = ap (afterStep 0) (c .before .before .put-top .ensures ∙ ap (putTop (c .before .before .before .before .before .before .before .before .args .w .now)) (c .before .before .before .to .ensures ∙ ap (movedTo (c .before .before .before .before .before .before .before .before .args .h)) (c .before .before .before .before .target .ensures)))
+returns c =
+    let at-put-top = c .before .before in
+    let at-to = at-put-top .before in
+    let at-target = at-to .before in
+    let args = at-target .before .before .before .before .args in
+    ap (afterStep 0)
+    (at-put-top .put-top .ensures
+    ∙ ap (putTop (args .w .now)) (at-to .to .ensures ∙ ap (movedTo (args .h)) (at-target .target .ensures)))
 
 pub op-jump-spec : {M : Type 1} → statement M
 op-jump-spec =

@@ -16,7 +16,12 @@ same-length c = search needs
 
 returns : tie.Need-returns
 unfolding clearOp
-returns c = ap (afterStep 0) (c .before .before .store-slot .ensures ∙ ap (inSlot (c .before .before .before .before .before .before .before .args .w .now) (c .before .before .before .before .before .before .before .args .h) (c .before .before .before .before .before .before .before .args .a)) (c .before .before .before .empty .ensures))
+returns c =
+    let at-store-slot = c .before .before in
+    let at-empty = at-store-slot .before in
+    let args = at-empty .before .before .before .before .args in
+    ap (afterStep 0)
+    (at-store-slot .store-slot .ensures ∙ ap (inSlot (args .w .now) (args .h) (args .a)) (at-empty .empty .ensures))
 
 pub op-clear-spec : {M : Type 1} → statement M
 op-clear-spec = tie.close (tie.spec empty-requires store-slot-requires same-length returns)

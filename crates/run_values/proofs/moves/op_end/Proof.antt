@@ -20,7 +20,11 @@ same-length c = search needs
 
 returns : tie.Need-returns
 unfolding endOp
-returns c = empty-stops _ _ _ (c .before .before .value .ensures ∙ ap (valueAt (c .before .before .before .before .before .before .args .w .now)) (c .before .before .before .top .ensures)) (c .if1 .taken)
+returns c =
+    let at-value = c .before .before in
+    let at-top = at-value .before in
+    let args = at-top .before .before .before .args in
+    empty-stops _ _ _ (at-value .value .ensures ∙ ap (valueAt (args .w .now)) (at-top .top .ensures)) (c .if1 .taken)
 
 add-t13 : tie.Need-add-t13
 add-t13 c = search needs
@@ -33,7 +37,17 @@ same-length-2 c = search needs
 
 returns-2 : tie.Need-returns-2
 unfolding endOp
-returns-2 c = full-goes _ _ _ (c .before .before .before .before .before .before .value .ensures ∙ ap (valueAt (c .before .before .before .before .before .before .before .before .before .before .args .w .now)) (c .before .before .before .before .before .before .before .top .ensures)) (c .before .before .before .before .if1 .left) (ap (afterStep 0) (c .before .before .replace .ensures ∙ ap (λ (v : Val). onTop (c .before .before .before .before .before .before .before .before .before .before .args .w .now) (c .before .before .before .before .before .before .before .before .before .before .args .h) (record { tag = 5 + c .before .before .before .before .before .before .before .before .before .before .args .a; number = v .number })) (c .before .before .before .before .before .before .value .ensures ∙ ap (valueAt (c .before .before .before .before .before .before .before .before .before .before .args .w .now)) (c .before .before .before .before .before .before .before .top .ensures))))
+returns-2 c =
+    let at-replace = c .before .before in
+    let at-if1 = at-replace .before .before in
+    let at-value = at-if1 .before .before in
+    let at-top = at-value .before in
+    let args = at-top .before .before .before .args in
+    full-goes _ _ _ (at-value .value .ensures ∙ ap (valueAt (args .w .now)) (at-top .top .ensures)) (at-if1 .if1 .left)
+    (ap (afterStep 0)
+    (at-replace .replace .ensures
+    ∙ ap (λ (v : Val). onTop (args .w .now) (args .h) (record { tag = 5 + args .a; number = v .number }))
+    (at-value .value .ensures ∙ ap (valueAt (args .w .now)) (at-top .top .ensures))))
 
 pub op-end-spec : {M : Type 1} → statement M
 op-end-spec =

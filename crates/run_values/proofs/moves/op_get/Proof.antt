@@ -18,7 +18,11 @@ same-length c = search needs
 
 returns : tie.Need-returns
 unfolding getOp
-returns c = empty-stops _ _ _ (c .before .before .value .ensures ∙ ap (valueAt (c .before .before .before .before .before .before .args .w .now)) (c .before .before .before .slot .ensures)) (c .if1 .taken)
+returns c =
+    let at-value = c .before .before in
+    let at-slot = at-value .before in
+    let args = at-slot .before .before .before .args in
+    empty-stops _ _ _ (at-value .value .ensures ∙ ap (valueAt (args .w .now)) (at-slot .slot .ensures)) (c .if1 .taken)
 
 push-requires : tie.Need-push-requires
 push-requires c κs = search needs
@@ -28,7 +32,18 @@ same-length-2 c = search needs
 
 returns-2 : tie.Need-returns-2
 unfolding getOp
-returns-2 c = full-goes _ _ _ (c .before .before .before .before .before .before .value .ensures ∙ ap (valueAt (c .before .before .before .before .before .before .before .before .before .before .args .w .now)) (c .before .before .before .before .before .before .before .slot .ensures)) (c .before .before .before .before .if1 .left) (ap (afterStep 0) (c .before .before .push .ensures ∙ ap (pushOn (c .before .before .before .before .before .before .before .before .before .before .args .w .now) (c .before .before .before .before .before .before .before .before .before .before .args .h)) (c .before .before .before .before .before .before .value .ensures ∙ ap (valueAt (c .before .before .before .before .before .before .before .before .before .before .args .w .now)) (c .before .before .before .before .before .before .before .slot .ensures))))
+returns-2 c =
+    let at-push = c .before .before in
+    let at-if1 = at-push .before .before in
+    let at-value = at-if1 .before .before in
+    let at-slot = at-value .before in
+    let args = at-slot .before .before .before .args in
+    full-goes _ _ _ (at-value .value .ensures ∙ ap (valueAt (args .w .now)) (at-slot .slot .ensures))
+    (at-if1 .if1 .left)
+    (ap (afterStep 0)
+    (at-push .push .ensures
+    ∙ ap (pushOn (args .w .now) (args .h))
+    (at-value .value .ensures ∙ ap (valueAt (args .w .now)) (at-slot .slot .ensures))))
 
 pub op-get-spec : {M : Type 1} → statement M
 op-get-spec =

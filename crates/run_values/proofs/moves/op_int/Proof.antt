@@ -17,7 +17,12 @@ same-length c = search needs
 
 returns : tie.Need-returns
 unfolding intOp
-returns c = ap (afterStep 0) (c .before .before .push .ensures ∙ ap (λ (n : ℕ). pushOn (c .before .before .before .before .before .before .before .args .w .now) (c .before .before .before .before .before .before .before .args .h) (intVal n)) (c .before .before .before .extend .ensures))
+returns c =
+    let at-push = c .before .before in
+    let at-extend = at-push .before in
+    let args = at-extend .before .before .before .before .args in
+    ap (afterStep 0)
+    (at-push .push .ensures ∙ ap (λ (n : ℕ). pushOn (args .w .now) (args .h) (intVal n)) (at-extend .extend .ensures))
 
 pub op-int-spec : {M : Type 1} → statement M
 op-int-spec = tie.close (tie.spec extend-requires push-requires same-length returns)

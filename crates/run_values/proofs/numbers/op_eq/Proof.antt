@@ -14,7 +14,10 @@ same-length c = search needs
 
 returns : tie.Need-returns
 unfolding eqOp
-returns c = two-stop (c .before .before .before .before .args .w .now) (c .before .before .before .before .args .h) _ (c .before .two-empty .ensures) (c .if1 .taken)
+returns c =
+    let at-two-empty = c .before in
+    let args = at-two-empty .before .before .before .args in
+    two-stop (args .w .now) (args .h) _ (at-two-empty .two-empty .ensures) (c .if1 .taken)
 
 number-requires : tie.Need-number-requires
 number-requires c κs = search needs
@@ -33,7 +36,18 @@ same-length-2 c = search needs
 
 returns-2 : tie.Need-returns-2
 unfolding eqOp
-returns-2 c = two-go (c .before .before .before .before .before .before .before .before .before .before .before .before .before .args .w .now) (c .before .before .before .before .before .before .before .before .before .before .before .before .before .args .h) _ (c .before .before .before .before .before .before .before .before .before .before .two-empty .ensures) (c .before .before .before .before .before .before .before .before .before .if1 .left) (c .before .before .before .before .before .before .before .number .ensures) (c .before .before .before .before .before .number2 .ensures) (ap (afterStep 0) (c .before .before .replace-two .ensures ∙ ap (overTwo (c .before .before .before .before .before .before .before .before .before .before .before .before .before .args .w .now) (c .before .before .before .before .before .before .before .before .before .before .before .before .before .args .h)) (c .before .before .before .flag .ensures)))
+returns-2 c =
+    let at-replace-two = c .before .before in
+    let at-flag = at-replace-two .before in
+    let at-number2 = at-flag .before .before in
+    let at-number = at-number2 .before .before in
+    let at-if1 = at-number .before .before in
+    let at-two-empty = at-if1 .before in
+    let args = at-two-empty .before .before .before .args in
+    two-go (args .w .now) (args .h) _ (at-two-empty .two-empty .ensures) (at-if1 .if1 .left)
+    (at-number .number .ensures) (at-number2 .number2 .ensures)
+    (ap (afterStep 0)
+    (at-replace-two .replace-two .ensures ∙ ap (overTwo (args .w .now) (args .h)) (at-flag .flag .ensures)))
 
 pub op-eq-spec : {M : Type 1} → statement M
 op-eq-spec =

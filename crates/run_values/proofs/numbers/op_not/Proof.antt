@@ -20,7 +20,11 @@ same-length c = search needs
 
 returns : tie.Need-returns
 unfolding notOp
-returns c = empty-stops _ _ _ (c .before .before .value .ensures ∙ ap (valueAt (c .before .before .before .before .before .before .args .w .now)) (c .before .before .before .top .ensures)) (c .if1 .taken)
+returns c =
+    let at-value = c .before .before in
+    let at-top = at-value .before in
+    let args = at-top .before .before .before .args in
+    empty-stops _ _ _ (at-value .value .ensures ∙ ap (valueAt (args .w .now)) (at-top .top .ensures)) (c .if1 .taken)
 
 flag-requires : tie.Need-flag-requires
 flag-requires c κs = search needs
@@ -33,7 +37,20 @@ same-length-2 c = search needs
 
 returns-2 : tie.Need-returns-2
 unfolding notOp
-returns-2 c = full-goes _ _ _ (c .before .before .before .before .before .before .before .before .value .ensures ∙ ap (valueAt (c .before .before .before .before .before .before .before .before .before .before .before .before .args .w .now)) (c .before .before .before .before .before .before .before .before .before .top .ensures)) (c .before .before .before .before .before .before .if1 .left) (ap (afterStep 0) (c .before .before .replace .ensures ∙ ap (onTop (c .before .before .before .before .before .before .before .before .before .before .before .before .args .w .now) (c .before .before .before .before .before .before .before .before .before .before .before .before .args .h)) (c .before .before .before .flag .ensures ∙ ap (λ (v : Val). boolVal (bit (eqb (v .number) 0))) (c .before .before .before .before .before .before .before .before .value .ensures ∙ ap (valueAt (c .before .before .before .before .before .before .before .before .before .before .before .before .args .w .now)) (c .before .before .before .before .before .before .before .before .before .top .ensures)))))
+returns-2 c =
+    let at-replace = c .before .before in
+    let at-flag = at-replace .before in
+    let at-if1 = at-flag .before .before .before in
+    let at-value = at-if1 .before .before in
+    let at-top = at-value .before in
+    let args = at-top .before .before .before .args in
+    full-goes _ _ _ (at-value .value .ensures ∙ ap (valueAt (args .w .now)) (at-top .top .ensures)) (at-if1 .if1 .left)
+    (ap (afterStep 0)
+    (at-replace .replace .ensures
+    ∙ ap (onTop (args .w .now) (args .h))
+    (at-flag .flag .ensures
+    ∙ ap (λ (v : Val). boolVal (bit (eqb (v .number) 0)))
+    (at-value .value .ensures ∙ ap (valueAt (args .w .now)) (at-top .top .ensures)))))
 
 pub op-not-spec : {M : Type 1} → statement M
 op-not-spec =

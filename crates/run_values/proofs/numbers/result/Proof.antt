@@ -7,10 +7,15 @@ use Rattle.run_values.proofs.numbers.result.Statement.{statement}
 use Rattle.run_values.proofs.numbers.result.Tie as tie
 
 returns : tie.Need-returns
-returns c = result-low (c .before .before .args .w .now) (c .before .before .args .h) (c .before .before .args .s) (c .if1 .taken)
+returns c =
+    result-low (c .before .before .args .w .now) (c .before .before .args .h) (c .before .before .args .s)
+    (c .if1 .taken)
 
 returns-2 : tie.Need-returns-2
-returns-2 c = result-high (c .before .before .before .args .w .now) (c .before .before .before .args .h) (c .before .before .before .args .s) (c .before .if1 .left) (c .if2 .taken)
+returns-2 c =
+    let at-if1 = c .before in
+    let args = at-if1 .before .before .args in
+    result-high (args .w .now) (args .h) (args .s) (at-if1 .if1 .left) (c .if2 .taken)
 
 cast-t9 : tie.Need-cast-t9
 cast-t9 c = search needs
@@ -22,7 +27,13 @@ same-length : tie.Need-same-length
 same-length c = search needs
 
 returns-3 : tie.Need-returns-3
-returns-3 c = ap (afterStep 0) (c .before .before .replace-two .ensures) ∙ result-in (c .before .before .before .before .before .before .before .args .w .now) (c .before .before .before .before .before .before .before .args .h) (c .before .before .before .before .before .before .before .args .s) (c .before .before .before .before .before .if1 .left) (c .before .before .before .before .if2 .left)
+returns-3 c =
+    let at-replace-two = c .before .before in
+    let at-if2 = at-replace-two .before .before in
+    let at-if1 = at-if2 .before in
+    let args = at-if1 .before .before .args in
+    ap (afterStep 0) (at-replace-two .replace-two .ensures)
+    ∙ result-in (args .w .now) (args .h) (args .s) (at-if1 .if1 .left) (at-if2 .if2 .left)
 
 pub result-spec : {M : Type 1} → statement M
 result-spec =

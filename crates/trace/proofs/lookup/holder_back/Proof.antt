@@ -61,11 +61,14 @@ loop-again c =
 
 returns-2 : tie.Need-returns-2 Inv-loop μ-loop
 returns-2 c =
-    let args = c .before .before .before .args in
-    let loop = c .before .loop in
+    let at-loop = c .before in
+    let args = at-loop .before .before .args in
+    let loop = at-loop .loop in
     let begun : loop .i ≡ 0 = omega arith in
-    let holder = ap (λ (i : ℕ). lookUp (args .trace .now) i (args .q)) begun ∙ lookUp-none (args .trace .now) (args .q) in
-    let read = ap (λ (i : ℕ). countRead (args .trace .now) i (args .q)) begun ∙ countRead-none (args .trace .now) (args .q) in
+    let holder =
+    ap (λ (i : ℕ). lookUp (args .trace .now) i (args .q)) begun ∙ lookUp-none (args .trace .now) (args .q) in
+    let read =
+    ap (λ (i : ℕ). countRead (args .trace .now) i (args .q)) begun ∙ countRead-none (args .trace .now) (args .q) in
     (sym (loop .inv .1 ∙ holder), omega arith)
 
 pub holder-back-spec : {M : Type 1} → statement M

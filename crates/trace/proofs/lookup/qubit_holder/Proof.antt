@@ -20,10 +20,13 @@ holder-back-requires-2 c κs = search needs
 
 returns-2 : tie.Need-returns-2
 returns-2 c =
-    let args = c .before .before .before .before .args in
-    let n = c .before .before .line-count .result in (
-      c .holder-back2 .ensures .0 ∙ lookUp-all (args .trace .now) n (args .k) (args .qubit) (omega arith) (omega arith),
-      c .holder-back2 .ensures .1 ∙ countRead-all (args .trace .now) n (args .k) (args .qubit) (omega arith) (omega arith),
+    let at-line-count = c .before .before in
+    let args = at-line-count .before .before .args in
+    let n = at-line-count .line-count .result in (
+      c .holder-back2 .ensures .0
+          ∙ lookUp-all (args .trace .now) n (args .k) (args .qubit) (omega arith) (omega arith),
+      c .holder-back2 .ensures .1
+          ∙ countRead-all (args .trace .now) n (args .k) (args .qubit) (omega arith) (omega arith),
     )
 
 pub qubit-holder-spec : {M : Type 1} → statement M

@@ -12,7 +12,9 @@ line-from-requires : tie.Need-line-from-requires
 line-from-requires c κs = omega (arith, linesOf-length (c .before .args .t .now))
 
 returns : tie.Need-returns
-returns c = c .line-from .ensures ∙ sym (linesOf-at (c .before .before .args .t .now) (c .before .before .args .i) (c .before .before .pre))
+returns c =
+    c .line-from .ensures
+    ∙ sym (linesOf-at (c .before .before .args .t .now) (c .before .before .args .i) (c .before .before .pre))
 
 pub line-at-spec : {M : Type 1} → statement M
 line-at-spec = tie.close (tie.spec mul-line-from line-from-requires returns)

@@ -48,10 +48,12 @@ same-line-requires-2 c κs = search needs
 returns-2 : tie.Need-returns-2
 unfolding sameAt
 returns-2 c =
-    let args = c .before .before .before .before .before .before .args in
+    let at-line-at2 = c .before .before in
+    let at-line-at = at-line-at2 .before in
+    let args = at-line-at .before .before .before .args in
     let last : length (linesOf (args .a .now)) ≤ args .i + 1 = omega arith in
     rw (le-ltb (args .i + 1) (length (linesOf (args .a .now))) last, and-true)
-    (c .same-line2 .ensures ∙ ap₂ sameLine (c .before .before .before .line-at .ensures) (c .before .before .line-at2 .ensures))
+    (c .same-line2 .ensures ∙ ap₂ sameLine (at-line-at .line-at .ensures) (at-line-at2 .line-at2 .ensures))
 
 pub same-at-spec : {M : Type 1} → statement M
 same-at-spec =

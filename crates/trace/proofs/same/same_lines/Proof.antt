@@ -39,12 +39,14 @@ same-at-requires c κs = let loop = c .before .loop in (search needs, loop .inv 
 returns-2 : tie.Need-returns-2 Inv-loop μ-loop
 unfolding sameLines
 returns-2 c =
-    let args = c .before .before .before .before .before .before .before .before .before .args in
-    let loop = c .before .before .before .loop in
-    let differ = sym (c .before .same-at .ensures) ∙ not-true (c .before .same-at .result) (c .if2 .taken) in
+    let at-same-at = c .before in
+    let at-loop = at-same-at .before .before in
+    let args = at-loop .before .before .before .before .before .before .args in
+    let loop = at-loop .loop in
+    let differ = sym (at-same-at .same-at .ensures) ∙ not-true (at-same-at .same-at .result) (c .if2 .taken) in
     sym
-    (loop .inv .3
-    ∙ sameTimed-differ (linesOf (args .a .now)) (linesOf (args .b .now)) (loop .i) (omega arith) (omega arith) differ)
+    (loop .inv .3 ∙ sameTimed-differ (linesOf (args .a .now)) (linesOf (args .b .now)) (loop .i) (omega arith)
+    (omega arith) differ)
 
 add-i : tie.Need-add-i Inv-loop μ-loop
 add-i c = search needs
@@ -54,9 +56,11 @@ loop-less c = search needs
 
 loop-again : tie.Need-loop-again Inv-loop μ-loop
 loop-again c =
-    let args = c .before .before .before .before .before .before .before .before .before .args in
-    let loop = c .before .before .before .loop in
-    let agree = sym (c .before .same-at .ensures) ∙ not-false (c .before .same-at .result) (c .if2 .left) in (
+    let at-same-at = c .before in
+    let at-loop = at-same-at .before .before in
+    let args = at-loop .before .before .before .before .before .before .args in
+    let loop = at-loop .loop in
+    let agree = sym (at-same-at .same-at .ensures) ∙ not-false (at-same-at .same-at .result) (c .if2 .left) in (
       search needs,
       loop .inv .1,
       loop .inv .2,
