@@ -132,7 +132,7 @@ enum LanqRefusal {
 enum LanqEnd {
   LANQ_END_SCHEDULE_USED = 0, /* the schedule is used up */
   LANQ_END_ALL_OVER = 1,      /* every process made has finished or stopped */
-  LANQ_END_STUCK = 2,         /* no process is able to move: each that runs waits for a partner */
+  LANQ_END_STUCK = 2,         /* no process is able to move: each that runs waits for another that runs */
   LANQ_END_TRACE_FULL = 3     /* the lines of the next entry exceed what the trace still holds */
 };
 
@@ -181,7 +181,9 @@ enum LanqFault {
   LANQ_FAULT_OUTCOMES = 24,  /* no outcome is left */
   LANQ_FAULT_FRAMES = 25,    /* a frame beyond 8 would be started */
   LANQ_FAULT_INT_RANGE = 26, /* an int is out of range */
-  LANQ_FAULT_ONE_QUBIT = 27  /* a two-qubit gate falls on one qubit */
+  LANQ_FAULT_ONE_QUBIT = 27, /* a two-qubit gate falls on one qubit */
+  LANQ_FAULT_GONE = 33       /* at LANQ_OP_SEND or LANQ_OP_RECV: the opposite end is held by the process itself, or by one
+                              * that has finished or stopped */
 };
 
 /* Line i of a trace, counted from 0. */

@@ -27,6 +27,8 @@ cases = record {
   p10 = refl;
   p10-line = refl;
   p11 = refl;
+  p11-gone = refl;
+  p11-line = refl;
   p12 = refl;
 }
 

@@ -2,9 +2,9 @@
 -- any entry.
 use Prim.Native.Nat.{ℕ, _≤_, _<_}
 use native.Mathlib.Omega.{arith}
-use mathlib.Core.Logic.{_≢_}
+use mathlib.Core.Logic.{_≢_, inl, inr}
 use mathlib.Core.Bool.{Bool, true, cond, _&&_, not, Bool·beq}
-use mathlib.Core.Path.{_≡_, refl}
+use mathlib.Core.Path.{_≡_, refl, sym, _∙_, subst}
 use mathlib.Core.List.{List, [], _∷_, _++_}
 use mathlib.Core.Option.{Option, none, some}
 use lib.ListN.{getD, length, length-append, length-set, length-map}
@@ -19,6 +19,8 @@ use Rattle.machine.specs.Value.{Thing, qubit, channel, end, Value, empty
 use Rattle.machine.specs.State.{Frame, Process, Config, State, processAt, setProcess, started}
 use Rattle.machine.specs.Act.{Offer, sends, receives, Act, idle, stuck, faults, goes, ends, makes, forks, offers, actOf}
 use Rattle.machine.specs.Entry.{lostWith, without, frameWithout, framesWithout, thingsOf, Meeting, joins, offered, meetsWith, meetingOf, runs, counted, joined, forking, pushTop, meetIn, meetIfIn, applied, effectOf, appliedIn, effectIn, forkingIn, meetingIn, tableMachine}
+use Rattle.machine.specs.Sound.{IsFault}
+use Rattle.machine.proofs.Gone.{judged-keeps}
 use Rattle.machine.proofs.Typing.{Fits, fits-more-qubits, fits-more-channels, FrameTyped, Callers, Frames, frames-pay, started-typed, ProcessTyped, processes-imply, ConfigTyped, Typed}
 use Rattle.machine.proofs.Acts.{OfferTyped, MakingTyped, ActTyped}
 use Rattle.machine.proofs.Standing.{act-typed, act-runs}
@@ -193,6 +195,19 @@ meetingIf-typed p outcomes ks k s t (some e) g = meeting-typed p outcomes ks k s
 faults≢idle : (f : ℕ) → _≢_ {A = Act} (faults f) idle
 faults≢idle f e = let z : _≡_ {A = ℕ} 0 1 = cc in omega arith
 
+offers≢idle : (o : Offer) → _≢_ {A = Act} (offers o) idle
+offers≢idle o e = subst Offers e tt
+  where
+    Offers : Act → Type 0
+    Offers idle = ⊥
+    Offers stuck = ⊥
+    Offers (faults f) = ⊥
+    Offers (goes fs es u) = ⊥
+    Offers ends = ⊥
+    Offers (makes t fs) = ⊥
+    Offers (forks m args fs) = ⊥
+    Offers (offers o) = Unit {0}
+
 module _ (p : List ℕ) (k : Kept p) (outcomes : List ℕ) (bytes : All (λ o. o ≤ 2) outcomes)
     (s : State) (ks : List ℕ) (t : ConfigTyped p ks (s .config)) where
   meetingOf-typed : (n : ℕ) (o : Offer) → OfferTyped p ks (s .config .qubits) o
@@ -209,13 +224,18 @@ module _ (p : List ℕ) (k : Kept p) (outcomes : List ℕ) (bytes : All (λ o. o
           let other = offered-typed p ks q _ (actOf p outcomes s m) (act-typed p k outcomes bytes s ks t m) in
           cond-both (Given (MeetingTyped p ks q)) (eqb m n) {x = none} tt (meetsWith-typed p ks q n o m _ h other)
 
+  fault-typed : (i n f : ℕ) → IsFault f → Frames p (Fits ks (s .config .qubits)) [] (processAt (s .config) n .frames)
+      → Typed p (applied p outcomes i s n (faults f) .config)
+  unfolding appliedIn
+  fault-typed i n f listed g = (ks, set-typed p ks (s .config) t n _ (listed, g))
+
   applied-typed : (i n : ℕ) (act : Act) → ActTyped p ks (s .config .qubits) (length (s .config .processes)) act
       → (act ≢ idle → Frames p (Fits ks (s .config .qubits)) [] (processAt (s .config) n .frames))
       → Typed p (applied p outcomes i s n act .config)
   unfolding appliedIn forkingIn
   applied-typed i n idle h g = (ks, t)
   applied-typed i n stuck h g = absurd h
-  applied-typed i n (faults f) h g = (ks, set-typed p ks (s .config) t n _ (h .0, h .1, g (faults≢idle f)))
+  applied-typed i n (faults f) h g = fault-typed i n f (inl h) (g (faults≢idle f))
   applied-typed i n (goes fs es u) h g = (ks, set-typed p ks (s .config) t n _ h)
   applied-typed i n ends h g = (ks, set-typed p ks (s .config) t n _ refl)
   applied-typed i n (makes u fs) h g = making-typed p ks (s .config) t n u fs h
@@ -225,4 +245,9 @@ module _ (p : List ℕ) (k : Kept p) (outcomes : List ℕ) (bytes : All (λ o. o
   pub effect-typed : (i n : ℕ) → Typed p (effectOf p outcomes i s n .config)
   unfolding effectIn
   effect-typed i n =
-      applied-typed i n (actOf p outcomes s n) (act-typed p k outcomes bytes s ks t n) (act-runs p k outcomes bytes s ks t n)
+      judged-keeps (λ act. Typed p (applied p outcomes i s n act .config)) s n (actOf p outcomes s n)
+      (applied-typed i n (actOf p outcomes s n) (act-typed p k outcomes bytes s ks t n) runs-on)
+      (λ o e. fault-typed i n 33 (inr refl) (runs-on (λ w. offers≢idle o (sym e ∙ w))))
+    where
+      runs-on : actOf p outcomes s n ≢ idle → Frames p (Fits ks (s .config .qubits)) [] (processAt (s .config) n .frames)
+      runs-on = act-runs p k outcomes bytes s ks t n

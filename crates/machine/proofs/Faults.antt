@@ -14,7 +14,7 @@ use Rattle.lists.proofs.Tests.{decide}
 use Rattle.machine.specs.Value.{Thing, qubit, channel, end}
 use Rattle.machine.specs.State.{running, finished, stopped, Process, Config, State, processAt, setProcess, startConfig, start, stops, startConfigWith, startWith}
 use Rattle.machine.specs.Act.{Act, idle, stuck, faults, goes, ends, makes, forks, offers, actOf}
-use Rattle.machine.specs.Entry.{Meeting, changes, runs, counted, joined, forking, meetingOf, applied, effectOf, faulted, faultOf, moves, able, ableIn, appliedIn, effectIn, faultIn, forkingIn, meetIfIn, meetIn, movesIn, tableMachine}
+use Rattle.machine.specs.Entry.{Meeting, changes, runs, counted, joined, forking, meetingOf, judged, applied, effectOf, faulted, faultOf, moves, able, ableIn, appliedIn, effectIn, faultIn, forkingIn, meetIfIn, meetIn, movesIn, tableMachine}
 use Rattle.machine.specs.Run.{Result, allOver, noneAble, fits, afterEffect, runFrom, run, runFromIn, runIn}
 use Rattle.machine.specs.Faults.{StoppedBy}
 use Rattle.machine.proofs.Giving.{process-same, process-other, process-beyond, count-set, joined-old, joined-new, joined-last}
@@ -39,11 +39,11 @@ module _ (p outcomes : List ℕ) (s : State) (n f : ℕ) (would : faultOf p outc
 
   fault-effect : (k : ℕ) → effectOf p outcomes k s n ≡ changes k s n halted (stops f ∷ []) 0
   unfolding faultIn effectIn appliedIn
-  fault-effect k = ap (applied p outcomes k s n) (fault-act (actOf p outcomes s n) f would)
+  fault-effect k = ap (applied p outcomes k s n) (fault-act (judged s n (actOf p outcomes s n)) f would)
 
   fault-made : n < length (s .config .processes)
   unfolding faultIn ableIn movesIn
-  fault-made = able-made p outcomes s n (ap (moves p outcomes s n) (fault-act (actOf p outcomes s n) f would))
+  fault-made = able-made p outcomes s n (ap (moves p outcomes s n) (fault-act (judged s n (actOf p outcomes s n)) f would))
 
   pub fault-stops : (k : ℕ) → StoppedBy k n f s (afterEffect s (effectOf p outcomes k s n))
   unfolding afterEffect setProcess
@@ -126,10 +126,10 @@ met-stopped p outcomes k s (some w) n f e =
 entry-stopped : (p outcomes : List ℕ) (k : ℕ) (s : State) (m n f : ℕ) → IsStopped (effectOf p outcomes k s m .config) n f
     → IsStopped (s .config) n f ⊎ ((m ≡ n) × (faultOf p outcomes s n ≡ some f))
 unfolding effectIn appliedIn forkingIn faultIn faulted
-entry-stopped p outcomes k s m n f e = go (actOf p outcomes s m) refl e
+entry-stopped p outcomes k s m n f e = go (judged s m (actOf p outcomes s m)) refl e
   where
-    go : (a : Act) → actOf p outcomes s m ≡ a → IsStopped (applied p outcomes k s m a .config) n f
-        → IsStopped (s .config) n f ⊎ ((m ≡ n) × (faulted (actOf p outcomes s n) ≡ some f))
+    go : (a : Act) → judged s m (actOf p outcomes s m) ≡ a → IsStopped (applied p outcomes k s m a .config) n f
+        → IsStopped (s .config) n f ⊎ ((m ≡ n) × (faulted (judged s n (actOf p outcomes s n)) ≡ some f))
     go idle i h = inl h
     go stuck i h = inl h
     go (faults g) i h =

@@ -1,9 +1,11 @@
 pub mod Opened
 pub mod Cases
 pub mod Examples
+pub mod Gone
 pub mod Things
 pub mod Operands
 pub mod Within
+pub mod Busy
 pub mod Invariant
 pub mod Lines
 pub mod Holder
@@ -20,6 +22,7 @@ pub mod Effects
 pub mod Sound
 pub mod Steps
 pub mod Partner
+pub mod Waiting
 pub mod Faults
 pub mod Reached
 pub mod NoClick

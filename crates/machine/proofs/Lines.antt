@@ -14,7 +14,7 @@ use Rattle.lists.specs.Lists.{All}
 use Rattle.lists.proofs.Any.{All-append, All-implies}
 use Rattle.machine.specs.State.{Line, State, Event, lineOf, gave}
 use Rattle.machine.specs.Act.{Act, idle, stuck, faults, goes, ends, makes, forks, offers, actOf}
-use Rattle.machine.specs.Entry.{Meeting, thingsOf, handing, meetingOf, forking, applied, effectOf, appliedIn, effectIn, forkingIn, meetIfIn, meetIn, tableMachine}
+use Rattle.machine.specs.Entry.{Meeting, thingsOf, handing, meetingOf, forking, judged, applied, effectOf, appliedIn, effectIn, forkingIn, meetIfIn, meetIn, tableMachine}
 use Rattle.machine.specs.Owner.{linesBefore, noLine}
 
 -- a law of each line of a list by the lines above it, where `above` stand above the whole list
@@ -73,7 +73,7 @@ dated-next k ls new a b =
 -- the lines of an entry
 pub effect-of : (p outcomes : List ℕ) (k : ℕ) (s : State) (n : ℕ) → Of k (effectOf p outcomes k s n .lines)
 unfolding effectIn appliedIn forkingIn meetIfIn meetIn
-effect-of p outcomes k s n = go (actOf p outcomes s n)
+effect-of p outcomes k s n = go (judged s n (actOf p outcomes s n))
   where
     met : (o : Option Meeting) → Of k (meetIfIn (tableMachine p outcomes) k s o .lines)
     met none = tt

@@ -15,9 +15,9 @@ use Rattle.lists.proofs.Any.{All-implies}
 use Rattle.machine.specs.Value.{Thing, qubit, channel, end, Value, empty, int, bool, ref}
 use Rattle.machine.specs.State.{Process, Config, Line, State, Event, processAt, setProcess, startConfig, lineOf, forked, gave, met, finishes, stops, startConfigWith}
 use Rattle.machine.specs.Act.{Act, idle, stuck, faults, goes, ends, makes, forks, offers, actOf}
-use Rattle.machine.specs.Entry.{Meeting, runs, handing, meetingOf, counted, making, joined, forking, applied, effectOf, thingsOf, appliedIn, effectIn, forkingIn, meetIfIn, meetIn, tableMachine}
+use Rattle.machine.specs.Entry.{Meeting, runs, handing, meetingOf, counted, making, joined, forking, judged, applied, effectOf, thingsOf, appliedIn, effectIn, forkingIn, meetIfIn, meetIn, tableMachine}
 use Rattle.machine.specs.Owner.{countKind, LineNew, valuesOf}
-use Rattle.machine.proofs.Within.{Quiet, Next, ActWithin, act-within}
+use Rattle.machine.proofs.Within.{Quiet, Next, ActWithin, judged-within}
 use Rattle.machine.proofs.Giving.{count-set}
 use Rattle.machine.proofs.Lines.{EachLine, each-append}
 
@@ -178,7 +178,8 @@ applied-numbered p outcomes k s n h (offers o) w = numbered-met p outcomes k s (
 pub entry-numbered : (p outcomes : List ℕ) (k : ℕ) (s : State) (n : ℕ) → Numbered (s .config) (s .lines)
     → Numbered (effectOf p outcomes k s n .config) (s .lines ++ effectOf p outcomes k s n .lines)
 unfolding effectIn
-entry-numbered p outcomes k s n h = applied-numbered p outcomes k s n h (actOf p outcomes s n) (act-within p outcomes s n)
+entry-numbered p outcomes k s n h =
+    applied-numbered p outcomes k s n h (judged s n (actOf p outcomes s n)) (judged-within p outcomes s n)
 
 -- the start
 

@@ -14,17 +14,17 @@ use lib.ListN.{take, length}
 use lib.Dec.{T, eqb, eqb→eq}
 use borrow.Author.Tests.{eqb-false}
 use Rattle.lists.specs.Lists.{any, All}
-use Rattle.lists.proofs.Tests.{or-cases, or-left, and-left, and-right}
+use Rattle.lists.proofs.Tests.{decide, passes, or-cases, or-left, and-left, and-right}
 use Rattle.lists.proofs.Any.{any-elim, firstSome-found}
 use Rattle.machine.specs.Value.{Thing, qubit, channel, end, Value, ref, covers}
 use Rattle.machine.specs.State.{Frame, finished, stopped, Process, Config, Line, State, Event, processAt, setProcess, started, startConfig, start, lineOf, gave, forked, met, finishes, stops, startConfigWith, startWith}
 use Rattle.machine.specs.Act.{Offer, sends, receives, Act, idle, stuck, faults, goes, ends, makes, forks, offers, actOf}
-use Rattle.machine.specs.Entry.{Effect, Meeting, joins, offered, meetsWith, meetingOf, meetIfIn, meetIn, runs, counted, making, joined, forking, framesWithout, thingsOf, pushTop, handing, applied, effectOf, tableMachine, appliedIn, effectIn, forkingIn, meetingIn}
+use Rattle.machine.specs.Entry.{Effect, Meeting, joins, offered, meetsWith, meetingOf, meetIfIn, meetIn, runs, counted, making, joined, forking, framesWithout, thingsOf, pushTop, handing, judged, applied, effectOf, tableMachine, appliedIn, effectIn, forkingIn, meetingIn}
 use Rattle.machine.specs.Run.{afterEffect, run, runIn}
 use Rattle.machine.specs.Owner.{names, valuesOf, reaches, holder, holderAfter, Holds, LineHeld, LineNew, MeetingHeld, Owned}
 use Rattle.machine.specs.Sound.{Made}
 use Rattle.machine.proofs.Things.{beq-eq}
-use Rattle.machine.proofs.Within.{InReach, Within, FramesWithin, Quiet, Next, OfferWithin, ActWithin, frames-own, frame-started, act-within}
+use Rattle.machine.proofs.Within.{InReach, Within, FramesWithin, Quiet, Next, OfferWithin, ActWithin, frames-own, frame-started, act-within, judged-within}
 use Rattle.machine.proofs.Invariant.{run-keeps}
 use Rattle.machine.proofs.Numbers.{Numbered, entry-numbered, start-numbered}
 use Rattle.machine.proofs.Lines.{each-append, each-at, Dated, dated-next, effect-of}
@@ -35,6 +35,7 @@ use Rattle.machine.proofs.Giving.{frames-reach, things-within, giver-le
 pub record Kept (c : Config) (ls : List Line) : Type 0 where
   pub named : (x : Thing) (n : ℕ) → T (reaches (processAt c n) x) → Holds ls n x
   pub made : (x : Thing) (n : ℕ) → T (reaches (processAt c n) x) → Made c x
+  pub held : (x : Thing) → Made c x → (q : ℕ) × Holds ls q x
   pub lawful : LinesHeld [] ls
 
 -- What an entry does to ownership: the things ts go to process q by its lines. Beyond what they cover, a process
@@ -44,6 +45,7 @@ record Moved (c c′ : Config) (ls new : List Line) (q : ℕ) (ts : List Thing) 
       → ((m ≡ q) × T (covered ts x)) ⊎ (T (reaches (processAt c m) x) × ((m ≡ q) ⊎ (T (covered ts x) → ⊥)))
   still : (x : Thing) → Made c x → Made c′ x
   fresh : (x : Thing) → T (covered ts x) → Made c′ x
+  only : (x : Thing) → Made c′ x → Made c x ⊎ T (covered ts x)
   holders : (x : Thing) → holder (ls ++ new) x ≡ cond (covered ts x) (some q) (holder ls x)
   lines : LinesHeld ls new
 
@@ -59,12 +61,20 @@ choice-false : (b : Bool) (h g : Option ℕ) → (T b → ⊥) → cond b g h �
 choice-false true h g f = absurd (f tt)
 choice-false false h g f = refl
 
+choice-some : (b : Bool) (h : Option ℕ) (q : ℕ) → ((r : ℕ) × (h ≡ some r)) ⊎ T b → (r : ℕ) × (cond b (some q) h ≡ some r)
+choice-some true h q w = (q, refl)
+choice-some false h q (inl w) = w
+choice-some false h q (inr t) = absurd t
+
 -- any entry keeps the invariant
 moved-keeps : (c c′ : Config) (ls new : List Line) (q : ℕ) (ts : List Thing) → Moved c c′ ls new q ts → Kept c ls
     → Kept c′ (ls ++ new)
 moved-keeps c c′ ls new q ts v h = record {
   named = λ x n r. v .holders x ∙ ⊎-elim (given x n) (stayed x n) (v .reach n x r);
   made = λ x n r. ⊎-elim (λ g. v .fresh x (g .1)) (λ o. v .still x (h .made x n (o .0))) (v .reach n x r);
+  held = λ x m.
+      let w = choice-some (covered ts x) (holder ls x) q (⊎-elim (λ o. inl (h .held x o)) (λ t. inr t) (v .only x m)) in
+      (w .0, v .holders x ∙ w .1);
   lawful = each-append LineHeld [] ls new (h .lawful) (v .lines);
 }
   where
@@ -87,6 +97,18 @@ still-set c n pr (qubit k) h = h
 still-set c n pr (channel k) h = h
 still-set c n pr (end k s) h = h
 
+only-set : (c : Config) (n : ℕ) (pr : Process) (x : Thing) → Made (setProcess c n pr) x → Made c x
+unfolding setProcess
+only-set c n pr (qubit k) h = h
+only-set c n pr (channel k) h = h
+only-set c n pr (end k s) h = h
+
+only-joined : (c : Config) (pr : Process) (x : Thing) → Made (joined c pr) x → Made c x
+unfolding joined
+only-joined c pr (qubit k) h = h
+only-joined c pr (channel k) h = h
+only-joined c pr (end k s) h = h
+
 still-joined : (c : Config) (pr : Process) (x : Thing) → Made c x → Made (joined c pr) x
 unfolding joined
 still-joined c pr (qubit k) h = h
@@ -98,6 +120,7 @@ moved-nothing c ls = record {
   reach = λ m x r. inr (r, inr (λ b. b));
   still = λ x h. h;
   fresh = λ x b. absurd b;
+  only = λ x h. inl h;
   holders = λ x. holder-append ls [] x;
   lines = tt;
 }
@@ -121,6 +144,7 @@ module _ (c : Config) (ls : List Line) (h : Kept c ls) (k n : ℕ) where
         );
     still = still-set c n pr;
     fresh = λ x b. absurd b;
+    only = λ x m. inl (only-set c n pr x m);
     holders = λ x. holder-append ls (map (lineOf k n) es) x ∙ holder-quiet own x k n es (holder ls x) q;
     lines = lines-quiet own ls k n es (λ x r. h .named x n r) q;
   }
@@ -165,6 +189,22 @@ module _ (c : Config) (ls : List Line) (h : Kept c ls) (k n : ℕ) where
   counted-fresh (channel a) pr (end b s) e r = subst (λ (i : ℕ). b < suc i) (sym (eqb→eq a b r) ∙ e) (le-refl (suc b))
   counted-fresh (end a t) pr x e r = absurd e
 
+  -- a number below the next count is below the count, or is the count
+  below-next : (a b q : ℕ) → a ≡ q → b < suc q → (b < q) ⊎ T (eqb a b)
+  below-next a b q e m =
+      ⊎-elim (λ i. inr (passes i)) (λ i. inl (omega (arith, e, m, eqb-false a b i))) (decide (eqb a b))
+
+  counted-new : (t : Thing) (pr : Process) (x : Thing) → Next (c .qubits) (c .channels) t
+      → Made (counted t (setProcess c n pr)) x → Made c x ⊎ T (covers t x)
+  unfolding counted setProcess covers
+  counted-new (qubit a) pr (qubit b) e m = below-next a b (c .qubits) e m
+  counted-new (qubit a) pr (channel b) e m = inl m
+  counted-new (qubit a) pr (end b s) e m = inl m
+  counted-new (channel a) pr (qubit b) e m = inl m
+  counted-new (channel a) pr (channel b) e m = below-next a b (c .channels) e m
+  counted-new (channel a) pr (end b s) e m = below-next a b (c .channels) e m
+  counted-new (end a t) pr x e m = absurd e
+
   counted-process : (t : Thing) (c′ : Config) (m : ℕ) → processAt (counted t c′) m ≡ processAt c′ m
   unfolding counted processAt
   counted-process (qubit a) c′ m = refl
@@ -199,6 +239,7 @@ module _ (c : Config) (ls : List Line) (h : Kept c ls) (k n : ℕ) where
         (subst (λ (pr : Process). T (reaches pr x)) (counted-process t (setProcess c n (runs fs)) m) r));
     still = counted-still t (runs fs);
     fresh = λ x b. counted-fresh t (runs fs) x e (one-covered t x b);
+    only = λ x m. ⊎-elim inl (λ u. inr (or-left (covers t x) false u)) (counted-new t (runs fs) x e m);
     holders = λ x.
         holder-append ls (lineOf k n (making t) ∷ []) x
         ∙ holder-making x (holder ls x) k n t (next-no-end t e)
@@ -253,6 +294,10 @@ module _ (c : Config) (ls : List Line) (h : Kept c ls) (k n : ℕ) where
         (reach-joined (setProcess c n (runs (framesWithout ts fs))) (runs (started p m args ∷ [])) i x r);
     still = still;
     fresh = λ x b. still x (given-made ts (things-within own args ha) x b);
+    only = λ x made.
+        inl
+        (only-set c n (runs (framesWithout ts fs)) x
+        (only-joined (setProcess c n (runs (framesWithout ts fs))) (runs (started p m args ∷ [])) x made));
     holders = λ x.
         holder-append ls (map (lineOf k n) (forked child m params ∷ map (gave child) ts)) x
         ∙ ap (λ (g : Option ℕ). foldl (holderAfter x) g (map (lineOf k n) (map (gave child) ts)))
@@ -310,6 +355,7 @@ module _ (c : Config) (ls : List Line) (h : Kept c ls) (k n : ℕ) where
         (reach-set c₁ q (runs (pushTop v gs)) m x r);
     still = still;
     fresh = λ x b. still x (given-made ts (things-within own (v ∷ []) (hs .1, tt)) x b);
+    only = λ x m. inl (only-set c n (runs (framesWithout ts fs)) x (only-set c₁ q (runs (pushTop v gs)) x m));
     holders = λ x.
         holder-append ls (map (lineOf k n) (met q ch d ∷ handing q v)) x
         ∙ ap (λ (g : Option ℕ). foldl (holderAfter x) g (map (lineOf k n) (handing q v)))
@@ -486,7 +532,7 @@ pub entry-kept : (p outcomes : List ℕ) (k : ℕ) (s : State) (n : ℕ) → Dat
     → Kept (effectOf p outcomes k s n .config) (s .lines ++ effectOf p outcomes k s n .lines)
 unfolding effectIn
 entry-kept p outcomes k s n dated h =
-    let w = applied-moved p outcomes k s n dated h (actOf p outcomes s n) (act-within p outcomes s n) in
+    let w = applied-moved p outcomes k s n dated h (judged s n (actOf p outcomes s n)) (judged-within p outcomes s n) in
     moved-keeps (s .config) (effectOf p outcomes k s n .config) (s .lines) (effectOf p outcomes k s n .lines) (w .0) (w .1) (w .2) h
 
 -- the run
@@ -496,9 +542,15 @@ unfolding startConfigWith processAt reaches
 start-kept p = record {
   named = λ x n r. absurd (nothing-reached x n r);
   made = λ x n r. absurd (nothing-reached x n r);
+  held = λ x m. absurd (nothing-made x m);
   lawful = tt;
 }
   where
+    nothing-made : (x : Thing) → Made (startConfig p) x → ⊥
+    nothing-made (qubit q) m = omega (arith, m)
+    nothing-made (channel q) m = omega (arith, m)
+    nothing-made (end q d) m = omega (arith, m)
+
     nothing-reached : (x : Thing) (n : ℕ) → T (reaches (processAt (startConfig p) n) x) → ⊥
     nothing-reached x zero r = frames-reach [] (started p 0 [] ∷ []) (frame-started [] p 0 [] tt, tt) x r
     nothing-reached x (suc n) r = frames-reach [] [] tt x r
@@ -525,12 +577,21 @@ entry-fine p outcomes k s n h = record {
   numbered = entry-numbered p outcomes k s n (h .numbered);
 }
 
+run-fine : (p outcomes : List ℕ) (room : ℕ) (schedule : List ℕ)
+    → Fine (run p outcomes room schedule .entries) (run p outcomes room schedule .state)
+unfolding runIn startWith
+run-fine p outcomes room schedule =
+    run-keeps p outcomes room Fine (entry-fine p outcomes) (start p) 0 schedule
+    (record { dated = tt; kept = start-kept p; numbered = start-numbered p })
+
+pub run-kept : (p outcomes : List ℕ) (room : ℕ) (schedule : List ℕ)
+    → Kept (run p outcomes room schedule .state .config) (run p outcomes room schedule .state .lines)
+run-kept p outcomes room schedule = run-fine p outcomes room schedule .kept
+
 -- Demand 3: for every table, outcome list, schedule, room and k, what stands after the run on the schedule's first k
 -- entries is owned.
 pub ownership : (p outcomes : List ℕ) (room : ℕ) (schedule : List ℕ) (k : ℕ)
     → Owned (run p outcomes room (take k schedule) .state .config) (run p outcomes room (take k schedule) .state .lines)
-unfolding runIn startWith
 ownership p outcomes room schedule k =
-    let h = run-keeps p outcomes room Fine (entry-fine p outcomes) (start p) 0 (take k schedule)
-    (record { dated = tt; kept = start-kept p; numbered = start-numbered p }) in
+    let h = run-fine p outcomes room (take k schedule) in
     kept-owned _ _ (h .kept) (h .numbered)

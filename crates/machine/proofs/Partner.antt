@@ -15,20 +15,15 @@ use Rattle.lists.proofs.Tests.{decide}
 use Rattle.machine.specs.Value.{Thing, end}
 use Rattle.machine.specs.State.{Process, Config, State, processAt}
 use Rattle.machine.specs.Act.{Offer, sends, receives, Act, idle, atFrames, byStatus, actOf}
-use Rattle.machine.specs.Entry.{Meeting, joins, offered, meetsWith, meetingOf, meetingIn}
+use Rattle.machine.specs.Entry.{Meeting, oppositeEnd, joins, offered, meetsWith, meetingOf, meetingIn}
 use Rattle.machine.specs.Owner.{valuesOf, reaches, holder}
 use Rattle.machine.proofs.Within.{InReach, OfferWithin, ActWithin, act-within}
 use Rattle.machine.proofs.Giving.{process-beyond}
 use Rattle.machine.proofs.Ownership.{Kept, cond-some, opposite, meets-offer}
 
--- the end that a partner of the offer needs
-abbrev pub facing : Offer → Thing
-facing (sends c d v fs) = end c (not d)
-facing (receives c d fs) = end c (not d)
-
 -- whoever meets the offer reaches that end
 partner-reaches : (c : Config) (n q : ℕ) (o r : Offer) (e : Meeting) → OfferWithin (valuesOf (processAt c q .frames)) r → joins n o q r ≡ some e
-    → InReach (valuesOf (processAt c q .frames)) (facing o)
+    → InReach (valuesOf (processAt c q .frames)) (oppositeEnd o)
 unfolding joins
 partner-reaches c n q (sends a d v fs) (sends a′ d′ w gs) e hr h = absurd (Option·none-ne-some e h)
 partner-reaches c n q (sends a d v fs) (receives a′ d′ gs) e hr h =
@@ -75,7 +70,7 @@ unmade-idle p outcomes s q h =
     ap (λ (pr : Process). byStatus (pr .status) (atFrames p outcomes s (pr .frames))) (process-beyond (s .config) q h)
 
 module _ (p outcomes : List ℕ) (s : State) (kept : Kept (s .config) (s .lines)) (n : ℕ) (o : Offer) (h : ℕ)
-    (held : (q : ℕ) → holder (s .lines) (facing o) ≡ some q → h ≡ q) where
+    (held : (q : ℕ) → holder (s .lines) (oppositeEnd o) ≡ some q → h ≡ q) where
   abbrev tried : ℕ → Option Meeting
   tried q = cond (eqb q n) none (meetsWith n o q (offered (actOf p outcomes s q)))
 
@@ -83,7 +78,7 @@ module _ (p outcomes : List ℕ) (s : State) (kept : Kept (s .config) (s .lines)
   unfolding reaches
   meets-held q e m =
       let w = meets-offer n q o (actOf p outcomes s q) e m in
-      held q (kept .named (facing o) q
+      held q (kept .named (oppositeEnd o) q
       (partner-reaches (s .config) n q o (w .0) e
       (subst (ActWithin (valuesOf (processAt (s .config) q .frames)) (s .config .qubits) (s .config .channels)) (w .1) (act-within p outcomes s q))
       (w .2)))

@@ -95,7 +95,7 @@ module _ (p : List ℕ) (k : Kept p) (ks : List ℕ) (c : Config) (t : ConfigTyp
   process-sound running fs h = record { status = frames-some fs h; depth = h .depth; frames = frames-sound fs h }
   process-sound finished fs h = record { status = h; depth = rw h (omega arith); frames = rw h tt }
   process-sound (stopped n) fs h =
-      record { status = (h .0, h .1, frames-some fs (h .2)); depth = h .2 .depth; frames = frames-sound fs (h .2) }
+      record { status = (h .0, frames-some fs (h .1)); depth = h .1 .depth; frames = frames-sound fs (h .1) }
 
   pub config-sound : ConfigSound p c
   config-sound = record {

@@ -13,10 +13,10 @@ use Rattle.lists.specs.Lists.{any, every, All, below}
 use Rattle.lists.proofs.Tests.{passed, passes}
 use Rattle.lists.proofs.First.{any-below}
 use Rattle.table.proofs.Accepted.{Kept}
-use Rattle.machine.specs.State.{Status, running, finished, stopped, Process, State, processAt, start, unmade, startWith}
+use Rattle.machine.specs.State.{Status, running, finished, stopped, Process, State, isOver, processAt, start, unmade, startWith}
 use Rattle.machine.specs.Act.{Act, idle, stuck, faults, goes, ends, makes, forks, offers, byStatus, actOf}
-use Rattle.machine.specs.Entry.{Meeting, nothing, meetingOf, meetIfIn, isMeeting, applied, effectOf, moves, able, ableIn, appliedIn, effectIn, movesIn, tableMachine}
-use Rattle.machine.specs.Run.{Result, isOver, allOver, noneAble, fits, afterEffect, ended, runFrom, run, noneAbleIn, runFromIn, runIn}
+use Rattle.machine.specs.Entry.{Meeting, nothing, meetingOf, meetIfIn, isMeeting, judged, applied, effectOf, moves, able, ableIn, appliedIn, effectIn, movesIn, tableMachine}
+use Rattle.machine.specs.Run.{Result, allOver, noneAble, fits, afterEffect, ended, runFrom, run, noneAbleIn, runFromIn, runIn}
 use Rattle.machine.proofs.Typing.{Typed}
 use Rattle.machine.proofs.Effects.{effect-typed}
 use Rattle.machine.proofs.Sound.{start-typed}
@@ -26,7 +26,7 @@ use Rattle.machine.proofs.Ownership as own
 -- an entry of a process that cannot move does nothing
 pub unable-nothing : (p outcomes : List ℕ) (k : ℕ) (s : State) (n : ℕ) → able p outcomes s n ≡ false → effectOf p outcomes k s n ≡ nothing s
 unfolding ableIn effectIn meetIfIn isMeeting appliedIn movesIn
-unable-nothing p outcomes k s n e = go (actOf p outcomes s n) e
+unable-nothing p outcomes k s n e = go (judged s n (actOf p outcomes s n)) e
   where
     unmet : (m : Option Meeting) → isMeeting m ≡ false → meetIfIn (tableMachine p outcomes) k s m ≡ nothing s
     unmet none e = refl
@@ -164,8 +164,9 @@ module _ (p outcomes : List ℕ) (room : ℕ) where
 
 -- a process that is able to move is made and not over, so the run has not ended
 
-status-moves : (p outcomes : List ℕ) (s : State) (n : ℕ) (st : Status) (act : Act) → T (moves p outcomes s n (byStatus st act)) → st ≡ running
-unfolding byStatus movesIn
+status-moves : (p outcomes : List ℕ) (s : State) (n : ℕ) (st : Status) (act : Act) → T (moves p outcomes s n (judged s n (byStatus st act)))
+    → st ≡ running
+unfolding byStatus movesIn judged
 status-moves p outcomes s n running act t = refl
 status-moves p outcomes s n finished act t = absurd t
 status-moves p outcomes s n (stopped f) act t = absurd t

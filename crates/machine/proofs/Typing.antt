@@ -19,6 +19,7 @@ use Rattle.table.proofs.Accepted.{Kept}
 use Rattle.table.proofs.Methods.{Inside, inside-offset, slotTypes-length}
 use Rattle.table.proofs.Before.{before-offset}
 use Rattle.machine.specs.Value.{Thing, qubit, channel, end, Value, empty, int, bool, ref, inRange}
+use Rattle.machine.specs.Sound.{IsFault}
 use Rattle.machine.specs.State.{Frame, Status, running, finished, stopped, Process, Config, started, withPending, withSlot}
 
 -- Values
@@ -161,7 +162,7 @@ module _ (p : List ℕ) {R S : Value → ℕ → Type 0} where
 abbrev pub StatusTyped : List ℕ → (Value → ℕ → Type 0) → Status → List Frame → Type 0
 StatusTyped p R running fs = Frames p R [] fs
 StatusTyped p R finished fs = fs ≡ []
-StatusTyped p R (stopped n) fs = (20 ≤ n) × (n ≤ 27) × Frames p R [] fs
+StatusTyped p R (stopped n) fs = IsFault n × Frames p R [] fs
 
 abbrev pub ProcessTyped : List ℕ → (Value → ℕ → Type 0) → Process → Type 0
 ProcessTyped p R pr = StatusTyped p R (pr .status) (pr .frames)
@@ -170,7 +171,7 @@ status-implies : (p : List ℕ) {R S : Value → ℕ → Type 0} → ((v : Value
     → (st : Status) (fs : List Frame) → StatusTyped p R st fs → StatusTyped p S st fs
 status-implies p g running fs h = frames-implies p g fs h
 status-implies p g finished fs h = h
-status-implies p g (stopped n) fs h = (h .0, h .1, frames-implies p g fs (h .2))
+status-implies p g (stopped n) fs h = (h .0, frames-implies p g fs (h .1))
 
 pub processes-imply : (p : List ℕ) {R S : Value → ℕ → Type 0} → ((v : Value) (t : ℕ) → R v t → S v t)
     → (prs : List Process) → All (ProcessTyped p R) prs → All (ProcessTyped p S) prs

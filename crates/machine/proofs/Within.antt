@@ -16,12 +16,14 @@ use Rattle.lists.proofs.Any.{any-append-left, any-append-right, All-append, All
 use Rattle.machine.specs.Value.{Thing, qubit, channel, end, Value, empty, int, bool, ref, covers, isEmpty, inRange, signed16, eqZ, sideOf}
 use Rattle.machine.specs.State.{Frame, Status, running, finished, stopped, State, Event, processAt, started, push, atPlace, withSlot, gatedOne, gatedTwo, measured}
 use Rattle.machine.specs.Act.{Offer, sends, receives, Act, idle, stuck, faults, goes, ends, makes, forks, offers, At, operand, asInt, onward, pushes, jump, returnTo, twoInts, result, doInt, doBool, doGet, doPut, doDrop, doClear, doNewQ, doNewC, doEnd, doGateOne, doGateTwo, doGate, doMeas, doCall, doRet, doFork, doSend, doRecv, doJump, doJFalse, doAdd, doSub, doEq, doLess, doNot, doNothing, doings, doingOf, passedBy, sceneOf, atFrame, atFrames, byStatus, actOf}
+use Rattle.machine.specs.Entry.{judged}
 use Rattle.machine.specs.Owner.{names, valuesOf}
 use Rattle.machine.proofs.Things.{covers-refl}
 use Rattle.machine.proofs.Operands.{on-int, on-bool, on-qubit, on-channel, on-end, on-present, on-outcome}
 use Rattle.table.specs.Table.{offsetOf, opAt}
 use Rattle.table.specs.Ops.{oneQubit}
 use Rattle.table.specs.Reading.{takenAt}
+use Rattle.machine.proofs.Gone.{judged-keeps}
 
 -- t is in reach through these values
 abbrev pub InReach : List Value → Thing → Type 0
@@ -494,3 +496,10 @@ act-within p outcomes s n =
     (processAt (s .config) n .status)
     (atFrames p outcomes s (processAt (s .config) n .frames))
     (at-frames-within p outcomes s (processAt (s .config) n .frames))
+
+-- and so does fault 33, which judging may make of it
+pub judged-within : (p outcomes : List ℕ) (s : State) (n : ℕ)
+    → ActWithin (valuesOf (processAt (s .config) n .frames)) (s .config .qubits) (s .config .channels) (judged s n (actOf p outcomes s n))
+judged-within p outcomes s n =
+    judged-keeps (ActWithin (valuesOf (processAt (s .config) n .frames)) (s .config .qubits) (s .config .channels)) s n
+    (actOf p outcomes s n) (act-within p outcomes s n) (λ o e. tt)

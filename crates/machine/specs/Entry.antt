@@ -9,7 +9,8 @@ use lib.ListN.{length}
 use lib.Dec.{eqb}
 use Rattle.lists.specs.Lists.{any, firstSome}
 use Rattle.machine.specs.Value.{Thing, qubit, channel, end, Value, empty, int, bool, ref, covers}
-use Rattle.machine.specs.State.{Frame, running, finished, stopped, ProcessOf, ConfigOf, Line, StateOf, State, Event, processAt, setProcess, started, push, madeQubit, madeChannel, forked, gave, met, passed, finishes, stops, lineOf}
+use Rattle.machine.specs.State.{Frame, running, finished, stopped, ProcessOf, ConfigOf, Line, StateOf, State, Event, processAt, isOver, setProcess, started, push, madeQubit, madeChannel, forked, gave, met, passed, finishes, stops, lineOf}
+use Rattle.machine.specs.Owner.{holder}
 use Rattle.machine.specs.Act.{OfferOf, Offer, sends, receives, ActOf, Act, idle, stuck, faults, goes, ends, makes, forks, offers, actOf}
 
 -- "Giving away": "Every slot and every pending value of the giver, in all frames, that holds the thing is emptied.
@@ -97,6 +98,36 @@ unfoldable pub meetingIn : {F : Type 0} → MachineOf F → StateOf F → ℕ �
 meetingIn m s n o =
     firstSome (λ q. cond (eqb q n) none (meetsWith n o q (offered (m .act s q)))) (length (s .config .processes))
 
+-- the end opposite to the one that an offer is made on
+abbrev pub oppositeEnd : {F : Type 0} → OfferOf F → Thing
+oppositeEnd (sends c d v fs) = end c (not d)
+oppositeEnd (receives c d fs) = end c (not d)
+
+-- Paper 6, of process n, where h is the holder of the opposite end: "the opposite end's holder is itself, has finished or
+-- has stopped"
+unfoldable pub isGone : {F : Type 0} → ConfigOf F → ℕ → Option ℕ → Bool
+isGone c n none = false
+isGone c n (some h) = eqb h n || isOver (processAt c h)
+
+-- "The holder is read from the trace."
+unfoldable pub gone : {F : Type 0} → StateOf F → ℕ → OfferOf F → Bool
+gone s n o = isGone (s .config) n (holder (s .lines) (oppositeEnd o))
+
+-- What process n would do, a partner that has gone considered: "33 when a process stands at SEND or RECV with its operands
+-- present and the opposite end's holder is itself, has finished or has stopped, judged after fault 20 and before waiting".
+unfoldable pub judged : {F : Type 0} → StateOf F → ℕ → ActOf F → ActOf F
+judged s n idle = idle
+judged s n stuck = stuck
+judged s n (faults f) = faults f
+judged s n (goes fs es u) = goes fs es u
+judged s n ends = ends
+judged s n (makes t fs) = makes t fs
+judged s n (forks m args fs) = forks m args fs
+judged s n (offers o) = cond (gone s n o) (faults 33) (offers o)
+
+abbrev pub judgedIn : {F : Type 0} → MachineOf F → StateOf F → ℕ → ActOf F
+judgedIn m s n = judged s n (m .act s n)
+
 -- What an entry does: the configuration it leaves, how many outcomes it uses, and its lines.
 pub record EffectOf (F : Type 0) : Type 0 where
   pub config : ConfigOf F
@@ -183,7 +214,7 @@ appliedIn machine k s n (offers o) = meetIfIn machine k s (meetingIn machine s n
 
 -- what entry k does where the schedule's byte names process n
 unfoldable pub effectIn : {F : Type 0} → MachineOf F → ℕ → StateOf F → ℕ → EffectOf F
-effectIn m k s n = appliedIn m k s n (m .act s n)
+effectIn m k s n = appliedIn m k s n (judgedIn m s n)
 
 unfoldable pub faulted : {F : Type 0} → ActOf F → Option ℕ
 faulted idle = none
@@ -197,13 +228,13 @@ faulted (offers o) = none
 
 -- the fault by which process n would stop if it were named, none where it would not
 unfoldable pub faultIn : {F : Type 0} → MachineOf F → StateOf F → ℕ → Option ℕ
-faultIn m s n = faulted (m .act s n)
+faultIn m s n = faulted (judgedIn m s n)
 
 unfoldable pub isMeeting : {F : Type 0} → Option (MeetingOf F) → Bool
 isMeeting none = false
 isMeeting (some e) = true
 
--- "able to move (to step, meet or fault)"
+-- "able to move (to step, meet or fault)"; Paper 6: "a process with this fault counts as able to move"
 unfoldable pub movesIn : {F : Type 0} → MachineOf F → StateOf F → ℕ → ActOf F → Bool
 movesIn machine s n idle = false
 movesIn machine s n stuck = false
@@ -215,7 +246,7 @@ movesIn machine s n (forks m args fs) = true
 movesIn machine s n (offers o) = isMeeting (meetingIn machine s n o)
 
 unfoldable pub ableIn : {F : Type 0} → MachineOf F → StateOf F → ℕ → Bool
-ableIn m s n = movesIn m s n (m .act s n)
+ableIn m s n = movesIn m s n (judgedIn m s n)
 
 -- The machine of a program table
 

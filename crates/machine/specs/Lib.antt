@@ -1,9 +1,10 @@
 pub mod Value
 pub mod State
 pub mod Act
+pub mod Owner
 pub mod Entry
 pub mod Run
-pub mod Owner
+pub mod Waiting
 pub mod Faults
 pub mod Sound
 pub mod Answer

@@ -1,13 +1,13 @@
 -- The run: the four ends, and the entries of a schedule one after the other. As in Entry.antt, the rules are for any machine;
 -- the run of a program table stands at the end.
 use Prim.Native.Nat.{ℕ, suc, _+_}
-use mathlib.Core.Bool.{Bool, true, false, cond, not}
+use mathlib.Core.Bool.{Bool, cond, not}
 use mathlib.Core.List.{List, [], _∷_, _++_}
 use lib.ListN.{length}
 use lib.Dec.{eqb, leb}
 use Rattle.lists.specs.Lists.{any, every, below}
 use Rattle.machine.specs.Value.{Value}
-use Rattle.machine.specs.State.{Frame, Status, running, finished, stopped, ProcessOf, StateOf, State, startWith}
+use Rattle.machine.specs.State.{Frame, StateOf, State, isOver, startWith}
 use Rattle.machine.specs.Entry.{MachineOf, EffectOf, effectIn, ableIn, tableMachine}
 
 -- What a run leaves: "A run answers end, entries used (idle ones too), lines written, outcomes used." The lines and
@@ -16,14 +16,6 @@ pub record ResultOf (F : Type 0) : Type 0 where
   pub end : ℕ
   pub entries : ℕ
   pub state : StateOf F
-
-abbrev pub isOver : {F : Type 0} → ProcessOf F → Bool
-isOver pr = over (pr .status)
-  where
-    over : Status → Bool
-    over running = false
-    over finished = true
-    over (stopped f) = true
 
 -- "every process made has finished or stopped, end 1"
 unfoldable pub allOver : {F : Type 0} → StateOf F → Bool

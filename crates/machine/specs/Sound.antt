@@ -3,7 +3,7 @@
 -- fault 20 means that a value is empty, and nothing else.
 use Prim.Native.Nat.{ℕ, _≤_, _<_}
 use mathlib.Core.Path.{_≡_}
-use mathlib.Core.Logic.{_≢_}
+use mathlib.Core.Logic.{_≢_, _⊎_}
 use mathlib.Core.List.{List, []}
 use lib.ListN.{length}
 use lib.Dec.{T}
@@ -35,11 +35,15 @@ pub record FrameSound (p : List ℕ) (c : Config) (f : Frame) : Type 0 where
   pub slots : All (ValueSound c) (f .slots)
   pub pending : All (ValueSound c) (f .pending)
 
--- a finished process has no frames, any other has some; a process stops by a fault of 01
+-- the faults by which a process stops: those of document 01, and Paper 6's
+abbrev pub IsFault : ℕ → Type 0
+IsFault n = ((20 ≤ n) × (n ≤ 27)) ⊎ (n ≡ 33)
+
+-- a finished process has no frames, any other has some; a process stops by a fault that the papers list
 abbrev pub StatusSound : Status → List Frame → Type 0
 StatusSound running fs = 0 < length fs
 StatusSound finished fs = fs ≡ []
-StatusSound (stopped n) fs = (20 ≤ n) × (n ≤ 27) × (0 < length fs)
+StatusSound (stopped n) fs = IsFault n × (0 < length fs)
 
 pub record ProcessSound (p : List ℕ) (c : Config) (pr : Process) : Type 0 where
   pub status : StatusSound (pr .status) (pr .frames)

@@ -1,6 +1,6 @@
 -- Frames, processes, the configuration, trace lines, and the state of a run.
 use Prim.Native.Nat.{ℕ, _/_, _%_}
-use mathlib.Core.Bool.{Bool}
+use mathlib.Core.Bool.{Bool, true, false}
 use mathlib.Core.List.{List, [], _∷_, _++_}
 use lib.ListN.{getD, set, take, replicate}
 use Rattle.table.specs.Table.{offsetOf}
@@ -65,6 +65,15 @@ unmade = record { status = finished; frames = [] }
 
 unfoldable pub processAt : {F : Type 0} → ConfigOf F → ℕ → ProcessOf F
 processAt c n = getD (c .processes) n unmade
+
+-- the process has finished or stopped
+abbrev pub isOver : {F : Type 0} → ProcessOf F → Bool
+isOver pr = over (pr .status)
+  where
+    over : Status → Bool
+    over running = false
+    over finished = true
+    over (stopped f) = true
 
 -- the configuration with process n's state changed
 unfoldable pub setProcess : {F : Type 0} → ConfigOf F → ℕ → ProcessOf F → ConfigOf F

@@ -1,7 +1,7 @@
 -- What the code reads off the words of the store is what the definitions say of the state: each process's stand, the
 -- partner of an offer, who is able to move, and the end that the processes give.
 use Prim.Native.Nat.{ℕ, zero, suc, _%_, _≤_, _<_}
-use mathlib.Core.Path.{_≡_, refl, sym, _∙_, ap, ap₂, subst}
+use mathlib.Core.Path.{_≡_, refl, sym, _∙_, ap, ap₂, subst, subst₂}
 use mathlib.Core.Logic.{_≢_, _⊎_, inl, inr, ⊎-elim}
 use mathlib.Core.Bool.{Bool, true, false, cond, not, _&&_, _||_, true≢false}
 use mathlib.Core.List.{List, [], _∷_, _++_}
@@ -16,18 +16,21 @@ use Rattle.lists.proofs.Tests.{decide}
 use Rattle.lists.proofs.Any.{All-getD}
 use Rattle.table.specs.Table.{opAt}
 use Rattle.machine.specs.Value.{end, ref, sideNo}
-use Rattle.machine.specs.State.{Frame, Status, running, finished, stopped, Process, Config, State, processAt, unmade}
+use Rattle.machine.specs.State.{Frame, Status, running, finished, stopped, Process, Config, State, isOver, processAt, unmade}
 use Rattle.machine.specs.Act.{Offer, sends, receives, Act, idle, stuck, faults, goes, ends, makes, forks, offers, atFrames, byStatus, actOf}
-use Rattle.machine.specs.Entry.{runs, Meeting, offered, meetsWith, meetingOf, isMeeting, moves, able, ableIn, movesIn}
-use Rattle.machine.specs.Run.{isOver, allOver, noneAble, noneAbleIn}
+use Rattle.machine.specs.Entry.{Meeting, offered, meetsWith, meetingOf, oppositeEnd, isGone, gone, judged, isMeeting, moves, able, ableIn, movesIn}
+use Rattle.machine.specs.Run.{allOver, noneAble, noneAbleIn}
 use Rattle.machine.specs.Owner.{valuesOf, reaches, holder}
 use Rattle.machine.specs.Sound.{Made, FrameSound, ProcessSound, ConfigSound}
 use Rattle.machine.proofs.Reached.{Reached, stacked, busy-at}
 use Rattle.machine.proofs.Standing.{act-typed}
 use Rattle.machine.proofs.Sound.{config-sound}
 use Rattle.machine.proofs.Within.{OfferWithin, ActWithin, act-within}
-use Rattle.machine.proofs.Partner.{facing, unmade-idle, partner-is}
+use Rattle.machine.proofs.Partner.{unmade-idle, partner-is}
+use Rattle.machine.proofs.Busy.{Busy, frames-busy}
+use Rattle.machine.proofs.Waiting.{running-busy}
 use Rattle.machine.proofs.Steps.{ending, able-goes}
+use Rattle.machine.proofs.Giving.{process-beyond}
 use Rattle.machine.proofs.Ownership as own
 use Rattle.layout.specs.Layout.{processWords, encode, valueWords}
 use Rattle.layout.proofs.Frames.{tagOf, numberOf}
@@ -45,7 +48,8 @@ use Rattle.run_holders.proofs.Holding.{Holding}
 use Rattle.run_parts.specs.declared.readiness.Readiness.{Readiness}
 use Rattle.run_parts.specs.ReadinessCode.{noOffer, sendOf, receiveOf, readinessOp, meetsOp}
 use Rattle.run_parts.proofs.Standing.{Stands, stand-is, finished-stand, stopped-stand, unmade-stand, meets-act}
-use Rattle.run_ability.specs.PartnerCode.{oppositeOf, readyOp, partnerOp}
+use Rattle.run_ability.specs.PartnerCode.{oppositeOf, Partner, waits, ready, isNoOther, readyOp, isMoving, partnerOp}
+use Rattle.run_ability.specs.PartnerCode as code
 use Rattle.run_ability.specs.EndingCode.{abilityOf, abilityOp, someIs, endingOp}
 
 module _ {p outcomes : List ℕ} {s : State} (reached : Reached p outcomes s) (rest : List ℕ) where
@@ -96,11 +100,44 @@ module _ {p outcomes : List ℕ} {s : State} (reached : Reached p outcomes s) (r
   pub not-stuck : (q : ℕ) → actOf p outcomes s q ≢ stuck
   not-stuck q e = rw e at (act-typed p (reached .kept) outcomes (reached .bytes) s (reached .kinds) (reached .typed) q)
 
+  -- the readiness of a process that acts is not that of one that is over
+  stands-busy : (a : Act) (st : Readiness) → Busy a → a ≢ stuck → Stands a st → eqb (st .kind) 0 ≡ false
+  stands-busy idle st b ns h = absurd b
+  stands-busy stuck st b ns h = absurd (ns refl)
+  stands-busy (faults f) st b ns h = ap (λ (x : Readiness). eqb (x .kind) 0) h
+  stands-busy (goes fs es u) st b ns h = ap (λ (x : Readiness). eqb (x .kind) 0) h
+  stands-busy ends st b ns h = ap (λ (x : Readiness). eqb (x .kind) 0) h
+  stands-busy (makes x fs) st b ns h = ap (λ (x : Readiness). eqb (x .kind) 0) h
+  stands-busy (forks m args fs) st b ns h = ap (λ (x : Readiness). eqb (x .kind) 0) h
+  stands-busy (offers (sends c d v fs)) st b ns h = ap (λ (x : Readiness). eqb (x .kind) 0) h
+  stands-busy (offers (receives c d fs)) st b ns h = ap (λ (x : Readiness). eqb (x .kind) 0) h
+
+  over-ready : (q : ℕ) → q < 8 → eqb (readinessOp p (partOf work q) .kind) 0 ≡ isOver (processAt config q)
+  unfolding actOf byStatus
+  over-ready q h = go (processAt config q .status) refl
+    where
+      over : (st : Status) → processAt config q .status ≡ st → byStatus st (atFrames p outcomes s (processAt config q .frames)) ≡ idle
+          → eqb (readinessOp p (partOf work q) .kind) 0 ≡ true
+      over st e i =
+          ap (λ (x : Readiness). eqb (x .kind) 0)
+          (subst (λ (a : Act). Stands a (readinessOp p (partOf work q)))
+          (ap (λ (x : Status). byStatus x (atFrames p outcomes s (processAt config q .frames))) e ∙ i) (stand-at q h))
+
+      by-status : Status → Bool
+      by-status st = isOver (record { status = st; frames = processAt config q .frames })
+
+      go : (st : Status) → processAt config q .status ≡ st → eqb (readinessOp p (partOf work q) .kind) 0 ≡ isOver (processAt config q)
+      go running e =
+          stands-busy (actOf p outcomes s q) (readinessOp p (partOf work q)) (running-busy p outcomes s q e) (not-stuck q) (stand-at q h)
+          ∙ sym (ap by-status e)
+      go finished e = over finished e refl ∙ sym (ap by-status e)
+      go (stopped f) e = over (stopped f) e refl ∙ sym (ap by-status e)
+
   -- partners
 
   module _ (owned : own.Kept config (s .lines)) (t : List (List ℕ)) (holding : Holding t (s .lines)) where
     -- the channel of an offer's end was made
-    offer-made : (n : ℕ) (o : Offer) → OfferWithin (valuesOf (processAt config n .frames)) o → Made config (facing o)
+    offer-made : (n : ℕ) (o : Offer) → OfferWithin (valuesOf (processAt config n .frames)) o → Made config (oppositeEnd o)
     unfolding reaches
     offer-made n (sends c d v fs) h = owned .made (end c d) n (h .0)
     offer-made n (receives c d fs) h = owned .made (end c d) n (h .0)
@@ -124,46 +161,71 @@ module _ {p outcomes : List ℕ} {s : State} (reached : Reached p outcomes s) (r
         ap₂ (holderIn t) (ap (λ (i : ℕ). i % 65536) (number-same c d) ∙ mod-eq-of-lt (omega (arith, h, sound .channelCount))) (side-facing c d)
         ∙ holding .says c (not d) q (omega (arith, h, sound .channelCount)) e
 
-    -- the answer of `ready`, for any number h that the holder of the facing end would have
-    ready-is : (n : ℕ) (o : Offer) (st : Readiness) (h : ℕ) → Stands (offers o) st → ((q : ℕ) → holder (s .lines) (facing o) ≡ some q → h ≡ q)
-        → readyOp p work n st h ≡ cond (isMeeting (meetingOf p outcomes s n o)) h 65535
-    unfolding readyOp isMeeting meetsWith offered
-    ready-is n o st h stands held =
-        subst (λ (m : Option Meeting). readyOp p work n st h ≡ cond (isMeeting m) h 65535) (sym (partner-is p outcomes s owned n o h held))
-        (same (eqb h n))
-      where
-        far : 8 ≤ h → (meetsWith n o h (offered (actOf p outcomes s h))) ≡ none
-        far l = ap (λ (a : Act). meetsWith n o h (offered a)) (unmade-idle p outcomes s h (omega (arith, l, sound .processCount)))
-
-        near : (b : Bool) → leb 8 h ≡ b → cond b 65535 (cond (meetsOp st (readinessOp p (partOf work h))) h 65535) ≡ cond (isMeeting (meetsWith n o h (offered (actOf p outcomes s h)))) h 65535
-        near true e = sym (ap (λ (m : Option Meeting). cond (isMeeting m) h 65535) (far (leb-true 8 h e)))
-        near false e =
-            ap (λ (b : Bool). cond b h 65535)
-            (meets-act n h o (actOf p outcomes s h) st (readinessOp p (partOf work h)) stands (not-stuck h) (stand-at h (leb-false 8 h e)))
-
-        same : (b : Bool) → cond b 65535 (cond (leb 8 h) 65535 (cond (meetsOp st (readinessOp p (partOf work h))) h 65535)) ≡ cond (isMeeting (cond b none (meetsWith n o h (offered (actOf p outcomes s h))))) h 65535
-        same true = refl
-        same false = near (leb 8 h) refl
-
-    -- the partner that the code finds, and who it is
+    -- the holder that the code finds in the table is the lines'
     pub found : Offer → ℕ
     found (sends c d v fs) = looked c d
     found (receives c d fs) = looked c d
 
-    found-held : (n : ℕ) (o : Offer) → OfferWithin (valuesOf (processAt config n .frames)) o → (q : ℕ) → holder (s .lines) (facing o) ≡ some q → found o ≡ q
+    found-held : (n : ℕ) (o : Offer) → OfferWithin (valuesOf (processAt config n .frames)) o → (q : ℕ) → holder (s .lines) (oppositeEnd o) ≡ some q → found o ≡ q
     unfolding found
     found-held n (sends c d v fs) h q e = looked-held c d (offer-made n (sends c d v fs) h) q e
     found-held n (receives c d fs) h q e = looked-held c d (offer-made n (receives c d fs) h) q e
 
+    held-found : (n : ℕ) (o : Offer) → OfferWithin (valuesOf (processAt config n .frames)) o → holder (s .lines) (oppositeEnd o) ≡ some (found o)
+    held-found n o w =
+        let r = owned .held (oppositeEnd o) (offer-made n o w) in
+        r .1 ∙ ap {B = Option ℕ} some (sym (found-held n o w (r .0) (r .1)))
+
+    gone-is : (n : ℕ) (o : Offer) → OfferWithin (valuesOf (processAt config n .frames)) o
+        → gone s n o ≡ (eqb (found o) n || isOver (processAt config (found o)))
+    unfolding gone isGone
+    gone-is n o w = ap (isGone config n) (held-found n o w)
+
+    -- what an offer finds, by whether its partner has gone and whether it meets
+    abbrev comes : Bool → Bool → ℕ → Partner
+    comes g m h = cond g code.gone (cond m (ready h) waits)
+
+    ready-is : (n : ℕ) (o : Offer) (st : Readiness) → OfferWithin (valuesOf (processAt config n .frames)) o → Stands (offers o) st
+        → readyOp p work n st (found o) ≡ comes (gone s n o) (isMeeting (meetingOf p outcomes s n o)) (found o)
+    unfolding readyOp isNoOther isMeeting meetsWith offered
+    ready-is n o st w stands =
+        subst₂ (λ (g : Bool) (m : Option Meeting). readyOp p work n st h ≡ comes g (isMeeting m) h)
+        (sym (gone-is n o w)) (sym (partner-is p outcomes s owned n o h (found-held n o w)))
+        (same (eqb h n) (leb 8 h) refl)
+      where
+        h : ℕ
+        h = found o
+
+        met : Option Meeting
+        met = meetsWith n o h (offered (actOf p outcomes s h))
+
+        over-beyond : 8 ≤ h → isOver (processAt config h) ≡ true
+        over-beyond l = ap isOver (process-beyond config h (omega (arith, l, sound .processCount)))
+
+        near : h < 8 → (b : Bool) → isOver (processAt config h) ≡ b
+            → cond (eqb (readinessOp p (partOf work h) .kind) 0) code.gone (cond (meetsOp st (readinessOp p (partOf work h))) (ready h) waits)
+            ≡ comes b (isMeeting met) h
+        near l true e = ap (λ (x : Bool). cond x code.gone (cond (meetsOp st (readinessOp p (partOf work h))) (ready h) waits)) (over-ready h l ∙ e)
+        near l false e =
+            ap₂ (λ (x y : Bool). cond x code.gone (cond y (ready h) waits)) (over-ready h l ∙ e)
+            (meets-act n h o (actOf p outcomes s h) st (readinessOp p (partOf work h)) stands (not-stuck h) (stand-at h l))
+
+        same : (x y : Bool) → leb 8 h ≡ y
+            → cond (x || y) code.gone (cond (eqb (readinessOp p (partOf work h) .kind) 0) code.gone (cond (meetsOp st (readinessOp p (partOf work h))) (ready h) waits))
+            ≡ comes (x || isOver (processAt config h)) (isMeeting (cond x none met)) h
+        same true y e = refl
+        same false true e = sym (ap (λ (b : Bool). comes b (isMeeting met) h) (over-beyond (leb-true 8 h e)))
+        same false false e = near (leb-false 8 h e) (isOver (processAt config h)) refl ∙ refl
+
     pub partner-law : (n : ℕ) (o : Offer) (st : Readiness) → OfferWithin (valuesOf (processAt config n .frames)) o → Stands (offers o) st
-        → partnerOp p work t n st ≡ cond (isMeeting (meetingOf p outcomes s n o)) (found o) 65535
+        → partnerOp p work t n st ≡ comes (gone s n o) (isMeeting (meetingOf p outcomes s n o)) (found o)
     unfolding partnerOp found
     partner-law n (sends c d v fs) st w h =
         ap (λ (x : Readiness). readyOp p work n st (holderIn t (x .end .number % 65536) (oppositeOf (x .end .tag)))) h
-        ∙ ready-is n (sends c d v fs) st (looked c d) h (found-held n (sends c d v fs) w)
+        ∙ ready-is n (sends c d v fs) st w h
     partner-law n (receives c d fs) st w h =
         ap (λ (x : Readiness). readyOp p work n st (holderIn t (x .end .number % 65536) (oppositeOf (x .end .tag)))) h
-        ∙ ready-is n (receives c d fs) st (looked c d) h (found-held n (receives c d fs) w)
+        ∙ ready-is n (receives c d fs) st w h
 
     -- where there is a meeting, its partner is another process that was made
     pub met-with : (n : ℕ) (o : Offer) → OfferWithin (valuesOf (processAt config n .frames)) o
@@ -199,10 +261,10 @@ module _ {p outcomes : List ℕ} {s : State} (reached : Reached p outcomes s) (r
     rank n ends = 1
     rank n (makes x fs) = 1
     rank n (forks m args fs) = 1
-    rank n (offers o) = cond (isMeeting (meetingOf p outcomes s n o)) 1 2
+    rank n (offers o) = cond (gone s n o || isMeeting (meetingOf p outcomes s n o)) 1 2
 
-    rank-able : (n : ℕ) (a : Act) → eqb (rank n a) 1 ≡ moves p outcomes s n a
-    unfolding rank movesIn
+    rank-able : (n : ℕ) (a : Act) → eqb (rank n a) 1 ≡ moves p outcomes s n (judged s n a)
+    unfolding rank movesIn judged
     rank-able n idle = refl
     rank-able n stuck = refl
     rank-able n (faults f) = refl
@@ -210,22 +272,27 @@ module _ {p outcomes : List ℕ} {s : State} (reached : Reached p outcomes s) (r
     rank-able n ends = refl
     rank-able n (makes x fs) = refl
     rank-able n (forks m args fs) = refl
-    rank-able n (offers o) = both (isMeeting (meetingOf p outcomes s n o))
+    rank-able n (offers o) = both (gone s n o)
       where
-        both : (b : Bool) → eqb (cond {A = ℕ} b 1 2) 1 ≡ b
+        either : (b : Bool) → eqb (cond {A = ℕ} b 1 2) 1 ≡ b
+        either true = refl
+        either false = refl
+
+        both : (g : Bool) → eqb (cond {A = ℕ} (g || isMeeting (meetingOf p outcomes s n o)) 1 2) 1 ≡ moves p outcomes s n (cond g (faults 33) (offers o))
         both true = refl
-        both false = refl
+        both false = either (isMeeting (meetingOf p outcomes s n o))
 
     offer-rank : (n : ℕ) (o : Offer) (st : Readiness) → OfferWithin (valuesOf (processAt config n .frames)) o → Stands (offers o) st → ltb (st .kind) 2 ≡ false
         → abilityOf p work t n st ≡ rank n (offers o)
-    unfolding abilityOf rank
+    unfolding abilityOf rank isMoving
     offer-rank n o st w h k =
-        ap₂ (λ (b : Bool) (q : ℕ). cond b (st .kind) (cond (eqb q 65535) 2 1)) k (partner-law n o st w h)
-        ∙ there (isMeeting (meetingOf p outcomes s n o)) refl
+        ap₂ (λ (b : Bool) (q : Partner). cond b (st .kind) (cond (isMoving q) 1 2)) k (partner-law n o st w h)
+        ∙ ap (λ (b : Bool). cond {A = ℕ} b 1 2) (either (gone s n o) (isMeeting (meetingOf p outcomes s n o)))
       where
-        there : (b : Bool) → isMeeting (meetingOf p outcomes s n o) ≡ b → _≡_ {A = ℕ} (cond (eqb (cond b (found o) 65535) 65535) 2 1) (cond b 1 2)
-        there true e = ap (λ (b : Bool). cond {A = ℕ} b 2 1) (ne-eqb (found o) 65535 (λ i. absurd (omega (arith, i, found-partner n o w e .0, sound .processCount))))
-        there false e = refl
+        either : (g m : Bool) → isMoving (comes g m (found o)) ≡ (g || m)
+        either true m = refl
+        either false true = refl
+        either false false = refl
 
     act-rank : (n : ℕ) (a : Act) (st : Readiness) → ActWithin (valuesOf (processAt config n .frames)) (config .qubits) (config .channels) a → a ≢ stuck → Stands a st
         → abilityOf p work t n st ≡ rank n a
@@ -282,35 +349,14 @@ module _ {p outcomes : List ℕ} {s : State} (reached : Reached p outcomes s) (r
     -- the ends
 
     -- a process at work is not idle
-    at-work : (f : Frame) (fs : List Frame) → All (FrameSound p config) (f ∷ fs) → length fs < 8 → atFrames p outcomes s (f ∷ fs) ≢ idle
-    unfolding atFrames readinessOp sendOf receiveOf
-    at-work f fs fine deep e =
-        busy (eqb (opAt p (f .place)) 15) (eqb (opAt p (f .place)) 16) (emptyTwo w h) (eqb (valueAt w (topAt h 1) .tag) 0)
-        (valueAt w (topAt h 2)) (valueAt w (topAt h 1)) (valueAt w (topAt h 1)) did.emptyVal
-        (sym (ap (λ (g : Head). cond (eqb (g .status) 1) (cond (eqb (opAt p (g .place)) 15) (sendOf w g) (cond (eqb (opAt p (g .place)) 16) (receiveOf w g) (noOffer 1))) (noOffer 0))
-        (head-is (stacked (reached .kept) fine deep)))
-        ∙ subst (λ (a : Act). Stands a (readinessOp p w)) e (stand-is outcomes s (busy-at reached fine deep)))
-      where
-        w : List ℕ
-        w = processWords (runs (f ∷ fs))
-
-        h : Head
-        h = headIn f fs
-
-        busy : (a b c d : Bool) (x y z u : Val)
-            → cond a (cond c (noOffer 1) (record { kind = 2; end = x; value = y })) (cond b (cond d (noOffer 1) (record { kind = 3; end = z; value = u })) (noOffer 1)) ≡ noOffer 0 → ⊥
-        busy true b true d x y z u e = absurd (omega (arith, ap (λ (st : Readiness). st .kind) e))
-        busy true b false d x y z u e = absurd (omega (arith, ap (λ (st : Readiness). st .kind) e))
-        busy false true c true x y z u e = absurd (omega (arith, ap (λ (st : Readiness). st .kind) e))
-        busy false true c false x y z u e = absurd (omega (arith, ap (λ (st : Readiness). st .kind) e))
-        busy false false c d x y z u e = absurd (omega (arith, ap (λ (st : Readiness). st .kind) e))
+    at-work : (fs : List Frame) → atFrames p outcomes s fs ≢ idle
+    at-work fs e = subst Busy e (frames-busy p outcomes s fs)
 
     -- a process that is not over is not idle, and one that is over does not wait
     idle-over : (st : Status) (fs : List Frame) → ProcessSound p config (record { status = st; frames = fs }) → byStatus st (atFrames p outcomes s fs) ≡ idle
         → isOver (record { status = st; frames = fs }) ≡ true
     unfolding byStatus
-    idle-over running [] h e = absurd (omega (arith, h .status))
-    idle-over running (f ∷ fs) h e = absurd (at-work f fs (h .frames) (omega (arith, h .depth)) e)
+    idle-over running fs h e = absurd (at-work fs e)
     idle-over finished fs h e = refl
     idle-over (stopped n) fs h e = refl
 
@@ -329,7 +375,7 @@ module _ {p outcomes : List ℕ} {s : State} (reached : Reached p outcomes s) (r
     rank-zero n ends ns one two = absurd (one refl)
     rank-zero n (makes x fs) ns one two = absurd (one refl)
     rank-zero n (forks m args fs) ns one two = absurd (one refl)
-    rank-zero n (offers o) ns one two = neither (isMeeting (meetingOf p outcomes s n o)) one two
+    rank-zero n (offers o) ns one two = neither (gone s n o || isMeeting (meetingOf p outcomes s n o)) one two
       where
         neither : (b : Bool) → _≢_ {A = ℕ} (cond b 1 2) 1 → _≢_ {A = ℕ} (cond b 1 2) 2 → offers o ≡ idle
         neither true x y = absurd (x refl)

@@ -1,11 +1,11 @@
 -- What a function has found at its returns, from what its callees found and how its tests came out.
 use Prim.Native.Nat.{ℕ, _+_, _*_, _%_, _≤_, _<_}
 use mathlib.Core.Path.{_≡_, refl, sym, _∙_, ap, ap₂}
-use mathlib.Core.Bool.{Bool, true, false, cond, not}
+use mathlib.Core.Bool.{Bool, true, false, cond, _||_, true≢false}
 use mathlib.Core.List.{List}
 use native.Mathlib.Omega.{arith}
-use lib.Dec.{eqb}
-use borrow.Author.Tests.{eq-eqb, ne-eqb, lt-ltb, le-ltb, le-leb, lt-leb}
+use lib.Dec.{eqb, leb}
+use borrow.Author.Tests.{eq-eqb, ne-eqb, lt-ltb, le-ltb, leb-false}
 use Rattle.table.specs.Table.{word, methods, argAt}
 use Rattle.run_store.specs.declared.head.Head.{Head}
 use Rattle.run_store.specs.StoreCode.{headOf}
@@ -15,7 +15,7 @@ use Rattle.run_parts.specs.ReadinessCode.{readinessOp, offerOf, meetsOp}
 use Rattle.run_parts.specs.PartsCode.{partOf}
 use Rattle.run_holders.specs.HoldersCode.{holderIn}
 use Rattle.run_ability.specs.ReadsCode.{argumentIn}
-use Rattle.run_ability.specs.PartnerCode.{oppositeOf, readyOp, partnerOp}
+use Rattle.run_ability.specs.PartnerCode.{oppositeOf, Partner, waits, gone, ready, isNoOther, readyOp, isMoving, partnerOp}
 use Rattle.run_ability.specs.declared.pairing.Pairing.{Pairing}
 use Rattle.run_ability.specs.PairingCode.{unpaired, pairedOf, pairWith, pairingOf, pairingOp}
 use Rattle.run_ability.specs.EndingCode.{abilityOf, abilityOp}
@@ -30,37 +30,51 @@ argument-read p w start {h} e s q =
     next : start + 2 * h .place + 1 ≡ 3 + 20 * methods p + 2 * h .place
     next = omega (arith, s)
 
+-- another holder is one that can be a process
+pub other-low : (n q : ℕ) {b : Bool} → b ≡ isNoOther n q → b ≡ false → q < 8
+unfolding isNoOther
+other-low n q e h = leb-false 8 q (second (eqb q n) (leb 8 q) (sym e ∙ h))
+  where
+    second : (x y : Bool) → (x || y) ≡ false → y ≡ false
+    second true y i = absurd (true≢false i)
+    second false y i = i
+
+kind-test : {a b : Readiness} → a ≡ b → eqb (a .kind) 0 ≡ eqb (b .kind) 0
+kind-test e = ap (λ (r : Readiness). eqb (r .kind) 0) e
+
 module _ (p work : List ℕ) (t : List (List ℕ)) (n : ℕ) where
   -- the holder q of the opposite end was asked
-  pub partner-asked : (a : Readiness) {c d q r : ℕ} → c ≡ a .end .number % 65536 → d ≡ oppositeOf (a .end .tag) → q ≡ holderIn t c d
+  pub partner-asked : (a : Readiness) {c d q : ℕ} {r : Partner} → c ≡ a .end .number % 65536 → d ≡ oppositeOf (a .end .tag) → q ≡ holderIn t c d
       → r ≡ readyOp p work n a q → r ≡ partnerOp p work t n a
   unfolding partnerOp
   partner-asked a e f h g = g ∙ ap (readyOp p work n a) (h ∙ ap₂ (holderIn t) e f)
 
-  -- whether there is a partner
+  -- whether the offer moves its process
 
-  module _ (a : Readiness) {c d q : ℕ} (channel : c ≡ a .end .number % 65536) (side : d ≡ oppositeOf (a .end .tag)) (held : q ≡ holderIn t c d) where
-    asked : {b : Bool} {r : ℕ} → b ≡ not (eqb r 65535) → r ≡ readyOp p work n a q → b ≡ not (eqb (partnerOp p work t n a) 65535)
-    asked e g = e ∙ ap (λ (i : ℕ). not (eqb i 65535)) (partner-asked a channel side held g)
+  module _ (a : Readiness) {c d q : ℕ} (channel : c ≡ a .end .number % 65536) (side : d ≡ oppositeOf (a .end .tag)) (held : q ≡ holderIn t c d)
+      {x : Bool} (other : x ≡ isNoOther n q) where
+    asked : {b : Bool} {r : Partner} → b ≡ isMoving r → r ≡ readyOp p work n a q → b ≡ isMoving (partnerOp p work t n a)
+    asked e g = e ∙ ap isMoving (partner-asked a channel side held g)
 
-    pub itself-asked : q ≡ n → false ≡ not (eqb (partnerOp p work t n a) 65535)
-    unfolding readyOp
-    itself-asked h = asked {r = 65535} refl (took _ _ _ refl (eq-eqb q n h) refl)
+    pub itself-asked : x ≡ true → true ≡ isMoving (partnerOp p work t n a)
+    unfolding readyOp isMoving
+    itself-asked h = asked {r = gone} refl (took _ _ _ other h refl)
 
-    pub beyond-asked : (q ≡ n → ⊥) → 8 ≤ q → false ≡ not (eqb (partnerOp p work t n a) 65535)
-    unfolding readyOp
-    beyond-asked h k = asked {r = 65535} refl (passed-by _ _ _ refl (ne-eqb q n h) (took _ _ _ refl (le-leb 8 q k) refl))
+    module _ (no : x ≡ false) {s : Readiness} (stands : s ≡ readinessOp p (partOf work q)) where
+      pub over-asked : s .kind ≡ 0 → true ≡ isMoving (partnerOp p work t n a)
+      unfolding readyOp isMoving
+      over-asked k = asked {r = gone} refl (passed-by _ _ _ other no (took _ _ _ (kind-test stands) (eq-eqb (s .kind) 0 k) refl))
 
-    pub other-asked : (q ≡ n → ⊥) → q < 8 → {s : Readiness} → s ≡ readinessOp p (partOf work q) → {b : Bool} → b ≡ meetsOp a s
-        → b ≡ not (eqb (partnerOp p work t n a) 65535)
-    unfolding readyOp
-    other-asked h k {s} e {b} m =
-        asked {r = cond (meetsOp a (readinessOp p (partOf work q))) q 65535} (m ∙ ap (meetsOp a) e ∙ found (meetsOp a (readinessOp p (partOf work q))))
-        (passed-by _ _ _ refl (ne-eqb q n h) (passed-by _ _ _ refl (lt-leb 8 q k) refl))
-      where
-        found : (x : Bool) → x ≡ not (eqb (cond x q 65535) 65535)
-        found true = sym (ap not (ne-eqb q 65535 (λ i. absurd (omega (arith, i, k)))))
-        found false = refl
+      pub other-asked : (s .kind ≡ 0 → ⊥) → {b : Bool} → b ≡ meetsOp a s → b ≡ isMoving (partnerOp p work t n a)
+      unfolding readyOp isMoving
+      other-asked k {b} m =
+          asked {r = cond (meetsOp a (readinessOp p (partOf work q))) (ready q) waits}
+          (m ∙ ap (meetsOp a) stands ∙ found (meetsOp a (readinessOp p (partOf work q))))
+          (passed-by _ _ _ other no (passed-by _ _ _ (kind-test stands) (ne-eqb (s .kind) 0 k) refl))
+        where
+          found : (y : Bool) → y ≡ isMoving (cond y (ready q) waits)
+          found true = refl
+          found false = refl
 
   -- a process that offers nothing, one whose offer has no partner, and one whose offer has
 
@@ -68,15 +82,11 @@ module _ (p work : List ℕ) (t : List (List ℕ)) (n : ℕ) where
   unfolding abilityOp abilityOf
   no-offer {a} e h = took _ _ _ refl (lt-ltb (a .kind) 2 h) refl ∙ ap (abilityOf p work t n) e
 
-  module _ {a : Readiness} (stands : a ≡ readinessOp p (partOf work n)) (offer : 2 ≤ a .kind) {b : Bool} (told : b ≡ not (eqb (partnerOp p work t n a) 65535)) where
-    by-partner : (x : Bool) → not x ≡ b → _≡_ {A = ℕ} (cond x 2 1) (cond b 1 2)
-    by-partner true e = ap (λ (y : Bool). cond {A = ℕ} y 1 2) e
-    by-partner false e = ap (λ (y : Bool). cond {A = ℕ} y 1 2) e
-
+  module _ {a : Readiness} (stands : a ≡ readinessOp p (partOf work n)) (offer : 2 ≤ a .kind) {b : Bool} (told : b ≡ isMoving (partnerOp p work t n a)) where
     offers-so : cond {A = ℕ} b 1 2 ≡ abilityOp p work t n
     unfolding abilityOp abilityOf
     offers-so =
-        passed-by _ _ _ refl (le-ltb (a .kind) 2 offer) (sym (by-partner (eqb (partnerOp p work t n a) 65535) (sym told)))
+        passed-by _ _ _ refl (le-ltb (a .kind) 2 offer) (ap (λ (y : Bool). cond {A = ℕ} y 1 2) told)
         ∙ ap (abilityOf p work t n) stands
 
     pub met : b ≡ true → 1 ≡ abilityOp p work t n
@@ -88,26 +98,28 @@ module _ (p work : List ℕ) (t : List (List ℕ)) (n : ℕ) where
 -- what an offer comes to
 
 module _ (p work : List ℕ) (n : ℕ) (a : Readiness) (q : ℕ) {r : Pairing} where
-  pub pairs-itself : q ≡ n → r ≡ unpaired 1 → r ≡ pairWith p work n a q
-  unfolding pairWith
-  pairs-itself h e = took _ _ _ refl (eq-eqb q n h) e
-
-  pub pairs-beyond : (q ≡ n → ⊥) → 8 ≤ q → r ≡ unpaired 1 → r ≡ pairWith p work n a q
-  unfolding pairWith
-  pairs-beyond h k e = passed-by _ _ _ refl (ne-eqb q n h) (took _ _ _ refl (le-leb 8 q k) e)
-
-  module _ (other : q ≡ n → ⊥) (near : q < 8) {b : Readiness} (stands : b ≡ readinessOp p (partOf work q)) {m : Bool} (told : m ≡ meetsOp a b) where
-    pub pairs-with : m ≡ true → r ≡ pairedOf n a q b → r ≡ pairWith p work n a q
+  module _ {x : Bool} (other : x ≡ isNoOther n q) where
+    pub pairs-itself : x ≡ true → r ≡ unpaired 3 → r ≡ pairWith p work n a q
     unfolding pairWith
-    pairs-with h e =
-        passed-by _ _ _ refl (ne-eqb q n other)
-        (passed-by _ _ _ refl (lt-leb 8 q near) (took _ _ _ (told ∙ ap (meetsOp a) stands) h (e ∙ ap (pairedOf n a q) stands)))
+    pairs-itself h e = took _ _ _ other h e
 
-    pub pairs-not : m ≡ false → r ≡ unpaired 1 → r ≡ pairWith p work n a q
-    unfolding pairWith
-    pairs-not h e =
-        passed-by _ _ _ refl (ne-eqb q n other)
-        (passed-by _ _ _ refl (lt-leb 8 q near) (passed-by _ _ _ (told ∙ ap (meetsOp a) stands) h e))
+    module _ (no : x ≡ false) {b : Readiness} (stands : b ≡ readinessOp p (partOf work q)) where
+      pub pairs-over : b .kind ≡ 0 → r ≡ unpaired 3 → r ≡ pairWith p work n a q
+      unfolding pairWith
+      pairs-over k e = passed-by _ _ _ other no (took _ _ _ (kind-test stands) (eq-eqb (b .kind) 0 k) e)
+
+      module _ (going : b .kind ≡ 0 → ⊥) {m : Bool} (told : m ≡ meetsOp a b) where
+        pub pairs-with : m ≡ true → r ≡ pairedOf n a q b → r ≡ pairWith p work n a q
+        unfolding pairWith
+        pairs-with h e =
+            passed-by _ _ _ other no
+            (passed-by _ _ _ (kind-test stands) (ne-eqb (b .kind) 0 going) (took _ _ _ (told ∙ ap (meetsOp a) stands) h (e ∙ ap (pairedOf n a q) stands)))
+
+        pub pairs-not : m ≡ false → r ≡ unpaired 1 → r ≡ pairWith p work n a q
+        unfolding pairWith
+        pairs-not h e =
+            passed-by _ _ _ other no
+            (passed-by _ _ _ (kind-test stands) (ne-eqb (b .kind) 0 going) (passed-by _ _ _ (told ∙ ap (meetsOp a) stands) h e))
 
 module _ (p work : List ℕ) (t : List (List ℕ)) (n code : ℕ) {a : Readiness} (stands : a ≡ offerOf (partOf work n) code) {r : Pairing} where
   pub pairs-none : a .kind < 2 → r ≡ unpaired 0 → r ≡ pairingOp p work t n code

@@ -2,7 +2,7 @@
 use Prim.Native.Nat.{ℕ, _%_}
 use mathlib.Core.Bool.{cond}
 use mathlib.Core.List.{List}
-use lib.Dec.{eqb, leb, ltb}
+use lib.Dec.{eqb, ltb}
 use Rattle.run_store.specs.declared.values.Val.{Val}
 use Rattle.run_values.specs.ValuesCode.{emptyVal}
 use Rattle.run_parts.specs.PartsCode.{partOf}
@@ -10,9 +10,9 @@ use Rattle.run_holders.specs.HoldersCode.{holderIn}
 use Rattle.run_parts.specs.declared.readiness.Readiness.{Readiness}
 use Rattle.run_parts.specs.ReadinessCode.{readinessOp, offerOf, meetsOp}
 use Rattle.run_ability.specs.declared.pairing.Pairing.{Pairing}
-use Rattle.run_ability.specs.PartnerCode.{oppositeOf}
+use Rattle.run_ability.specs.PartnerCode.{oppositeOf, isNoOther}
 
--- 0 no offer, 1 an offer that waits
+-- 0 no offer, 1 an offer that waits, 3 one whose partner has gone
 unfoldable pub unpaired : ℕ → Pairing
 unpaired k = record { kind = k; sender = record { 0 = 0 }; receiver = record { 0 = 0 }; end = emptyVal; value = emptyVal }
 
@@ -27,8 +27,8 @@ pairedOf n a q b = cond (eqb (a .kind) 2) (meetingOf n q (a .end) (a .value)) (m
 -- the offer a of process n, where the opposite end is held by q
 unfoldable pub pairWith : List ℕ → List ℕ → ℕ → Readiness → ℕ → Pairing
 pairWith p work n a q =
-    cond (eqb q n) (unpaired 1)
-    (cond (leb 8 q) (unpaired 1)
+    cond (isNoOther n q) (unpaired 3)
+    (cond (eqb (readinessOp p (partOf work q) .kind) 0) (unpaired 3)
     (cond (meetsOp a (readinessOp p (partOf work q))) (pairedOf n a q (readinessOp p (partOf work q))) (unpaired 1)))
 
 unfoldable pub pairingOf : List ℕ → List ℕ → List (List ℕ) → ℕ → Readiness → Pairing

@@ -1,6 +1,7 @@
--- The partner of an offer, on the words of the store. These definitions follow the code.
+-- The partner of an offer, on the words of the store. These definitions follow the code; that they are document 01's and
+-- Paper 6's is proved in proofs/.
 use Prim.Native.Nat.{ℕ, _%_}
-use mathlib.Core.Bool.{cond}
+use mathlib.Core.Bool.{Bool, true, false, cond, _||_}
 use mathlib.Core.List.{List}
 use lib.Dec.{eqb, leb}
 use Rattle.run_parts.specs.PartsCode.{partOf}
@@ -11,9 +12,28 @@ use Rattle.run_parts.specs.ReadinessCode.{readinessOp, meetsOp}
 unfoldable pub oppositeOf : ℕ → ℕ
 oppositeOf tag = cond (eqb tag 5) 1 0
 
-unfoldable pub readyOp : List ℕ → List ℕ → ℕ → Readiness → ℕ → ℕ
-readyOp p work n a q =
-    cond (eqb q n) 65535 (cond (leb 8 q) 65535 (cond (meetsOp a (readinessOp p (partOf work q))) q 65535))
+-- What an offer finds: no partner that is ready, one that has gone, or one that is ready.
+pub data Partner : Type 0 where
+  waits : Partner
+  gone : Partner
+  ready : ℕ → Partner
 
-unfoldable pub partnerOp : List ℕ → List ℕ → List (List ℕ) → ℕ → Readiness → ℕ
+-- the holder q of the opposite end is process n itself, or can be no process
+unfoldable pub isNoOther : ℕ → ℕ → Bool
+isNoOther n q = eqb q n || leb 8 q
+
+-- the offer a of process n, where q holds the opposite end
+unfoldable pub readyOp : List ℕ → List ℕ → ℕ → Readiness → ℕ → Partner
+readyOp p work n a q =
+    cond (isNoOther n q) gone
+    (cond (eqb (readinessOp p (partOf work q) .kind) 0) gone
+    (cond (meetsOp a (readinessOp p (partOf work q))) (ready q) waits))
+
+-- an offer that finds this moves its process, by a meeting or by fault 33
+unfoldable pub isMoving : Partner → Bool
+isMoving waits = false
+isMoving gone = true
+isMoving (ready q) = true
+
+unfoldable pub partnerOp : List ℕ → List ℕ → List (List ℕ) → ℕ → Readiness → Partner
 partnerOp p work t n a = readyOp p work n a (holderIn t (a .end .number % 65536) (oppositeOf (a .end .tag)))

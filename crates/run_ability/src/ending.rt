@@ -5,7 +5,7 @@ ghost use Prim.Native.Nat.{_+_, _*_, _<_, _≤_};
 ghost use lib.ListN.{length};
 ghost use Rattle.table.specs.Table.{methods};
 ghost use Rattle.run_ability.specs.EndingCode.{abilityOp, endingOp};
-use super::partner::has_partner;
+use super::partner::is_moved;
 use super::reads::readiness_of;
 use run_store::references::ProcessNo;
 
@@ -18,7 +18,7 @@ pub fn ability(p: &[u16], start: usize, work: &[u32], t: &[[u16; 2]; 16], n: Pro
     if a.kind < 2 {
         return a.kind;
     }
-    if has_partner(p, start, work, t, n, a) {
+    if is_moved(p, start, work, t, n, a) {
         return 1;
     }
     2

@@ -4,6 +4,7 @@ ghost use Prim.Native.Nat.{_+_, _*_, _<_, _≤_};
 ghost use lib.ListN.{length};
 ghost use Rattle.table.specs.Table.{methods};
 ghost use Rattle.run_ability.specs.PairingCode.{unpaired, meetingOf, pairedOf, pairWith, pairingOp};
+use super::partner::is_no_other;
 use super::partner::opposite;
 use super::reads::offer_of;
 use super::reads::readiness_of;
@@ -14,7 +15,7 @@ use run_store::references::ProcessNo;
 use run_store::values::Val;
 use run_store::values::empty;
 
-// Kind 0 is no offer, 1 an offer that waits, 2 a meeting, with its sender's end and value.
+// Kind 0 is no offer, 1 an offer that waits, 2 a meeting, with its sender's end and value, 3 an offer whose partner has gone.
 pub struct Pairing {
     pub kind: u32,
     pub sender: ProcessNo,
@@ -69,13 +70,13 @@ fn pair_with(
     requires { ⌜ (start ≡ 2 + 20 * methods (now p)) × (8192 ≤ length (now work)) ⌝ }
     ensures { λ r. ⌜ r ≡ pairWith (now (p .entry)) (now (work .entry)) (n .0) a (q .0) ⌝ }
 {
-    if q.0 == n.0 {
-        return no_meeting(1);
-    }
-    if 8 <= q.0 {
-        return no_meeting(1);
+    if is_no_other(n, q) {
+        return no_meeting(3);
     }
     let b = readiness_of(p, start, work, q);
+    if b.kind == 0 {
+        return no_meeting(3);
+    }
     if meets(a, b) {
         return pair_of(n, a, q, b);
     }

@@ -1,11 +1,9 @@
-// Whether an offer has a partner, found through the holder of the opposite end.
+// Whether an offer moves its process, by the holder of the opposite end.
 ghost use mathlib.Core.Path.{_≡_};
 ghost use Prim.Native.Nat.{_+_, _*_, _≤_, _%_};
-ghost use mathlib.Core.Bool.{not};
 ghost use lib.ListN.{length};
-ghost use lib.Dec.{eqb};
 ghost use Rattle.table.specs.Table.{methods};
-ghost use Rattle.run_ability.specs.PartnerCode.{oppositeOf, partnerOp};
+ghost use Rattle.run_ability.specs.PartnerCode.{oppositeOf, isNoOther, isMoving, partnerOp};
 use super::reads::readiness_of;
 use run_holders::ends::holder_of;
 use run_parts::readiness::Readiness;
@@ -24,8 +22,15 @@ pub fn opposite(a: Readiness) -> EndNo
     EndNo(c, 0)
 }
 
-// Whether there is a partner.
-pub fn has_partner(
+// The holder q of the opposite end is process n itself, or can be no process.
+pub fn is_no_other(n: ProcessNo, q: ProcessNo) -> bool
+    ensures { λ r. ⌜ r ≡ isNoOther (n .0) (q .0) ⌝ }
+{
+    (q.0 == n.0) | (8 <= q.0)
+}
+
+// The offer a moves process n: its partner is ready, or has gone, which is fault 33.
+pub fn is_moved(
     p: &[u16],
     start: usize,
     work: &[u32],
@@ -34,15 +39,15 @@ pub fn has_partner(
     a: Readiness,
 ) -> bool
     requires { ⌜ (start ≡ 2 + 20 * methods (now p)) × (8192 ≤ length (now work)) ⌝ }
-    ensures { λ r. ⌜ r ≡ not (eqb (partnerOp (now (p .entry)) (now (work .entry)) (now (t .entry)) (n .0) a) 65535) ⌝ }
+    ensures { λ r. ⌜ r ≡ isMoving (partnerOp (now (p .entry)) (now (work .entry)) (now (t .entry)) (n .0) a) ⌝ }
 {
     let q = holder_of(t, opposite(a));
-    if q.0 == n.0 {
-        return false;
-    }
-    if 8 <= q.0 {
-        return false;
+    if is_no_other(n, q) {
+        return true;
     }
     let b = readiness_of(p, start, work, q);
+    if b.kind == 0 {
+        return true;
+    }
     meets(a, b)
 }

@@ -1,7 +1,7 @@
 -- FORK: what the code leaves in trace and store is the definitions' effect, where its lines fit.
 use Prim.Native.Nat.{ℕ, suc, _+_, _≤_, _<_}
 use mathlib.Core.Path.{_≡_, refl, sym, _∙_, ap, ap₂}
-use mathlib.Core.Logic.{_≢_}
+use mathlib.Core.Logic.{_≢_, inl}
 use mathlib.Core.Bool.{Bool, true, false, cond, not}
 use mathlib.Core.List.{List, [], _∷_, _++_, map, reverse, append-assoc}
 use native.Mathlib.Omega.{arith}
@@ -18,7 +18,7 @@ use Rattle.machine.specs.Act.{Act, stuck, faults, forks, doings, doingOf, doFor
 use Rattle.machine.specs.Entry.{Effect, runs, thingsOf, forking, applied, appliedIn, forkingIn}
 use Rattle.machine.specs.Run.{fits}
 use Rattle.machine.specs.Answer.{traceAfter}
-use Rattle.machine.specs.Sound.{FrameSound}
+use Rattle.machine.specs.Sound.{IsFault, FrameSound}
 use Rattle.machine.proofs.Reached.{Reached, Running}
 use Rattle.machine.proofs.Typing.{Fits, Frames}
 use Rattle.machine.proofs.Standing.{act-typed}
@@ -212,10 +212,10 @@ module _ {p outcomes : List ℕ} {s : State} {t0 : List ℕ} {room : ℕ} (here 
           forking-act e
           ∙ (λ t. cond (i t) (cond (j t) (faults 20) (cond (l t) (forks m (given params) (passedBy params f ∷ fs)) (faults 23))) stuck)
 
-      stopped-by : (x : ℕ) → 20 ≤ x → x ≤ 27 → actOf p outcomes s n ≡ faults x
+      stopped-by : (x : ℕ) → IsFault x → actOf p outcomes s n ≡ faults x
           → singleOp p outcomes lines store room (count here rest k n) n x ≡ tries (applied p outcomes k s n (actOf p outcomes s n))
-      stopped-by x low high i =
-          fault-law here rest k n live x low high
+      stopped-by x listed i =
+          fault-law here rest k n live x listed
           ∙ ap (λ (a : Act). tries (applied p outcomes k s n a)) (sym i)
 
       free : (x y : Bool) → leb params (length (f .pending)) ≡ true → any isEmpty (take params (f .pending)) ≡ x → ltb (length (c .processes)) 8 ≡ y
@@ -223,8 +223,8 @@ module _ {p outcomes : List ℕ} {s : State} {t0 : List ℕ} {room : ℕ} (here 
           (cond (not y) (singleOp p outcomes lines store room (count here rest k n) n 23)
           (startOp p lines store room (count here rest k n) n (length (c .processes)) m params))
           ≡ tries (applied p outcomes k s n (actOf p outcomes s n))
-      free true y i j l = stopped-by 20 (omega arith) (omega arith) (doing true true y i j l)
-      free false false i j l = stopped-by 23 (omega arith) (omega arith) (doing true false false i j l)
+      free true y i j l = stopped-by 20 (inl (omega arith, omega arith)) (doing true true y i j l)
+      free false false i j l = stopped-by 23 (inl (omega arith, omega arith)) (doing true false false i j l)
       free false true i j l =
           start-law (method-there e) params (leb-true params (length (f .pending)) i) (reached .kept .rows m (method-there e) .params) (ltb-true (length (c .processes)) 8 l)
           (goes-sound (doing true false true i j l))

@@ -1,7 +1,7 @@
 -- An entry at SEND or RECV, by what the process and its partner stand at.
 use Prim.Native.Nat.{ℕ, _<_}
 use mathlib.Core.Path.{_≡_, refl, sym, _∙_, ap, ap₂, subst}
-use mathlib.Core.Logic.{_≢_, ⊎-elim}
+use mathlib.Core.Logic.{_≢_, inl, inr, ⊎-elim}
 use mathlib.Core.Bool.{Bool, true, false, cond, not, _&&_, _||_, Bool·beq, true≢false}
 use mathlib.Core.List.{List, [], _∷_, _++_}
 use mathlib.Core.Option.{Option, none, some, Option·none-ne-some}
@@ -16,7 +16,7 @@ use Rattle.table.specs.Reading.{takenAt}
 use Rattle.machine.specs.Value.{qubit, channel, end, Value, empty, int, bool, ref, isEmpty}
 use Rattle.machine.specs.State.{Frame, Status, running, finished, stopped, Process, Config, State, processAt}
 use Rattle.machine.specs.Act.{Offer, sends, receives, Act, idle, stuck, faults, goes, ends, makes, forks, offers, doSend, doRecv, doings, doingOf, atFrame, atFrames, byStatus, actOf}
-use Rattle.machine.specs.Entry.{Effect, Meeting, joins, offered, meetsWith, meetingOf, isMeeting, meetIn, meetIfIn, applied, effectOf, moves, appliedIn, effectIn, movesIn, tableMachine}
+use Rattle.machine.specs.Entry.{Effect, Meeting, joins, offered, meetsWith, meetingOf, isMeeting, meetIn, meetIfIn, gone, judged, applied, effectOf, moves, appliedIn, effectIn, movesIn, tableMachine}
 use Rattle.machine.specs.Owner.{valuesOf}
 use Rattle.machine.specs.Sound.{ProcessSound}
 use Rattle.machine.proofs.Reached.{Reached, busy-at, Running}
@@ -39,6 +39,8 @@ use Rattle.run_parts.specs.ReadinessCode.{readinessOp, offerOf}
 use Rattle.run_parts.proofs.Returns.{offers-send, offers-receive}
 use Rattle.run_parts.proofs.Standing.{Stands}
 use Rattle.run_ability.specs.PairingCode.{pairingOp}
+use Rattle.run_ability.specs.PartnerCode.{waits, ready}
+use Rattle.run_ability.specs.PartnerCode as code
 use Rattle.run_ability.proofs.Able.{process-sound, stand-at, found, partner-law, met-with, found-partner}
 use Rattle.run_single.specs.ResultCode.{AfterEntry, afterEntry, idleAt}
 use Rattle.run_single.specs.SingleCode.{singleOp}
@@ -69,7 +71,7 @@ module _ {p outcomes : List ℕ} {s : State} {t0 : List ℕ} {room : ℕ} (here 
 
   -- what an entry of process n leaves, by its act
   abbrev pub went : Act → AfterEntry
-  went a = cond (moves p outcomes s n a) (tries (applied p outcomes k s n a)) stay
+  went a = cond (moves p outcomes s n (judged s n a)) (tries (applied p outcomes k s n (judged s n a))) stay
 
   -- a process that offers is running
   record Offerer (q : ℕ) (o : Offer) : Type 0 where
@@ -143,16 +145,18 @@ module _ {p outcomes : List ℕ} {s : State} {t0 : List ℕ} {room : ℕ} (here 
     within : (o : Offer) → actOf p outcomes s n ≡ offers o → OfferWithin (valuesOf (processAt c n .frames)) o
     within o e = subst (ActWithin (valuesOf (processAt c n .frames)) (c .qubits) (c .channels)) e (act-within p outcomes s n)
 
-    offer-law : (o : Offer) (st : Readiness) → actOf p outcomes s n ≡ offers o → Stands (offers o) st
-        → offerOp p lines store room t (count here rest k n) n st ≡ went (offers o)
-    unfolding offerOp joinOp movesIn appliedIn effectIn isMeeting meetIfIn
-    offer-law o st does h =
-        ap (joinOp p lines store room (count here rest k n) n st)
+    offer-law : {f : Frame} {fs : List Frame} → Running p c n f fs → (o : Offer) (st : Readiness) → actOf p outcomes s n ≡ offers o → Stands (offers o) st
+        → offerOp p outcomes lines store room t (count here rest k n) n st ≡ went (offers o)
+    unfolding offerOp joinOp movesIn appliedIn effectIn isMeeting meetIfIn judged
+    offer-law live o st does h =
+        ap (joinOp p outcomes lines store room (count here rest k n) n st)
         (partner-law reached rest owned t holding n o st (within o does) h)
-        ∙ go (isMeeting (meetingOf p outcomes s n o)) refl
+        ∙ by-gone (gone s n o) refl
       where
-        after : Typed p (meetIfIn (tableMachine p outcomes) k s (meetingOf p outcomes s n o) .config)
-        after = subst (λ (a : Act). Typed p (applied p outcomes k s n a .config)) does (effect-typed p (reached .kept) outcomes (reached .bytes) s (reached .kinds) (reached .typed) k n)
+        after : gone s n o ≡ false → Typed p (meetIfIn (tableMachine p outcomes) k s (meetingOf p outcomes s n o) .config)
+        after g =
+            subst (λ (b : Bool). Typed p (applied p outcomes k s n (cond b (faults 33) (offers o)) .config)) g
+            (subst (λ (a : Act). Typed p (applied p outcomes k s n (judged s n a) .config)) does (effect-typed p (reached .kept) outcomes (reached .bytes) s (reached .kinds) (reached .typed) k n))
 
         paired : (m : Option Meeting) → meetingOf p outcomes s n o ≡ m → isMeeting m ≡ true → Typed p (meetIfIn (tableMachine p outcomes) k s m .config)
             → pairOp p lines store room (count here rest k n) n st (partner o) ≡ tries (meetIfIn (tableMachine p outcomes) k s m)
@@ -166,15 +170,18 @@ module _ {p outcomes : List ℕ} {s : State} {t0 : List ℕ} {room : ℕ} (here 
             pair-law (partner o) o (w .0) e st (running-at n o does) (running-at (partner o) (w .0) (w .1)) near (q .1) h
             (subst (λ (a : Act). Stands a (readinessOp p (partOf store (partner o)))) (w .1) (stand-at reached rest (partner o) near)) (w .2) u
 
-        go : (b : Bool) → isMeeting (meetingOf p outcomes s n o) ≡ b
-            → joinOp p lines store room (count here rest k n) n st (cond b (partner o) 65535)
+        by-meeting : gone s n o ≡ false → (b : Bool) → isMeeting (meetingOf p outcomes s n o) ≡ b
+            → joinOp p outcomes lines store room (count here rest k n) n st (cond b (ready (partner o)) waits)
             ≡ cond b (tries (meetIfIn (tableMachine p outcomes) k s (meetingOf p outcomes s n o))) stay
-        go true b =
-            ap (λ (z : Bool). cond z stay (pairOp p lines store room (count here rest k n) n st (partner o)))
-            (lt-leb 8 (partner o)
-            (omega (arith, found-partner reached rest owned t holding n o (within o does) b .0, sound here rest k n .processCount)))
-            ∙ paired (meetingOf p outcomes s n o) refl b after
-        go false b = refl
+        by-meeting g true b = paired (meetingOf p outcomes s n o) refl b (after g)
+        by-meeting g false b = refl
+
+        by-gone : (g : Bool) → gone s n o ≡ g
+            → joinOp p outcomes lines store room (count here rest k n) n st
+            (cond g code.gone (cond (isMeeting (meetingOf p outcomes s n o)) (ready (partner o)) waits))
+            ≡ cond (moves p outcomes s n (cond g (faults 33) (offers o))) (tries (applied p outcomes k s n (cond g (faults 33) (offers o)))) stay
+        by-gone true e = fault-law here rest k n live 33 (inr refl)
+        by-gone false e = by-meeting e (isMeeting (meetingOf p outcomes s n o)) refl
 
     -- the acts at SEND and RECV
     abbrev pub Offering : Act → Type 0
@@ -190,12 +197,12 @@ module _ {p outcomes : List ℕ} {s : State} {t0 : List ℕ} {room : ℕ} (here 
     module _ {f : Frame} {fs : List Frame} (live : Running p c n f fs) where
       stands-law : (a : Act) (st : Readiness) → actOf p outcomes s n ≡ a → Offering a → a ≢ stuck → Stands a st
           → standsOp p outcomes lines store room t (count here rest k n) n st ≡ went a
-      unfolding standsOp movesIn
+      unfolding standsOp movesIn judged
       stands-law idle st does o going h = absurd o
       stands-law stuck st does o going h = absurd (going refl)
       stands-law (faults m) st does o going h =
           ap (standsOp p outcomes lines store room t (count here rest k n) n) h
-          ∙ fault-law here rest k n live 20 (omega arith) (omega arith)
+          ∙ fault-law here rest k n live 20 (inl (omega arith, omega arith))
           ∙ ap (λ (i : ℕ). tries (applied p outcomes k s n (faults i))) (sym o)
       stands-law (goes gs es u) st does o going h = absurd o
       stands-law ends st does o going h = absurd o
@@ -203,12 +210,12 @@ module _ {p outcomes : List ℕ} {s : State} {t0 : List ℕ} {room : ℕ} (here 
       stands-law (forks m args gs) st does o going h = absurd o
       stands-law (offers (sends i d v hs)) st does o going h =
           ap (λ (b : Bool). cond b (singleOp p outcomes lines store room (count here rest k n) n 20)
-          (offerOp p lines store room t (count here rest k n) n st)) (ap (λ (x : Readiness). ltb (x .kind) 2) h)
-          ∙ offer-law (sends i d v hs) st does h
+          (offerOp p outcomes lines store room t (count here rest k n) n st)) (ap (λ (x : Readiness). ltb (x .kind) 2) h)
+          ∙ offer-law live (sends i d v hs) st does h
       stands-law (offers (receives i d hs)) st does o going h =
           ap (λ (b : Bool). cond b (singleOp p outcomes lines store room (count here rest k n) n 20)
-          (offerOp p lines store room t (count here rest k n) n st)) (ap (λ (x : Readiness). ltb (x .kind) 2) h)
-          ∙ offer-law (receives i d hs) st does h
+          (offerOp p outcomes lines store room t (count here rest k n) n st)) (ap (λ (x : Readiness). ltb (x .kind) 2) h)
+          ∙ offer-law live (receives i d hs) st does h
 
       offering : (b : Bool) (a : Act) → Offering a → Offering (cond b (faults 20) a)
       offering true a h = refl

@@ -1,7 +1,7 @@
--- An entry at SEND or RECV, said by the partner's number in place of what the offer comes to.
+-- An entry at SEND or RECV, said by the partner in place of what the offer comes to.
 use Prim.Native.Nat.{ℕ, _%_, _<_}
 use mathlib.Core.Path.{_≡_, refl, sym, _∙_, ap}
-use mathlib.Core.Bool.{Bool, true, false, cond, _&&_, true≢false}
+use mathlib.Core.Bool.{Bool, true, false, cond, _&&_, _||_, true≢false}
 use mathlib.Core.List.{List}
 use native.Mathlib.Omega.{arith}
 use lib.Dec.{eqb, leb, ltb}
@@ -12,7 +12,7 @@ use Rattle.run_holders.specs.HoldersCode.{holderIn}
 use Rattle.run_parts.specs.declared.readiness.Readiness.{Readiness}
 use Rattle.run_parts.specs.ReadinessCode.{readinessOp, offerOf, meetsOp}
 use Rattle.run_ability.specs.declared.pairing.Pairing.{Pairing}
-use Rattle.run_ability.specs.PartnerCode.{oppositeOf, readyOp, partnerOp}
+use Rattle.run_ability.specs.PartnerCode.{oppositeOf, Partner, waits, gone, ready, isNoOther, readyOp, partnerOp}
 use Rattle.run_ability.specs.PairingCode.{unpaired, meetingOf, pairedOf, pairWith, pairingOf, pairingOp}
 use Rattle.run_single.specs.declared.result.Count.{Count}
 use Rattle.run_single.specs.ResultCode.{AfterEntry, afterEntry, idleAt}
@@ -29,15 +29,17 @@ pairBy trace work room g n a q b =
 unfoldable pub pairOp : List ℕ → List ℕ → List ℕ → ℕ → Count → ℕ → Readiness → ℕ → AfterEntry
 pairOp p trace work room g n a q = pairBy trace work room g n a q (readinessOp p (partOf work q))
 
-unfoldable pub joinOp : List ℕ → List ℕ → List ℕ → ℕ → Count → ℕ → Readiness → ℕ → AfterEntry
-joinOp p trace work room g n a q = cond (leb 8 q) (afterEntry (idleAt g) trace work) (pairOp p trace work room g n a q)
+unfoldable pub joinOp : List ℕ → List ℕ → List ℕ → List ℕ → ℕ → Count → ℕ → Readiness → Partner → AfterEntry
+joinOp p outcomes trace work room g n a waits = afterEntry (idleAt g) trace work
+joinOp p outcomes trace work room g n a gone = singleOp p outcomes trace work room g n 33
+joinOp p outcomes trace work room g n a (ready q) = pairOp p trace work room g n a q
 
-unfoldable pub offerOp : List ℕ → List ℕ → List ℕ → ℕ → List (List ℕ) → Count → ℕ → Readiness → AfterEntry
-offerOp p trace work room t g n a = joinOp p trace work room g n a (partnerOp p work t n a)
+unfoldable pub offerOp : List ℕ → List ℕ → List ℕ → List ℕ → ℕ → List (List ℕ) → Count → ℕ → Readiness → AfterEntry
+offerOp p outcomes trace work room t g n a = joinOp p outcomes trace work room g n a (partnerOp p work t n a)
 
 unfoldable pub standsOp : List ℕ → List ℕ → List ℕ → List ℕ → ℕ → List (List ℕ) → Count → ℕ → Readiness → AfterEntry
 standsOp p outcomes trace work room t g n a =
-    cond (ltb (a .kind) 2) (singleOp p outcomes trace work room g n 20) (offerOp p trace work room t g n a)
+    cond (ltb (a .kind) 2) (singleOp p outcomes trace work room g n 20) (offerOp p outcomes trace work room t g n a)
 
 unfoldable pub meetOp : List ℕ → List ℕ → List ℕ → List ℕ → ℕ → List (List ℕ) → Count → ℕ → AfterEntry
 meetOp p outcomes trace work room t g n = standsOp p outcomes trace work room t g n (readinessOp p (partOf work n))
@@ -55,19 +57,17 @@ module _ (p outcomes trace work : List ℕ) (room : ℕ) (t : List (List ℕ)) (
       go true = refl
       go false = refl
 
-  with-holder : (a : Readiness) (q : ℕ) → meets (pairWith p work n a q) ≡ joinOp p trace work room g n a (readyOp p work n a q)
+  with-holder : (a : Readiness) (q : ℕ) → meets (pairWith p work n a q) ≡ joinOp p outcomes trace work room g n a (readyOp p work n a q)
   unfolding meetBy pairWith unpaired joinOp pairOp readyOp
-  with-holder a q = go (eqb q n) (leb 8 q) (meetsOp a (readinessOp p (partOf work q))) refl
+  with-holder a q = go (isNoOther n q) (eqb (readinessOp p (partOf work q) .kind) 0) (meetsOp a (readinessOp p (partOf work q)))
     where
-      go : (x y z : Bool) → leb 8 q ≡ y
-          → meets (cond x (unpaired 1) (cond y (unpaired 1) (cond z (pairedOf n a q (readinessOp p (partOf work q))) (unpaired 1))))
-          ≡ joinOp p trace work room g n a (cond x 65535 (cond y 65535 (cond z q 65535)))
-      go true y z e = refl
-      go false true z e = refl
-      go false false true e =
-          paired-same a q (readinessOp p (partOf work q))
-          ∙ sym (ap (λ (b : Bool). cond b (afterEntry (idleAt g) trace work) (pairOp p trace work room g n a q)) e)
-      go false false false e = refl
+      go : (x y z : Bool)
+          → meets (cond x (unpaired 3) (cond y (unpaired 3) (cond z (pairedOf n a q (readinessOp p (partOf work q))) (unpaired 1))))
+          ≡ joinOp p outcomes trace work room g n a (cond x gone (cond y gone (cond z (ready q) waits)))
+      go true y z = refl
+      go false true z = refl
+      go false false true = paired-same a q (readinessOp p (partOf work q))
+      go false false false = refl
 
   stands-same : (a : Readiness) → meets (pairingOf p work t n a) ≡ standsOp p outcomes trace work room t g n a
   unfolding meetBy pairingOf unpaired standsOp offerOp partnerOp
@@ -77,7 +77,7 @@ module _ (p outcomes trace work : List ℕ) (room : ℕ) (t : List (List ℕ)) (
       q = holderIn t (a .end .number % 65536) (oppositeOf (a .end .tag))
 
       go : (x : Bool) → meets (cond x (unpaired 0) (pairWith p work n a q))
-          ≡ cond x (singleOp p outcomes trace work room g n 20) (joinOp p trace work room g n a (readyOp p work n a q))
+          ≡ cond x (singleOp p outcomes trace work room g n 20) (joinOp p outcomes trace work room g n a (readyOp p work n a q))
       go true = refl
       go false = with-holder a q
 
@@ -103,7 +103,9 @@ waiting-stays p outcomes trace work room t g n code h = go (eqb code 1) (isOffer
     offers m e o true i = absurd (no-fork code o i)
     offers m e o false i =
         ap (λ (j : ℕ). cond (eqb j 0) (singleOp p outcomes trace work room g n 20)
-        (cond (eqb j 1) stay (exchangeOp trace work room g (m .sender .0) (m .receiver .0) (m .end) (m .value)))) e
+        (cond (eqb j 1) stay
+        (cond (eqb j 3) (singleOp p outcomes trace work room g n 33)
+        (exchangeOp trace work room g (m .sender .0) (m .receiver .0) (m .end) (m .value))))) e
 
     go : (x o l : Bool) → isOffer code ≡ o → cond x (unpaired 1) (cond (o && l) (pairingOp p work t n code) (unpaired 0)) .kind ≡ 1
         → cond x stay (cond (eqb code 114) (forkOp p outcomes trace work room g n)
@@ -124,8 +126,8 @@ Near : Pairing → Type 0
 Near m = (m .sender .0 < 8) × (m .receiver .0 < 8)
 
 pairs-near : (p work : List ℕ) (t : List (List ℕ)) (n : ℕ) (a : Readiness) → n < 8 → Near (pairingOf p work t n a)
-unfolding pairingOf pairWith pairedOf unpaired Near
-pairs-near p work t n a h = cond-both Near (ltb (a .kind) 2) none (cond-both Near (eqb q n) none (beyond (leb 8 q) refl))
+unfolding pairingOf pairWith pairedOf unpaired isNoOther Near
+pairs-near p work t n a h = cond-both Near (ltb (a .kind) 2) none (other (eqb q n) (leb 8 q) refl)
   where
     q : ℕ
     q = holderIn t (a .end .number % 65536) (oppositeOf (a .end .tag))
@@ -136,11 +138,14 @@ pairs-near p work t n a h = cond-both Near (ltb (a .kind) 2) none (cond-both Nea
     b : Readiness
     b = readinessOp p (partOf work q)
 
-    beyond : (x : Bool) → leb 8 q ≡ x → Near (cond x (unpaired 1) (cond (meetsOp a b) (pairedOf n a q b) (unpaired 1)))
-    beyond true i = none
-    beyond false i =
-        cond-both Near (meetsOp a b)
-        (cond-both Near (eqb (a .kind) 2) (h, leb-false 8 q i) (leb-false 8 q i, h)) none
+    other : (x y : Bool) → leb 8 q ≡ y
+        → Near (cond (x || y) (unpaired 3) (cond (eqb (b .kind) 0) (unpaired 3) (cond (meetsOp a b) (pairedOf n a q b) (unpaired 1))))
+    other true y i = none
+    other false true i = none
+    other false false i =
+        cond-both Near (eqb (b .kind) 0) none
+        (cond-both Near (meetsOp a b)
+        (cond-both Near (eqb (a .kind) 2) (h, leb-false 8 q i) (leb-false 8 q i, h)) none)
 
 pub offer-near : (p work : List ℕ) (t : List (List ℕ)) (n code : ℕ) → (offerAt p work t n code .sender .0 < 8) × (offerAt p work t n code .receiver .0 < 8)
 unfolding offerAt pairingOp unpaired Near

@@ -102,11 +102,20 @@ module _ (p outcomes trace work : List ℕ) (room : ℕ) (g : Count) (n : ℕ) (
     unfolding meetBy
     meet-waits h q = passed-by _ _ _ refl (ne-eqb (m .kind) 0 offers) (took _ _ _ refl (eq-eqb (m .kind) 1 h) (came-to q refl refl))
 
-    pub meet-meets : {x : EntryResult} {ts ws : List ℕ} → (m .kind ≡ 1 → ⊥)
+    pub meet-gone : {x : EntryResult} {ts ws : List ℕ} → (m .kind ≡ 1 → ⊥) → m .kind ≡ 3
+        → afterEntry x ts ws ≡ singleOp p outcomes trace work room g n 33 → afterEntry x ts ws ≡ meetBy p outcomes trace work room g n m
+    unfolding meetBy
+    meet-gone h k q =
+        passed-by _ _ _ refl (ne-eqb (m .kind) 0 offers)
+        (passed-by _ _ _ refl (ne-eqb (m .kind) 1 h) (took _ _ _ refl (eq-eqb (m .kind) 3 k) q))
+
+    pub meet-meets : {x : EntryResult} {ts ws : List ℕ} → (m .kind ≡ 1 → ⊥) → (m .kind ≡ 3 → ⊥)
         → afterEntry x ts ws ≡ exchangeOp trace work room g (m .sender .0) (m .receiver .0) (m .end) (m .value)
         → afterEntry x ts ws ≡ meetBy p outcomes trace work room g n m
     unfolding meetBy
-    meet-meets h q = passed-by _ _ _ refl (ne-eqb (m .kind) 0 offers) (passed-by _ _ _ refl (ne-eqb (m .kind) 1 h) q)
+    meet-meets h k q =
+        passed-by _ _ _ refl (ne-eqb (m .kind) 0 offers)
+        (passed-by _ _ _ refl (ne-eqb (m .kind) 1 h) (passed-by _ _ _ refl (ne-eqb (m .kind) 3 k) q))
 
 -- an entry by its code
 

@@ -19,7 +19,7 @@ use Rattle.table.proofs.Before.{before-height}
 use Rattle.machine.specs.Value.{Thing, qubit, channel, end, Value}
 use Rattle.machine.specs.State.{Frame, Status, running, finished, stopped, Process, Config, State, processAt}
 use Rattle.machine.specs.Act.{Act, idle, stuck, faults, goes, ends, makes, forks, offers, atFrame, atFrames, byStatus, actOf}
-use Rattle.machine.specs.Entry.{Effect, runs, applied, effectOf, moves, able, ableIn, appliedIn, effectIn, movesIn}
+use Rattle.machine.specs.Entry.{Effect, runs, judged, applied, effectOf, moves, able, ableIn, appliedIn, effectIn, movesIn}
 use Rattle.machine.specs.Owner.{valuesOf}
 use Rattle.machine.specs.Answer.{traceAfter}
 use Rattle.machine.specs.Sound.{ProcessSound}
@@ -115,18 +115,6 @@ telling-small op t = ⊎-elim (λ h. ltb-true op 12 h) (λ h. absurd (true≢fal
     beyond (suc (suc (suc (suc (suc (suc (suc (suc (suc (suc (suc zero))))))))))) h = absurd (omega (arith, h))
     beyond (suc (suc (suc (suc (suc (suc (suc (suc (suc (suc (suc (suc op)))))))))))) h = refl
 
--- an act of an op other than SEND and RECV moves
-alone-moves : (p outcomes : List ℕ) (s : State) (n : ℕ) (a : Act) → Alone a → a ≢ stuck → moves p outcomes s n a ≡ true
-unfolding movesIn
-alone-moves p outcomes s n idle h g = absurd h
-alone-moves p outcomes s n stuck h g = absurd (g refl)
-alone-moves p outcomes s n (faults m) h g = refl
-alone-moves p outcomes s n (goes gs es u) h g = refl
-alone-moves p outcomes s n ends h g = refl
-alone-moves p outcomes s n (makes x gs) h g = refl
-alone-moves p outcomes s n (forks m args gs) h g = refl
-alone-moves p outcomes s n (offers o) h g = absurd h
-
 -- zeros are no running process
 no-status : eqb (headOf (replicate 512 0) .status) 1 ≡ false
 unfolding headOf
@@ -191,9 +179,21 @@ module _ {p outcomes : List ℕ} {s : State} {t0 : List ℕ} {room : ℕ} (here 
         entry = ap (λ (d : AfterStep). entryOp p outcomes lines store room counted n (d .code) (offerAt p store t n (d .code))) e ∙ h;
       })
 
+  -- an act of an op other than SEND and RECV moves its process, and is not judged
+  alone-comes : (a : Act) → Alone a → a ≢ stuck → tried here rest k n (applied p outcomes k s n a) ≡ comes a
+  unfolding movesIn judged
+  alone-comes idle h g = absurd h
+  alone-comes stuck h g = absurd (g refl)
+  alone-comes (faults m) h g = refl
+  alone-comes (goes gs es u) h g = refl
+  alone-comes ends h g = refl
+  alone-comes (makes x gs) h g = refl
+  alone-comes (forks m args gs) h g = refl
+  alone-comes (offers o) h g = absurd h
+
   -- a process that does not run
   over : (w : List ℕ) → partOf store n ≡ w → eqb (headOf w .status) 1 ≡ false → actOf p outcomes s n ≡ idle → Law
-  unfolding stepOp entryOp movesIn
+  unfolding stepOp entryOp movesIn judged
   over w e h i =
       other 1
       (ap (λ (b : Bool). cond b (actOp p (partOf store n) (headOf (partOf store n)) (opAt p (headOf (partOf store n) .place)) (argAt p (headOf (partOf store n) .place))) (afterStep 1 (partOf store n)))
@@ -232,25 +232,25 @@ module _ {p outcomes : List ℕ} {s : State} {t0 : List ℕ} {room : ℕ} (here 
 
     -- an op that stays within the process and writes no line
     quiet : (a : Act) → atFrame p outcomes s f fs ≡ a → ActTyped p (reached .kinds) (c .qubits) (length (c .processes)) a → Agrees a words (stepOp p words) → Law
-    unfolding movesIn appliedIn effectIn ableIn
+    unfolding movesIn appliedIn effectIn ableIn judged
     quiet idle i ty g = absurd g
     quiet stuck i ty g = absurd ty
     quiet (faults m) i ty g =
         single-other m g (λ z. absurd (omega (arith, z, ty .0))) (λ z. absurd (omega (arith, z, ty .0))) (λ z. absurd (omega (arith, z, ty .1)))
         (λ z. absurd (omega (arith, z, ty .1))) (λ z. absurd (omega (arith, z, ty .1))) (omega (arith, ty .1))
-        (fault-law here rest k n live m (ty .0) (ty .1)
+        (fault-law here rest k n live m (inl ty)
         ∙ ap comes (sym (act-here ∙ i)))
     quiet (goes gs [] zero) i ty g =
         inl (record {
           code = ap (λ (d : AfterStep). d .code) stepped;
-          can = ap (moves p outcomes s n) does;
+          can = ap (λ (a : Act). moves p outcomes s n (judged s n a)) does;
           words =
               ap (λ (d : AfterStep). withPart store n (d .words)) stepped
               ∙ part-put c (laid here rest k n) rest n (runs gs) (live .made)
               (after-long here rest k n live (goes gs [] 0) does n (runs gs) (process-same c n (runs gs) (live .made)))
-              ∙ ap (λ (a : Act). encode (applied p outcomes k s n a .config) ++ rest) (sym does);
-          lines = ap (λ (a : Act). applied p outcomes k s n a .lines) does;
-          used = ap (λ (a : Act). applied p outcomes k s n a .used) does;
+              ∙ ap (λ (a : Act). encode (applied p outcomes k s n (judged s n a) .config) ++ rest) (sym does);
+          lines = ap (λ (a : Act). applied p outcomes k s n (judged s n a) .lines) does;
+          used = ap (λ (a : Act). applied p outcomes k s n (judged s n a) .used) does;
         })
       where
         does : actOf p outcomes s n ≡ goes gs [] 0
@@ -274,11 +274,11 @@ module _ {p outcomes : List ℕ} {s : State} {t0 : List ℕ} {room : ℕ} (here 
         → Concluded outcomes s (live .busy) (sound here rest k n .qubitCount) a
         (concludeOp p words code (c .qubits) (c .channels) outcomes (s .used))
         → singleOp p outcomes lines store room counted n code ≡ comes a
-    unfolding movesIn
+    unfolding movesIn judged
     loud code idle i ty wi al g = absurd g
     loud code stuck i ty wi al g = absurd ty
     loud code (faults m) i ty wi al g =
-        fault-as here rest k n live code m (ty .0) (ty .1) g
+        fault-as here rest k n live code m (inl ty) g
     loud code (goes gs [] u) i ty wi al g = absurd g
     loud code (goes gs (e ∷ []) u) i ty wi al g =
         line-law here rest k n live code gs e u (act-here ∙ i) g
@@ -336,8 +336,7 @@ module _ {p outcomes : List ℕ} {s : State} {t0 : List ℕ} {room : ℕ} (here 
             ∙ forks-come)
           where
             forks-come : tried here rest k n (applied p outcomes k s n (actOf p outcomes s n)) ≡ comes (actOf p outcomes s n)
-            forks-come = ap (λ (b : Bool). cond b (tried here rest k n (applied p outcomes k s n (actOf p outcomes s n)))
-                (afterEntry (idleAt counted) lines store)) (sym (alone-moves p outcomes s n (actOf p outcomes s n) (subst Alone (sym act-here) (frame-alone p outcomes s f fs (λ z. absurd (omega (arith, z, e))) (λ z. absurd (omega (arith, z, e))))) going))
+            forks-come = alone-comes (actOf p outcomes s n) (subst Alone (sym act-here) (frame-alone p outcomes s f fs (λ z. absurd (omega (arith, z, e))) (λ z. absurd (omega (arith, z, e))))) going
 
         -- what the offer comes to was worked out
         paired : (code : ℕ) → meetBy p outcomes lines store room counted n (cond (ltb n 8) (pairingOp p store t n code) (unpaired 0))

@@ -39,7 +39,7 @@ fn exchange(
     taken(g.lines + 2, g.used)
 }
 
-// "20 .. before all others, and before waiting".
+// "20 .. before all others, and before waiting"; 33 where the partner has gone.
 pub fn meet_entry(
     p: &[u16],
     start: usize,
@@ -59,6 +59,9 @@ pub fn meet_entry(
     }
     if m.kind == 1 {
         return idle(g);
+    }
+    if m.kind == 3 {
+        return single(p, start, outcomes, trace, work, room, g, n, 33);
     }
     let sender = m.sender;
     let receiver = m.receiver;

@@ -22,6 +22,7 @@ use Rattle.machine.specs.Entry.{Effect, Meeting, thingsOf, handing, meetIn, mee
 use Rattle.machine.proofs.Reached.{Reached}
 use Rattle.machine.proofs.Acts.{ActTyped}
 use Rattle.machine.proofs.Standing.{act-typed}
+use Rattle.machine.proofs.Gone.{judged-keeps}
 use Rattle.run_parts.proofs.Alone.{Alone, frame-alone}
 
 -- where the process goes on by itself, it writes at most one line and uses at most one outcome
@@ -156,7 +157,9 @@ module _ (p : List ℕ) (kept : Kept p) (outcomes : List ℕ) (s : State) (ks : 
 
 pub modest : {p outcomes : List ℕ} {s : State} → Reached p outcomes s → (k n : ℕ)
     → (effectOf p outcomes k s n .used ≤ 1) × (length (effectOf p outcomes k s n .lines) ≤ 17)
-unfolding effectIn
+unfolding effectIn appliedIn
 modest {p} {outcomes} {s} r k n =
-    applied-modest p (r .kept) outcomes s (r .kinds) k n (actOf p outcomes s n) (act-small p outcomes s n)
-    (act-typed p (r .kept) outcomes (r .bytes) s (r .kinds) (r .typed) n)
+    judged-keeps (λ (a : Act). Modest (applied p outcomes k s n a)) s n (actOf p outcomes s n)
+    (applied-modest p (r .kept) outcomes s (r .kinds) k n (actOf p outcomes s n) (act-small p outcomes s n)
+    (act-typed p (r .kept) outcomes (r .bytes) s (r .kinds) (r .typed) n))
+    (λ o e. (omega arith, omega arith))

@@ -16,8 +16,8 @@ use Rattle.lists.proofs.Tests.{decide, cond-each}
 use Rattle.table.specs.Table.{argAt}
 use Rattle.table.proofs.Accepted.{Kept}
 use Rattle.machine.specs.State.{Line, State, startConfig, start, startWith}
-use Rattle.machine.specs.Act.{idle, ends}
-use Rattle.machine.specs.Entry.{Effect, nothing, applied, effectOf, moves, able, ableIn, appliedIn, effectIn, movesIn}
+use Rattle.machine.specs.Act.{Act, idle, ends}
+use Rattle.machine.specs.Entry.{judged, Effect, nothing, applied, effectOf, moves, able, ableIn, appliedIn, effectIn, movesIn}
 use Rattle.machine.specs.Run.{fits, afterEffect, ended, runFrom, run}
 use Rattle.machine.specs.Answer.{traceWords, traceAfter}
 use Rattle.machine.specs.Sound.{ConfigSound}
@@ -260,9 +260,9 @@ module _ {p schedule outcomes t0 rest : List ℕ} {room : ℕ} (given : Inputs p
           namedEntryOp p outcomes trace₀ work₀ room count₀ named (d .code) (offerAt p work₀ t named (d .code)) ≡ comesTo
 
     pub unmade : 8 ≤ named → able p outcomes (at k) named ≡ false
-    unfolding ableIn movesIn
+    unfolding ableIn movesIn judged
     unmade h =
-        ap (moves p outcomes (at k) named)
+        ap (λ (a : Act). moves p outcomes (at k) named (judged (at k) named a))
         (unmade-idle p outcomes (at k) named (omega (arith, h, state-sound .processCount)))
 
     module _ {work trace : List ℕ} {t : List (List ℕ)} {lines used : ℕ} {known : Knowledge}
@@ -287,7 +287,7 @@ module _ {p schedule outcomes t0 rest : List ℕ} {room : ℕ} (given : Inputs p
       step₀ = stepOp p (partOf work₀ named)
 
       pub near-law : named < 8 → Stepped (onPart work₀ named step₀) ⊎ Stopped t (onPart work₀ named step₀)
-      unfolding onPart namedEntryOp ableIn movesIn effectIn appliedIn
+      unfolding onPart namedEntryOp ableIn movesIn effectIn appliedIn judged
       near-law h =
           ⊎-elim
           (λ (x : Plain here rest k named owned t (r .table) h step₀).
@@ -428,8 +428,7 @@ module _ {p schedule outcomes t0 rest : List ℕ} {room : ℕ} (given : Inputs p
       moved-idle i free n h e =
           still-unable p (work₀ k) work′ t n (others n h ne)
           (λ q l. ⊎-elim (λ j. inr
-          (subst (λ (m : ℕ). readinessOp p (partOf work′ m) .kind < 2) (sym (eqb-true q (named k) j))
-          (omega (arith, by-itself))))
+          (subst (λ (m : ℕ). readinessOp p (partOf work′ m) .kind ≡ 1) (sym (eqb-true q (named k) j)) by-itself))
           (λ j. inl (others q l (eqb-false q (named k) j)))
           (decide (eqb q (named k))))
           (r .idle i n h e)

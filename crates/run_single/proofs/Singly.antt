@@ -1,7 +1,7 @@
 -- The entries with one line: what the code leaves in trace and store is the definitions' effect, where its line fits.
 use Prim.Native.Nat.{ℕ, _+_, _%_, _≤_, _<_}
 use mathlib.Core.Path.{_≡_, refl, sym, _∙_, ap, ap₂, subst}
-use mathlib.Core.Logic.{_≢_}
+use mathlib.Core.Logic.{_≢_, inl, inr}
 use mathlib.Core.Bool.{Bool, true, false, cond}
 use mathlib.Core.List.{List, [], _∷_, _++_}
 use native.Mathlib.Nat.{mod-eq-of-lt}
@@ -14,10 +14,10 @@ use Rattle.lists.proofs.Any.{All-getD}
 use Rattle.machine.specs.Value.{Thing, qubit, channel, end}
 use Rattle.machine.specs.State.{Frame, finished, stopped, Process, Config, Line, State, Event, processAt, setProcess, unmade, lineOf, finishes, stops}
 use Rattle.machine.specs.Act.{Act, faults, goes, ends, makes, actOf}
-use Rattle.machine.specs.Entry.{Effect, runs, counted, making, applied, effectOf, appliedIn, effectIn}
+use Rattle.machine.specs.Entry.{judged, Effect, runs, counted, making, applied, effectOf, appliedIn, effectIn}
 use Rattle.machine.specs.Run.{fits}
 use Rattle.machine.specs.Answer.{traceAfter}
-use Rattle.machine.specs.Sound.{FrameSound, ConfigSound}
+use Rattle.machine.specs.Sound.{IsFault, FrameSound, ConfigSound}
 use Rattle.machine.proofs.Reached.{Reached, Running}
 use Rattle.machine.proofs.Typing.{Typed}
 use Rattle.machine.proofs.Effects.{effect-typed}
@@ -134,16 +134,16 @@ module _ {p outcomes : List ℕ} {s : State} {t0 : List ℕ} {room : ℕ} (here 
     words = processWords (runs (f ∷ fs))
 
     -- a fault, by whatever code it came
-    pub fault-as : (code m : ℕ) → 20 ≤ m → m ≤ 27
+    pub fault-as : (code m : ℕ) → IsFault m
         → concludeOp p words code (config .qubits) (config .channels) outcomes (s .used) ≡ afterEvent (faultEvent m) (processWords (record { status = stopped m; frames = f ∷ fs }))
         → singleOp p outcomes trace work room count n code ≡ tried (applied p outcomes k s n (faults m))
     unfolding appliedIn countedWords
-    fault-as code m low high conc =
+    fault-as code m listed conc =
         single-law (live .made) code (faultEvent m) halted (stops m) (applied p outcomes k s n (faults m))
         (ap (λ (w : List ℕ). concludeOp p w code (config .qubits) (config .channels) outcomes (s .used)) part-now
         ∙ conc
         ∙ ap (λ (gs : List Frame). afterEvent (faultEvent m) (processWords (record { status = stopped m; frames = gs }))) (sym frames-are))
-        (process-length p config halted (record { status = (low, high, some); depth = deep-now; frames = fine-now }))
+        (process-length p config halted (record { status = (listed, some); depth = deep-now; frames = fine-now }))
         refl refl refl (omega arith) refl
       where
         halted : Process
@@ -161,10 +161,19 @@ module _ {p outcomes : List ℕ} {s : State} {t0 : List ℕ} {room : ℕ} (here 
         fine-now : All (FrameSound p config) (processAt config n .frames)
         fine-now = subst (All (FrameSound p config)) (sym frames-are) (live .busy .stack .sound)
 
-    pub fault-law : (m : ℕ) → 20 ≤ m → m ≤ 27 → singleOp p outcomes trace work room count n m ≡ tried (applied p outcomes k s n (faults m))
-    fault-law m low high =
-        fault-as m m low high
-        (concluded-fault outcomes s (live .busy) (sound .qubitCount) m (omega arith) (omega arith) (config .qubits) (config .channels) outcomes (s .used))
+    -- every fault's number lies between those of the codes of ops
+    fault-low : (m : ℕ) → IsFault m → 0 < m
+    fault-low m (inl h) = omega (arith, h .0)
+    fault-low m (inr e) = omega (arith, e)
+
+    fault-high : (m : ℕ) → IsFault m → m < 100
+    fault-high m (inl h) = omega (arith, h .1)
+    fault-high m (inr e) = omega (arith, e)
+
+    pub fault-law : (m : ℕ) → IsFault m → singleOp p outcomes trace work room count n m ≡ tried (applied p outcomes k s n (faults m))
+    fault-law m listed =
+        fault-as m m listed
+        (concluded-fault outcomes s (live .busy) (sound .qubitCount) m (fault-low m listed) (fault-high m listed) (config .qubits) (config .channels) outcomes (s .used))
 
     -- the root frame's return
     pub ends-as : (code : ℕ)
@@ -187,22 +196,22 @@ module _ {p outcomes : List ℕ} {s : State} {t0 : List ℕ} {room : ℕ} (here 
 
     -- the words of a process after its entry fill its part
     module _ (a : Act) (does : actOf p outcomes s n ≡ a) where
-      after-typed : Typed p (applied p outcomes k s n a .config)
+      after-typed : Typed p (applied p outcomes k s n (judged s n a) .config)
       unfolding effectIn
       after-typed =
-          subst (λ (x : Act). Typed p (applied p outcomes k s n x .config)) does (effect-typed p (reached .kept) outcomes (reached .bytes) s (reached .kinds) (reached .typed) k n)
+          subst (λ (x : Act). Typed p (applied p outcomes k s n (judged s n x) .config)) does (effect-typed p (reached .kept) outcomes (reached .bytes) s (reached .kinds) (reached .typed) k n)
 
-      after-sound : ConfigSound p (applied p outcomes k s n a .config)
-      after-sound = config-sound p (reached .kept) (after-typed .0) (applied p outcomes k s n a .config) (after-typed .1)
+      after-sound : ConfigSound p (applied p outcomes k s n (judged s n a) .config)
+      after-sound = config-sound p (reached .kept) (after-typed .0) (applied p outcomes k s n (judged s n a) .config) (after-typed .1)
 
-      after-laid : Laid (applied p outcomes k s n a .config)
-      after-laid = laid-sound p (applied p outcomes k s n a .config) after-sound
+      after-laid : Laid (applied p outcomes k s n (judged s n a) .config)
+      after-laid = laid-sound p (applied p outcomes k s n (judged s n a) .config) after-sound
 
-      pub after-long : (q : ℕ) (pr : Process) → processAt (applied p outcomes k s n a .config) q ≡ pr → length (processWords pr) ≡ 512
+      pub after-long : (q : ℕ) (pr : Process) → processAt (applied p outcomes k s n (judged s n a) .config) q ≡ pr → length (processWords pr) ≡ 512
       unfolding processAt
       after-long q pr e =
           subst (λ (x : Process). length (processWords x) ≡ 512) e
-          (All-getD (λ x. length (processWords x) ≡ 512) (applied p outcomes k s n a .config .processes) q unmade after-laid
+          (All-getD (λ x. length (processWords x) ≡ 512) (applied p outcomes k s n (judged s n a) .config .processes) q unmade after-laid
           (process-length p config unmade (record { status = refl; depth = omega arith; frames = tt })))
 
     -- an op that goes on with one line of its own process
@@ -210,7 +219,7 @@ module _ {p outcomes : List ℕ} {s : State} {t0 : List ℕ} {room : ℕ} (here 
         → concludeOp p words code (config .qubits) (config .channels) outcomes (s .used) ≡ afterEvent (eventOf u ev) (processWords (runs gs))
         → ev .kind ≢ 1 → ev .kind ≢ 2 → u ≤ 1
         → singleOp p outcomes trace work room count n code ≡ tried (applied p outcomes k s n (goes gs (ev ∷ []) u))
-    unfolding appliedIn countedWords
+    unfolding appliedIn judged countedWords
     line-law code gs ev u does conc one two few =
         single-law (live .made) code (eventOf u ev) (runs gs) ev (applied p outcomes k s n (goes gs (ev ∷ []) u))
         (ap (λ (w : List ℕ). concludeOp p w code (config .qubits) (config .channels) outcomes (s .used)) part-now ∙ conc)
@@ -226,7 +235,7 @@ module _ {p outcomes : List ℕ} {s : State} {t0 : List ℕ} {room : ℕ} (here 
         → concludeOp p words code (config .qubits) (config .channels) outcomes (s .used) ≡ afterEvent (eventOf 0 (making t)) (processWords (runs gs))
         → countedWords (encode (setProcess config n (runs gs)) ++ rest) (making t .kind) ≡ encode (counted t (setProcess config n (runs gs))) ++ rest
         → singleOp p outcomes trace work room count n code ≡ tried (applied p outcomes k s n (makes t gs))
-    unfolding appliedIn
+    unfolding appliedIn judged
     making-law code t gs does conc words-counted =
         single-law (live .made) code (eventOf 0 (making t)) (runs gs) (making t) (applied p outcomes k s n (makes t gs))
         (ap (λ (w : List ℕ). concludeOp p w code (config .qubits) (config .channels) outcomes (s .used)) part-now ∙ conc)

@@ -4,6 +4,7 @@
 
 use data::{Configuration, Line, Run};
 
+use crate::holders::Holders;
 use crate::input::case::{Case, Given};
 use crate::machine::Runner;
 use crate::progress::Progress;
@@ -16,6 +17,8 @@ pub struct Step<'s> {
     pub process: u8,
     pub before: &'s Configuration,
     pub after: &'s Configuration,
+    /// Who held what before it.
+    pub holders: &'s Holders,
     /// The lines that the entry wrote.
     pub lines: &'s [Line],
 }
@@ -25,12 +28,15 @@ pub fn each_step(given: &Given, case: &Case, run: &Run, mut visit: impl FnMut(&S
     let mut runner = given.runner(case);
     let mut before = configuration(case, &mut runner, 0);
     let mut lines = run.lines.as_slice();
+    let mut holders = Holders::default();
     let mut progress = if given.silent { Progress::silent() } else { Progress::new("entries", run.entries) };
     for entry in 0..run.entries {
         let after = configuration(case, &mut runner, entry + 1);
         let written = lines.iter().take_while(|line| usize::from(line.entry) == entry).count();
         let (these, rest) = lines.split_at(written);
-        visit(&Step { entry, process: case.schedule[entry], before: &before, after: &after, lines: these });
+        let process = case.schedule[entry];
+        visit(&Step { entry, process, before: &before, after: &after, holders: &holders, lines: these });
+        these.iter().for_each(|line| holders.read(line));
         lines = rest;
         before = after;
         progress.done(entry + 1);

@@ -1,10 +1,11 @@
 //! How a process stands: whether it is able to move and, where it waits, for
-//! what. It follows from the configuration alone.
+//! whom. It follows from the configuration and from who holds what.
 
 use data::program::op;
 use data::{Configuration, Fault, Process, Side, State, Value};
 
 use crate::code::Code;
+use crate::holders::Holders;
 
 /// How a process number stands before an entry.
 #[derive(Clone, Copy, Debug, PartialEq, Eq)]
@@ -12,10 +13,20 @@ pub enum Standing {
     NotStarted,
     Finished,
     Stopped(Fault),
-    /// At SEND or RECV, without a partner.
+    /// At SEND or RECV, for another process that runs.
     Waits(Offer),
-    /// Able to step, to meet or to fault.
+    /// At SEND or RECV, with nobody left to meet: able to move, to be stopped by
+    /// fault 33.
+    Gone(Offer),
+    /// Able to step, to meet or to be stopped by another fault.
     Moves,
+}
+
+impl Standing {
+    /// Whether an entry that names it moves it.
+    pub fn is_able(self) -> bool {
+        matches!(self, Standing::Gone(_) | Standing::Moves)
+    }
 }
 
 /// What a process at SEND or RECV offers.
@@ -33,17 +44,33 @@ impl Offer {
     }
 }
 
-/// How a process number stands.
-pub fn standing(code: &Code, configuration: &Configuration, number: usize) -> Standing {
+/// How a process number stands, with the holders by the lines so far.
+pub fn standing(code: &Code, configuration: &Configuration, holders: &Holders, number: usize) -> Standing {
     let Some(process) = configuration.processes.get(number) else {
         return Standing::NotStarted;
     };
     match (process.state, offer(code, process)) {
         (State::Finished, _) => Standing::Finished,
         (State::Stopped(fault), _) => Standing::Stopped(fault),
-        (State::Running, Some(offer)) if !is_met(code, configuration, number, offer) => Standing::Waits(offer),
-        (State::Running, _) => Standing::Moves,
+        (State::Running, None) => Standing::Moves,
+        (State::Running, Some(offer)) if is_gone(configuration, holders, number, offer) => Standing::Gone(offer),
+        (State::Running, Some(offer)) if is_met(code, configuration, number, offer) => Standing::Moves,
+        (State::Running, Some(offer)) => Standing::Waits(offer),
     }
+}
+
+/// The holder of the end opposite to an offer's.
+pub fn partner(holders: &Holders, offer: Offer) -> Option<usize> {
+    holders.ends.get(&(offer.channel, offer.side.other())).map(|holder| usize::from(*holder))
+}
+
+/// Whether whoever holds the opposite end is the process itself, has finished or
+/// has stopped.
+fn is_gone(configuration: &Configuration, holders: &Holders, number: usize, offer: Offer) -> bool {
+    let Some(holder) = partner(holders, offer) else {
+        return false;
+    };
+    holder == number || configuration.processes.get(holder).is_some_and(|process| !process.runs())
 }
 
 fn is_met(code: &Code, configuration: &Configuration, number: usize, wanted: Offer) -> bool {
@@ -54,8 +81,14 @@ fn is_met(code: &Code, configuration: &Configuration, number: usize, wanted: Off
 
 /// What a process offers that runs and stands at SEND or RECV with all its
 /// operands.
-pub fn offer(code: &Code, process: &Process) -> Option<Offer> {
-    let frame = process.top().filter(|_| process.runs())?;
+fn offer(code: &Code, process: &Process) -> Option<Offer> {
+    stands_with(code, process).filter(|_| process.runs())
+}
+
+/// What a process at SEND or RECV with all its operands offers or, having been
+/// stopped there, has offered.
+pub fn stands_with(code: &Code, process: &Process) -> Option<Offer> {
+    let frame = process.top()?;
     let (number, _) = code.instruction(frame.place)?;
     let operands = match (number, frame.pending.as_slice()) {
         (op::SEND, [.., end, value]) => [*end, *value],

@@ -35,12 +35,13 @@ fn results(path: &Path) -> Vec<(String, Json)> {
     lines.map(|json| (json.get("case").and_then(Json::as_text).expect("a name").to_string(), json)).collect()
 }
 
-const NAMES: [&str; 10] = [
+const NAMES: [&str; 11] = [
     "bb84.lqa",
     "given-whole.lqa",
     "half-evaluated.lqa",
     "own",
     "short.bin",
+    "station-gone.lqa",
     "swapping.lqa",
     "teleport.lqa",
     "two-names.lqa",
@@ -49,14 +50,15 @@ const NAMES: [&str; 10] = [
 ];
 
 const TABLE: &str = "\
-10 cases: 7 ran, 2 refused, 1 not read
+11 cases: 8 ran, 2 refused, 1 not read
        1  end 0      the schedule is used up
-       6  end 1      every process made has finished or stopped
+       7  end 1      every process made has finished or stopped
        0  end 2      no process is able to move
        0  end 3      the lines of the next entry exceed what the trace still holds
        1  refused 5  types of operands
        1  refused 9  the input file
        3  fault 20   the slot read, or a value taken, stored, dropped or returned, is empty (processes)
+       2  fault 33   the opposite end is held by the process itself, or by one that has finished or stopped (processes)
 ";
 
 #[test]
@@ -109,7 +111,7 @@ fn a_batch_goes_on() {
     // A mark that no run writes shows which results are old ones.
     let marked = |line: &str| line.replace("\"end_text\":\"", "\"end_text\":\"old: ");
     let journal =
-        format!("{}\n{}\n{}\n{}", marked(lines[7]), marked(lines[1]), marked(lines[3]), &marked(lines[2])[..90]);
+        format!("{}\n{}\n{}\n{}", marked(lines[8]), marked(lines[1]), marked(lines[3]), &marked(lines[2])[..90]);
     write(&folder.join("cases"), "results.jsonl.partial", journal);
     write(&folder.join("cases/own"), "schedule.txt", "0*3");
     let called = lanq_in(&folder, &["batch", "cases", "--jobs", "2"]);
@@ -165,17 +167,17 @@ fn parts_make_the_whole() {
     let folder = cases("batch-parts");
     for part in ["1/3", "2/3", "3/3"] {
         let called = lanq_in(&folder, &["batch", "cases", "--part", part]);
-        assert!(called.out.starts_with(if part == "1/3" { "4 cases" } else { "3 cases" }), "{}", called.out);
+        assert!(called.out.starts_with(if part == "3/3" { "3 cases" } else { "4 cases" }), "{}", called.out);
     }
     let first = results(&folder.join("cases/results.1-of-3.jsonl"));
     assert_eq!(
         first.iter().map(|(name, _)| name.as_str()).collect::<Vec<&str>>(),
-        ["bb84.lqa", "own", "teleport.lqa", "wrong.lqa"]
+        ["bb84.lqa", "own", "swapping.lqa", "typed.bin"]
     );
     let parts = ["1", "2", "3"].map(|part| format!("--use=cases/results.{part}-of-3.jsonl"));
     let words: Vec<&str> = ["batch", "cases"].into_iter().chain(parts.iter().map(String::as_str)).collect();
     assert_eq!(lanq_in(&folder, &words).out, TABLE);
-    assert_eq!(results(&folder.join("cases/results.jsonl")).len(), 10);
+    assert_eq!(results(&folder.join("cases/results.jsonl")).len(), 11);
 }
 
 /// One program for cases that have only a schedule or outcomes.

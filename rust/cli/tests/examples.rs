@@ -49,12 +49,22 @@ fn examples_start_with_a_comment() {
     }
 }
 
-/// Every process of a protocol finishes, and the faults are 20.
+/// Every process of a protocol finishes, or a fault stops it where the header
+/// says so.
 #[test]
 fn examples_end_as_their_headers_say() {
-    for (name, stops) in
-        [("teleport", 0), ("swapping", 0), ("bb84", 0), ("given-whole", 1), ("two-names", 1), ("half-evaluated", 1)]
-    {
+    let expected = [
+        ("bb84", 0, 20),
+        ("given-whole", 1, 20),
+        ("half-evaluated", 1, 20),
+        ("station-gone", 2, 33),
+        ("swapping", 0, 20),
+        ("teleport", 0, 20),
+        ("two-names", 1, 20),
+    ];
+    let names: Vec<String> = examples().into_iter().map(|example| example.name).collect();
+    assert_eq!(names, expected.map(|(name, _, _)| name));
+    for (name, stops, fault) in expected {
         let printed = example(name).expected;
         let last = printed.lines().last().unwrap_or_default();
         assert!(last.starts_with("end 1 "), "{name}");
@@ -62,6 +72,16 @@ fn examples_end_as_their_headers_say() {
         let kinds: Vec<String> = printed.lines().map(kind).collect();
         let stopped = kinds.iter().filter(|kind| kind.starts_with("10 "));
         assert_eq!(stopped.clone().count(), stops, "{name}");
-        assert!(stopped.into_iter().all(|kind| kind == "10 20"), "{name}");
+        assert!(stopped.into_iter().all(|kind| *kind == format!("10 {fault}")), "{name}");
     }
+}
+
+/// With a click the relay of station-gone.lqa hands the qubit on.
+#[test]
+fn the_station_that_stays() {
+    let called = lanq(&["run", "station-gone.lqa", "--outcomes", "0,1", "--schedule", "until-stuck"]);
+    assert_eq!(called.status, Some(0));
+    let kinds: Vec<&str> = called.out.lines().filter_map(|line| line.split(' ').nth(2)).collect();
+    assert_eq!(kinds.iter().filter(|kind| **kind == "7").count(), 2, "{}", called.out);
+    assert_eq!(kinds.iter().filter(|kind| **kind == "9").count(), 3, "{}", called.out);
 }

@@ -228,9 +228,8 @@ fn outro(explained: &str) -> Vec<&str> {
     lines.skip(2).collect()
 }
 
-#[test]
-fn a_process_that_would_meet_itself() {
-    let text = "\
+/// Main stands at SEND over an end of its own channel.
+const ALONE: &str = "\
 method void main()
     slots channel(int) c, end(int) e, bool flag
     BOOL true
@@ -245,20 +244,33 @@ method void main()
 schedule 0*9
 outcomes 0
 ";
-    assert_eq!(
-        outro(&explained(text)),
-        [
-            "end 2: no process is able to move",
-            "entries used: 7 of 9, lines written: 1, outcomes used: 0 of 1",
-            "process 0 waits to send over end 0 of channel 0: it holds end 1 itself, and none meets itself",
-            "    frame 0 stands at main 7 (table 7, line 10): SEND",
-            "        slots: c = channel 0, flag = true",
-            "        pending: end 0 of channel 0, 5",
-        ]
-    );
+
+#[test]
+fn a_process_that_would_meet_itself() {
+    let frame = [
+        "    frame 0 stands at main 7 (table 7, line 10): SEND",
+        "        slots: c = channel 0, flag = true",
+        "        pending: end 0 of channel 0, 5",
+    ];
+    let stopped = [
+        "end 1: every process made has finished or stopped",
+        "entries used: 8 of 9, lines written: 2, outcomes used: 0 of 1",
+        "process 0 was stopped by fault 33: the opposite end is held by the process itself, or by one that has \
+         finished or stopped",
+        "    end 1 of channel 0 is held by itself, and none meets itself",
+    ];
+    assert_eq!(outro(&explained(ALONE)), [&stopped[..], &frame].concat());
+    // Before it is named there, nothing has stopped it.
+    let cut = [
+        "end 0: the schedule is used up",
+        "entries used: 7 of 7, lines written: 1, outcomes used: 0 of 1",
+        "process 0 is able to move, to be stopped by fault 33: end 1 of channel 0 is held by itself, and none meets \
+         itself",
+    ];
+    assert_eq!(outro(&explained(&ALONE.replace("0*9", "0*7"))), [&cut[..], &frame].concat());
 }
 
-/// Main waits for a partner that has finished; a third waits for main.
+/// Main waits for the first station, which leaves; a second one waits for main.
 const WAITING: &str = "\
 method void main()
     slots channel(int) c, end(int) mine, channel(int) d, end(int) other
@@ -289,35 +301,86 @@ method void waits(end(int) e)
     RECV
     DROP
     RET
-schedule 0*16 1 2 0 2
+schedule 0*16 2 0 1 0 2
 ";
 
 #[test]
 fn who_waits_for_whom() {
-    assert_eq!(
-        outro(&explained(WAITING)),
-        [
-            "end 2: no process is able to move",
-            "entries used: 19 of 20, lines written: 7, outcomes used: 0 of 0",
-            "process 0 waits to receive over end 0 of channel 0, for process 1, which holds end 1 and has finished",
-            "    frame 0 stands at main 17 (table 17, line 20): RECV",
-            "        slots: mine = end 0 of channel 0, other = end 0 of channel 1",
-            "        emptied: c (channel 0, whose end 1 was given to process 1 at entry 7), \
-             d (channel 1, whose end 1 was given to process 2 at entry 15)",
-            "        pending: end 0 of channel 0",
-            "process 1 has finished",
-            "process 2 waits to receive over end 1 of channel 1, for process 0, which holds end 0 and waits too, \
-             at main 17 (table 17, line 20): RECV",
-            "    frame 0 stands at waits 1 (table 22, line 27): RECV",
-            "        slots: e = end 1 of channel 1",
-            "        pending: end 1 of channel 1",
-        ]
-    );
+    let of_schedule = |schedule: &str| explained(&WAITING.replace("2 0 1 0 2", schedule));
+    let main = [
+        "    frame 0 stands at main 17 (table 17, line 20): RECV",
+        "        slots: mine = end 0 of channel 0, other = end 0 of channel 1",
+        "        emptied: c (channel 0, whose end 1 was given to process 1 at entry 7), \
+         d (channel 1, whose end 1 was given to process 2 at entry 15)",
+        "        pending: end 0 of channel 0",
+    ];
+    let second = [
+        "    frame 0 stands at waits 1 (table 22, line 27): RECV",
+        "        slots: e = end 1 of channel 1",
+        "        pending: end 1 of channel 1",
+    ];
+    // All who wait do so for one that runs.
+    let waiting = of_schedule("2 0 2 0");
+    assert_eq!(outro(&waiting)[..6], [
+        &["end 0: the schedule is used up", "entries used: 20 of 20, lines written: 6, outcomes used: 0 of 0"][..],
+        &["process 0 waits to receive over end 0 of channel 0, for process 1, which holds end 1 and stands at leaves 0 \
+           (table 20, line 24): RET"],
+        &main[..3],
+    ]
+    .concat());
+    let for_main =
+        "process 2 waits to receive over end 1 of channel 1, for process 0, which holds end 0 and waits too, \
+                    at main 17 (table 17, line 20): RECV";
+    assert!(waiting.lines().any(|line| line == for_main), "{waiting}");
+    // The first station has left: main is to be stopped, and the second still
+    // waits for main.
+    let left = of_schedule("2 0 1 2");
+    let to_be_stopped =
+        "process 0 is able to move, to be stopped by fault 33: end 1 of channel 0 is held by process 1, \
+                         which has finished";
+    let for_main =
+        "process 2 waits to receive over end 1 of channel 1, for process 0, which holds end 0 and stands at \
+                    main 17 (table 17, line 20): RECV";
+    for expected in [to_be_stopped, for_main] {
+        assert!(left.lines().any(|line| line == expected), "{left}");
+    }
+    // One after the other.
+    let fault = "33: the opposite end is held by the process itself, or by one that has finished or stopped";
+    let stopped =
+        [format!("process 0 was stopped by fault {fault}"), format!("process 2 was stopped by fault {fault}")];
+    let gone = of_schedule("2 0 1 0 2");
+    let expected = [
+        &["end 1: every process made has finished or stopped"][..],
+        &["entries used: 21 of 21, lines written: 9, outcomes used: 0 of 0", &stopped[0]],
+        &["    end 1 of channel 0 is held by process 1, which has finished"],
+        &main,
+        &["process 1 has finished", &stopped[1]],
+        &["    end 0 of channel 1 is held by process 0, which was stopped"],
+        &second,
+    ];
+    assert_eq!(outro(&gone), expected.concat());
     // Cut before main gets there.
-    let cut = explained(&WAITING.replace("1 2 0 2", "1 2 2"));
+    let cut = of_schedule("1 2 2");
     let waits = "process 2 waits to receive over end 1 of channel 1, for process 0, which holds end 0 and stands at \
                  main 16 (table 16, line 19): GET mine";
     assert!(cut.contains("\nprocess 0 is able to move\n") && cut.contains(waits), "{cut}");
+}
+
+/// Two that wait for each other: end 2, and each is told of.
+#[test]
+fn waiting_for_each_other() {
+    let text = WAITING.replace(
+        "method void leaves(end(int) e)\n    RET",
+        "method void leaves(end(int) e)\n    GET e\n    RECV\n    DROP\n    RET",
+    );
+    let stuck = explained(&text.replace("2 0 1 0 2", "0 1 2 0"));
+    assert_eq!(outro(&stuck)[0], "end 2: no process is able to move");
+    for (number, partner) in [(0, 1), (1, 0), (2, 0)] {
+        let waits =
+            stuck.lines().find(|line| line.starts_with(&format!("process {number} waits to receive"))).unwrap_or("");
+        assert!(waits.contains(&format!("for process {partner}, which holds end")), "{stuck}");
+        assert!(waits.contains("and waits too, at "), "{stuck}");
+    }
 }
 
 #[test]

@@ -44,16 +44,18 @@ fn as_models(standing: Standing) -> &'static str {
         Standing::Finished => "finished",
         Standing::Stopped(_) => "stopped",
         Standing::Waits(_) => "waits",
+        Standing::Gone(_) => "gone",
         Standing::Moves => "moves",
     }
 }
 
-fn of_model(standing: Models) -> &'static str {
-    match standing {
+fn of_model(machine: &Machine, number: usize) -> &'static str {
+    match machine.standing(number) {
         Models::NotStarted => "not started",
         Models::Finished => "finished",
         Models::Stopped => "stopped",
         Models::Waits => "waits",
+        Models::Steps if machine.gone_for(number).is_some() => "gone",
         Models::Steps | Models::Meets(_) => "moves",
     }
 }
@@ -69,8 +71,8 @@ fn steps_and_standings_are_the_models() {
         each_step(&given, &case, &run, |step| {
             assert_eq!(*step.before, machine.config, "{}", case.name);
             for number in 0..9 {
-                let ours = as_models(standing(code(&case), step.before, number));
-                assert_eq!(ours, of_model(machine.standing(number)), "{}", case.name);
+                let ours = as_models(standing(code(&case), step.before, step.holders, number));
+                assert_eq!(ours, of_model(&machine, number), "{}", case.name);
                 seen.insert(ours);
             }
             let lines = machine.lines.len();
@@ -79,7 +81,7 @@ fn steps_and_standings_are_the_models() {
             assert_eq!(*step.lines, machine.lines[lines..], "{}", case.name);
         });
     }
-    assert_eq!(seen.len(), 5, "{seen:?}");
+    assert_eq!(seen.len(), 6, "{seen:?}");
 }
 
 /// The value of a cell.
@@ -161,7 +163,7 @@ fn until_stuck() {
         assert_eq!(without_entries(&run.lines), without_entries(&in_turn.lines), "{}", case.name);
         assert_eq!(run.configuration, in_turn.configuration, "{}", case.name);
         each_step(&given, &case, &run, |step| {
-            assert_eq!(standing(code(&case), step.before, usize::from(step.process)), Standing::Moves);
+            assert!(standing(code(&case), step.before, step.holders, usize::from(step.process)).is_able());
         });
         ends.insert(run.end);
         idle_free += 1;

@@ -168,6 +168,8 @@ fn p10_a_value_already_evaluated() {
     assert_eq!(pending[..], [lanq::Value::Empty, lanq::Value::Qubit(1)]);
 }
 
+/// Case P11 as it stood, and Paper 6: "with one more entry of main, now ends with
+/// main stopped and end 1".
 #[test]
 fn p11_the_partner_is_gone() {
     let main = [
@@ -177,11 +179,43 @@ fn p11_the_partner_is_gone() {
     let main = method(0, &[], &[17, 33], &main.concat());
     let program = table(&[main, method(0, &[33], &[], &[(RET, 0)])]);
     let schedule = [0, 0, 0, 0, 0, 0, 0, 0, 0, 0, 1, 0, 0];
-    // Main was never named at SEND, and end 2 comes before the schedule's end.
-    for used in 11..=13 {
-        assert_eq!(ran(&program, &schedule[..used]).0, (2, 11, 4, 0));
-    }
     assert_eq!(ran(&program, &schedule[..10]).0, (0, 10, 3, 0));
+    // Main, which was never named at SEND, is able to move.
+    assert_eq!(ran(&program, &schedule[..11]).0, (0, 11, 4, 0));
+    for used in 12..=13 {
+        let (answer, lines, work) = ran(&program, &schedule[..used]);
+        assert_eq!((answer, lines[4]), ((1, 12, 5, 0), [11, 0, 10, 33, U, U]));
+        // It keeps end 0 of channel 0, in slot 1 and below the 5.
+        assert_eq!((&work[512..515], &work[521..523]), (&[3, 33, 1][..], &[10, 2][..]));
+        assert_eq!((&work[578..580], &work[608..612]), (&[5, 0][..], &[5, 0, 1, 5][..]));
+    }
+}
+
+/// Paper 6: the process itself holds the opposite end, or a station that 33 has
+/// stopped does. The holder of an end that main has cleared is still there.
+#[test]
+fn stations_go() {
+    // Main receives over its own channel.
+    let alone = [(NEWC, 1), (END, 1), (RECV, 0), (DROP, 0), (RET, 0)];
+    let alone = table(&[method(0, &[], &[], &alone)]);
+    assert_eq!(ran(&alone, &[0, 0]).0, (0, 2, 1, 0));
+    let (answer, lines, _) = ran(&alone, &[0, 0, 0, 0]);
+    assert_eq!((answer, lines[1]), ((1, 3, 2, 0), [2, 0, 10, 33, U, U]));
+    // Main clears its end; station 1 waits for main, station 2 for station 1.
+    let makes = [(NEWC, 1), (PUT, 0), (END, 0), (PUT, 1), (DROP, 0), (GET, 0), (END, 1)];
+    let main = [&makes[..], &[(FORK, 1), (CLEAR, 1), (CLEAR, 1), (RET, 0)]].concat();
+    let first = [(NEWC, 1), (END, 1), (FORK, 2), (GET, 0), (RECV, 0), (DROP, 0), (RET, 0)];
+    let second = [(GET, 0), (INT, 1), (SEND, 0), (RET, 0)];
+    let program =
+        table(&[method(0, &[], &[17, 33], &main), method(0, &[33], &[], &first), method(0, &[33], &[], &second)]);
+    let ready = [[0; 9].as_slice(), &[1; 4], &[2; 2]].concat();
+    // Both wait: no line, no end 2 as long as main runs.
+    let in_vain = [ready.as_slice(), &[1, 2, 1, 2, 0]].concat();
+    assert_eq!(ran(&program, &in_vain).0, (0, 20, 6, 0));
+    let goes = [ready.as_slice(), &[0, 0, 2, 1, 2]].concat();
+    let (answer, lines, _) = ran(&program, &goes);
+    assert_eq!(answer, (1, 20, 9, 0));
+    assert_eq!(lines[6..], [[16, 0, 9, U, U, U], [18, 1, 10, 33, U, U], [19, 2, 10, 33, U, U]]);
 }
 
 /// Paper 3: "MEAS pushes 2 and the line says 2", and "A run without any 2 gives

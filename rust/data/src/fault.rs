@@ -5,7 +5,7 @@ use std::fmt;
 
 use crate::numbered;
 
-/// "Faults stop the process", by 01's number.
+/// "Faults stop the process", by the papers' number.
 #[derive(Clone, Copy, Debug, PartialEq, Eq, PartialOrd, Ord, Hash)]
 pub enum Fault {
     /// "the slot read, or a value taken, stored, dropped or returned, is empty"
@@ -24,11 +24,14 @@ pub enum Fault {
     IntRange = 26,
     /// "a two-qubit gate on one qubit"
     OneQubit = 27,
+    /// Paper 6: "a process stands at SEND or RECV with its operands present and
+    /// the opposite end's holder is itself, has finished or has stopped"
+    Gone = 33,
 }
 
 impl Fault {
     /// All of them, by their numbers.
-    pub const ALL: [Fault; 8] = [
+    pub const ALL: [Fault; 9] = [
         Fault::Empty,
         Fault::Channels,
         Fault::Qubits,
@@ -37,9 +40,10 @@ impl Fault {
         Fault::Frames,
         Fault::IntRange,
         Fault::OneQubit,
+        Fault::Gone,
     ];
 
-    /// 01's number of it.
+    /// The papers' number of it.
     pub fn number(self) -> u16 {
         self as u16
     }
@@ -62,6 +66,7 @@ impl fmt::Display for Fault {
             Fault::Frames => "a frame beyond 8 would be started",
             Fault::IntRange => "an int is out of range",
             Fault::OneQubit => "a two-qubit gate falls on one qubit",
+            Fault::Gone => "the opposite end is held by the process itself, or by one that has finished or stopped",
         })
     }
 }

@@ -16,10 +16,10 @@ fn both_ways<T: Copy + PartialEq + std::fmt::Debug>(
 }
 
 #[test]
-fn numbers_are_those_of_01() {
+fn numbers_are_those_of_the_papers() {
     both_ways(Question::read, Question::number, 1..=9);
     both_ways(End::read, End::number, 0..=3);
-    both_ways(Fault::read, Fault::number, 20..=27);
+    both_ways(Fault::read, Fault::number, (20..=27).chain([33]));
     both_ways(Gate::read, Gate::number, 1..=8);
     both_ways(Side::read, Side::number, 0..=1);
     both_ways(Carried::read, Carried::number, 1..=3);

@@ -2,10 +2,11 @@
 
 use std::collections::BTreeMap;
 
-use data::{End, Line, Process, Refusal, Run, Type, Value};
+use data::{End, Fault, Line, Process, Refusal, Run, Side, State, Thing, Type, Value};
 use model::check::{check, read_table};
+use model::gone::gone;
 use model::machine::{Did, Machine};
-use model::owner::ownership_since;
+use model::owner::{holder, ownership_since, reach};
 use model::step::{MOST_CHANNELS, MOST_FRAMES, MOST_PROCESSES, MOST_QUBITS};
 use model::table::Op;
 use model::typing::{first_fault, Why, MOST_PENDING};
@@ -76,7 +77,7 @@ impl Coverage {
         let process = usize::from(byte);
         match did {
             Did::Idle => self.idle(before, process),
-            Did::Stopped(fault) => self.fault(before, process, fault.number()),
+            Did::Stopped(fault) => self.fault(before, process, fault),
             Did::Stepped => self.executed(before, process),
             Did::Met(partner) => {
                 self.executed(before, process);
@@ -89,10 +90,26 @@ impl Coverage {
         self.reached_limits(after);
     }
 
-    fn fault(&mut self, before: &Machine, process: usize, fault: u16) {
-        if let Some(op) = before.op_of(process) {
-            let op = op.number();
-            self.add(Mark::Fault { fault, op });
+    fn fault(&mut self, before: &Machine, process: usize, fault: Fault) {
+        let Some(op) = before.op_of(process) else {
+            return;
+        };
+        let op = op.number();
+        self.add(Mark::Fault { fault: fault.number(), op });
+        // The own end, the opposite one's holder, and whether that has gone.
+        let Some((end, holder)) = opposite_holder(before, process) else {
+            return;
+        };
+        let (channel, side) = end;
+        let why = gone(&before.config, &before.lines, process, channel, side);
+        match (fault, why) {
+            (Fault::Gone, Some(why)) => self.add(Mark::Gone { why, op }),
+            (Fault::Empty, Some(_)) => self.add(Mark::EmptyBeforeGone(op)),
+            _ => (),
+        }
+        let stopped_so = before.config.processes[holder].state == State::Stopped(Fault::Gone);
+        if fault == Fault::Gone && stopped_so {
+            self.add(Mark::GoneByGone);
         }
     }
 
@@ -105,6 +122,12 @@ impl Coverage {
             return;
         };
         self.add(Mark::WaitsAt(op.number()));
+        if let Some(((channel, side), holder)) = opposite_holder(before, process) {
+            let opposite = Thing::End(channel, side.other());
+            if !reach(&before.config.processes[holder]).contains(&opposite) {
+                self.add(Mark::HeldOutOfReach(op.number()));
+            }
+        }
         for other in &before.config.processes {
             if let Some(mark) = not_ready(before, &before.config.processes[process], other) {
                 self.add(mark);
@@ -241,6 +264,19 @@ fn meeting_operands(machine: &Machine, process: &Process) -> Option<(Op, Vec<Val
     };
     let first = frame.pending.len().checked_sub(count)?;
     Some((op, frame.pending[first..].to_vec()))
+}
+
+/// The end over which a process stands at SEND or RECV, if that is not emptied,
+/// and the holder of the opposite one by the lines.
+fn opposite_holder(machine: &Machine, process: usize) -> Option<((u16, Side), usize)> {
+    let (_, operands) = meeting_operands(machine, &machine.config.processes[process])?;
+    match operands[0] {
+        Value::End(channel, side) => {
+            let holder = holder(&machine.lines, Thing::End(channel, side.other()))?;
+            Some(((channel, side), usize::from(holder)))
+        }
+        _ => None,
+    }
 }
 
 /// Whether a process that waits finds this other one at the opposite op with

@@ -19,6 +19,7 @@ mod mistype;
 mod plan;
 mod random;
 mod schedule;
+mod stations;
 mod traces;
 mod typed;
 
@@ -63,10 +64,11 @@ fn methods(random: &mut Random) -> (Vec<Method>, usize) {
         0 => random.between(0, 5),
         _ => random.between(20, 400),
     };
-    match random.weighted(&[220, 100, 80, 3]) {
+    match random.weighted(&[220, 100, 80, 60, 3]) {
         0 => (plan::plan(random), most),
         1 => (typed::typed(random), most),
         2 => (limits::limits(random), most),
+        3 => (stations::stations(random), most),
         _ => (limits::endless(random), random.between(8_500, 12_000)),
     }
 }

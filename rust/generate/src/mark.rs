@@ -1,5 +1,6 @@
 //! What a case can bring about.
 
+use model::gone::Gone;
 use model::machine::Standing;
 use model::typing::Why;
 
@@ -32,6 +33,15 @@ pub enum Mark {
         fault: u16,
         op: u16,
     },
+    /// Fault 33 at SEND or RECV, by why the partner has gone.
+    Gone {
+        why: Gone,
+        op: u16,
+    },
+    /// Fault 33 because 33 has stopped the partner.
+    GoneByGone,
+    /// Fault 20 at SEND or RECV where without it there would be 33.
+    EmptyBeforeGone(u16),
     Kind(u16),
     /// A measurement, by its outcome.
     Measured(u16),
@@ -67,6 +77,9 @@ pub enum Mark {
         op: u16,
         end_emptied: bool,
     },
+    /// An idle entry at SEND or RECV while the opposite end's holder runs and
+    /// no longer reaches that end.
+    HeldOutOfReach(u16),
     /// A limit reached without a fault.
     AllProcesses,
     AllQubits,
@@ -140,7 +153,7 @@ fn op_marks() -> Vec<Mark> {
 /// Every fault at every op that can have it. Ints and booleans are never
 /// emptied, so their ops do not have fault 20.
 fn fault_marks() -> Vec<Mark> {
-    let faults: [(u16, &[u16]); 8] = [
+    let faults: [(u16, &[u16]); 9] = [
         (20, &[3, 4, 5, 9, 10, 11, 12, 13, 14, 15, 16]),
         (21, &[8]),
         (22, &[7]),
@@ -149,12 +162,26 @@ fn fault_marks() -> Vec<Mark> {
         (25, &[12]),
         (26, &[19, 20]),
         (27, &[10]),
+        (33, &[15, 16]),
     ];
-    let marks = faults.into_iter().flat_map(|(fault, ops)| {
+    let mut marks = gone_marks();
+    let at_ops = faults.into_iter().flat_map(|(fault, ops)| {
         let ops = ops.iter();
         ops.map(move |op| Mark::Fault { fault, op: *op })
     });
-    marks.collect()
+    marks.extend(at_ops);
+    marks
+}
+
+/// Paper 6: each reason at each op. An emptied end tells no channel, so at RECV
+/// 20 comes alone.
+fn gone_marks() -> Vec<Mark> {
+    let mut marks = vec![Mark::GoneByGone, Mark::EmptyBeforeGone(15)];
+    for op in [15, 16] {
+        marks.push(Mark::HeldOutOfReach(op));
+        marks.extend([Gone::Itself, Gone::Finished, Gone::Stopped].map(|why| Mark::Gone { why, op }));
+    }
+    marks
 }
 
 fn meeting_marks() -> Vec<Mark> {

@@ -466,7 +466,8 @@ impl Plan<'_> {
         self.emit(role, &[(INT, 0), (EQ, 0), (JFALSE, 0)]);
         let jump = self.roles[role].code.len() - 1;
         self.gate(role);
-        if let Some(slot) = self.slot_for(role, 1) {
+        let full = self.roles[role].full_slots(1);
+        if let Some(slot) = self.random.pick_any(&full).or_else(|| self.slot_for(role, 1)) {
             let slot = slot as u16;
             let code = [(CLEAR, slot), (INT, 9), (PUT, slot), (DROP, 0)];
             self.emit(role, &code);

@@ -65,8 +65,8 @@ fn next_byte(machine: &Machine, manner: Manner, stray: usize, before: &[u8], ran
     }
 }
 
-/// The processes able to move. Mostly those are left out that stand at SEND
-/// or RECV with an emptied operand: others are to find them not ready.
+/// The processes able to move. Mostly those are left out that would be stopped
+/// at SEND or RECV: others are to find them not ready, or to go before them.
 fn able_bytes(machine: &Machine, random: &mut Random) -> Vec<u8> {
     let standing = |byte: &u8| machine.standing(usize::from(*byte));
     let able: Vec<u8> = (0..8).filter(|byte| standing(byte).is_able()).collect();

@@ -41,15 +41,15 @@ pub fn check(program: &Program, schedule: &[u8], outcomes: &[u8]) -> Result<(), 
 ///
 /// ```
 /// use lanq::op::{DROP, END, NEWC, PUT, RECV, RET};
-/// use lanq::{End, Method, Program, State, Value};
+/// use lanq::{End, Fault, Method, Program, State, Value};
 ///
-/// // Main waits at RECV for a partner that there is not.
+/// // Main stands at RECV over one end of its own channel, with nobody to meet.
 /// let code = vec![(NEWC, 1), (PUT, 0), (END, 0), (RECV, 0), (PUT, 1), (DROP, 0), (RET, 0)];
 /// let program = Program::from_methods(&[Method { slots: vec![17, 1], code, ..Method::default() }]);
 /// let run = lanq::run(&program, &[0; 10], &[]).unwrap();
-/// assert_eq!((run.end, run.entries), (End::Stuck, 3));
+/// assert_eq!((run.end, run.entries), (End::AllOver, 4));
 /// let main = &run.configuration.processes[0];
-/// assert_eq!(main.state, State::Running);
+/// assert_eq!(main.state, State::Stopped(Fault::Gone));
 /// assert_eq!(main.frames[0].place, 3);
 /// assert_eq!(main.frames[0].slots[0], Value::Channel(0));
 /// ```

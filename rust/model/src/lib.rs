@@ -10,6 +10,7 @@
 //! - [`typing`]: question 5, the reading "with types alone"
 //! - [`state`]: how things start, and what giving empties
 //! - [`step`]: what one instruction does
+//! - [`gone`]: the station that has gone, Paper 6
 //! - [`machine`]: entries, waiting, ends and whole runs
 //! - [`owner`]: reach, holders and the ownership statement
 //! - [`lookup`]: holder look-up and same-lines answer on any words
@@ -20,6 +21,7 @@
 #![forbid(unsafe_code)]
 
 pub mod check;
+pub mod gone;
 pub mod lookup;
 pub mod machine;
 pub mod owner;

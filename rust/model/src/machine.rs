@@ -3,6 +3,7 @@
 use data::{Configuration, End, Fault, Line, Process, Refusal, Run, Side, State, Value, LINE_WORDS};
 
 use crate::check::check;
+use crate::gone::{gone, Gone};
 use crate::state::start;
 use crate::step::{self, operands_full, Effect, Entry};
 use crate::table::{Op, Program};
@@ -112,6 +113,7 @@ impl<'a> Machine<'a> {
         let entry = Entry {
             program: self.program,
             outcomes: &self.outcomes[self.outcomes_used..],
+            lines: &self.lines,
             number: u16::try_from(self.entries).expect("question 7 bounds the entries"),
             process,
         };
@@ -131,7 +133,8 @@ impl<'a> Machine<'a> {
     }
 
     /// Whether a process is able to move, and with whom. It follows from the
-    /// configuration alone: being named in vain before makes no difference.
+    /// configuration and, of what has gone, from the lines: being named in vain
+    /// before makes no difference.
     pub fn standing(&self, number: usize) -> Standing {
         let Some(process) = self.config.processes.get(number) else {
             return Standing::NotStarted;
@@ -149,10 +152,22 @@ impl<'a> Machine<'a> {
             // comes "before waiting".
             return Standing::Steps;
         };
+        // Fault 33 is "judged after fault 20 and before waiting", and "a process
+        // with this fault counts as able to move".
+        if gone(&self.config, &self.lines, number, offer.channel, offer.side).is_some() {
+            return Standing::Steps;
+        }
         match self.partner_for(number, offer) {
             Some(partner) => Standing::Meets(partner),
             None => Standing::Waits,
         }
+    }
+
+    /// Why a process has nobody left to meet, where it stands at SEND or RECV
+    /// with its operands present.
+    pub fn gone_for(&self, number: usize) -> Option<Gone> {
+        let offer = self.offer_of(self.config.processes.get(number)?)?;
+        gone(&self.config, &self.lines, number, offer.channel, offer.side)
     }
 
     /// "SEND waits unless another process stands at RECV with the opposite

@@ -5,6 +5,7 @@
 
 use data::{Configuration, Event, Fault, Frame, Gate, Line, Process, Side, State, Thing, Type, Value};
 
+use crate::gone::gone;
 use crate::state::{give, start_frame, start_process};
 use crate::table::{Op, Program};
 
@@ -26,12 +27,13 @@ pub struct Effect {
     pub fault: Option<Fault>,
 }
 
-/// Where an entry happens: the program, the outcomes not yet used, the
-/// entry's number and the process named.
+/// Where an entry happens: the program, the outcomes not yet used, the lines
+/// written so far, the entry's number and the process named.
 #[derive(Clone, Copy, Debug)]
 pub struct Entry<'a> {
     pub program: &'a Program,
     pub outcomes: &'a [u8],
+    pub lines: &'a [Line],
     pub number: u16,
     pub process: usize,
 }
@@ -321,6 +323,7 @@ impl<'a> Step<'a> {
 
     fn send(&mut self, partner: Option<usize>) -> Result<(), Fault> {
         self.need_full(2)?;
+        self.need_holder(2)?;
         let receiver = partner.expect("SEND with its operands moves with a partner");
         top_of(&mut self.config.processes[receiver]).place += 1;
         self.meet(self.entry.process, receiver)
@@ -328,6 +331,7 @@ impl<'a> Step<'a> {
 
     fn receive(&mut self, partner: Option<usize>) -> Result<(), Fault> {
         self.need_full(1)?;
+        self.need_holder(1)?;
         let sender = partner.expect("RECV with its operand moves with a partner");
         top_of(&mut self.config.processes[sender]).place += 1;
         self.meet(sender, self.entry.process)
@@ -339,6 +343,20 @@ impl<'a> Step<'a> {
         match operands_full(self.top(), count) {
             true => Ok(()),
             false => Err(Fault::Empty),
+        }
+    }
+
+    /// Fault 33 where the holder of the opposite end has gone: "after fault 20
+    /// and before waiting". The own end is so many values from the top.
+    fn need_holder(&mut self, count: usize) -> Result<(), Fault> {
+        let pending = &self.top().pending;
+        let (channel, side) = match pending[pending.len() - count] {
+            Value::End(channel, side) => (channel, side),
+            other => wrong_type("channel end", other),
+        };
+        match gone(&self.config, self.entry.lines, self.entry.process, channel, side) {
+            Some(_) => Err(Fault::Gone),
+            None => Ok(()),
         }
     }
 

@@ -215,8 +215,11 @@ fn p10_value_already_evaluated_is_emptied() {
     assert_eq!(frame.slots[0], Value::Empty);
 }
 
+/// "P11 main forks a child with end 1, the child returns, main stands at SEND".
+/// Paper 6: with one more entry of main it "now ends with main stopped and end
+/// 1".
 #[test]
-fn p11_partner_gone_is_end_2() {
+fn p11_partner_gone_is_33() {
     let main = [
         (NEWC, 1),
         (PUT, 0),
@@ -233,15 +236,19 @@ fn p11_partner_gone_is_end_2() {
     ];
     let methods = [main_method(&[CHANNEL_INT, END_INT], &main), method(VOID, &[END_INT], &[], &[(RET, 0)])];
     let schedule = [0, 0, 0, 0, 0, 0, 0, 0, 0, 0, 1, 0, 0];
-    let expected = [[0, 0, 2, 0, U, U], [7, 0, 5, 1, 1, 1], [7, 0, 6, 1, 6, 0], [10, 1, 9, U, U, U]];
-    // Main was never named at SEND; with exactly 11 entries end 2 still comes
-    // before the schedule's end.
-    for used in [11, 12, 13] {
-        let run = run_all(&methods, &schedule[..used], &[]);
-        assert_eq!(answer(&run), (2, 11, 4, 0));
-        assert_eq!(lines(&run), expected);
-    }
+    let expected =
+        [[0, 0, 2, 0, U, U], [7, 0, 5, 1, 1, 1], [7, 0, 6, 1, 6, 0], [10, 1, 9, U, U, U], [11, 0, 10, 33, U, U]];
     assert_eq!(answer(&run_all(&methods, &schedule[..10], &[])), (0, 10, 3, 0));
+    // As it stood: main was not named at SEND, and is able to move.
+    let run = run_all(&methods, &schedule[..11], &[]);
+    assert_eq!((answer(&run), lines(&run)), ((0, 11, 4, 0), expected[..4].to_vec()));
+    for used in [12, 13] {
+        let run = run_all(&methods, &schedule[..used], &[]);
+        assert_eq!((answer(&run), lines(&run)), ((1, 12, 5, 0), expected.to_vec()));
+        let main = &run.configuration.processes[0];
+        assert_eq!((main.state, main.frames[0].place), (State::Stopped(Fault::Gone), 10));
+        assert_eq!(main.frames[0].pending, [Value::End(0, data::Side::Zero), Value::Int(5)]);
+    }
 }
 
 /// Paper 3: "Question 6 and case P12 move to byte 3."

@@ -53,18 +53,6 @@ fn end_1_wants_every_process_over() {
 }
 
 #[test]
-fn end_2_alone_with_both_ends() {
-    // A process does not meet itself over both its ends.
-    let code = [(NEWC, 1), (END, 0), (INT, 1), (SEND, 0), (RET, 0)];
-    let methods = [main_method(&[], &code)];
-    assert_eq!(answer(&run_all(&methods, &[0, 0, 0], &[])), (2, 3, 1, 0));
-    assert_eq!(answer(&run_all(&methods, &[0; 9], &[])), (2, 3, 1, 0));
-    let code = [(NEWC, 1), (END, 0), (RECV, 0), (DROP, 0), (RET, 0)];
-    let methods = [main_method(&[], &code)];
-    assert_eq!(answer(&run_all(&methods, &[0; 9], &[])), (2, 2, 1, 0));
-}
-
-#[test]
 fn end_2_both_at_the_same_op() {
     let send = [(GET, 1), (INT, 1), (SEND, 0), (RET, 0)];
     let child = [(GET, 0), (INT, 2), (SEND, 0), (RET, 0)];
@@ -86,8 +74,9 @@ fn no_end_2_while_one_can_step_or_fault() {
     let methods = pair(1, &send, &child);
     let run = run_all(&methods, &after_making(&[0, 0, 0, 0]), &[]);
     assert_eq!(answer(&run), (0, 12, 3, 0));
-    let run = run_all(&methods, &after_making(&[0, 0, 0, 0, 1, 0]), &[]);
-    assert_eq!(answer(&run), (2, 13, 4, 0));
+    // Then main would be stopped by 33: Paper 6.
+    let run = run_all(&methods, &after_making(&[0, 0, 0, 0, 1]), &[]);
+    assert_eq!(answer(&run), (0, 13, 4, 0));
 }
 
 #[test]
@@ -137,9 +126,10 @@ fn ends_1_and_2_come_before_3() {
     // With a full trace and nothing left to do the run is over, not cut off.
     let program = program(&[main_method(&[], &[(RET, 0)])]);
     assert_eq!(answer(&run(&program, &[0, 0], &[], 6)), (1, 1, 1, 0));
-    let code = [(NEWC, 1), (END, 0), (RECV, 0), (DROP, 0), (RET, 0)];
-    let program = common::program(&[main_method(&[], &code)]);
-    assert_eq!(answer(&run(&program, &[0; 5], &[], 6)), (2, 2, 1, 0));
+    let receive = [(GET, 1), (RECV, 0), (DROP, 0), (RET, 0)];
+    let child = [(GET, 0), (RECV, 0), (DROP, 0), (RET, 0)];
+    let program = common::program(&pair(1, &receive, &child));
+    assert_eq!(answer(&run(&program, &after_making(&[0, 1, 0]), &[], 18)), (2, 10, 3, 0));
 }
 
 #[test]
@@ -220,22 +210,15 @@ fn a_false_boolean_is_0_0() {
 fn another_channel_is_no_partner() {
     // Two channels; main sends on the first, the child receives on the other.
     let main = [
-        (NEWC, 1),
-        (END, 0),
-        (PUT, 0),
-        (DROP, 0),
-        (NEWC, 1),
-        (END, 1),
-        (FORK, 1),
-        (GET, 0),
-        (INT, 1),
-        (SEND, 0),
-        (RET, 0),
+        [(NEWC, 1), (PUT, 0), (END, 0), (PUT, 1), (DROP, 0), (NEWC, 1), (PUT, 2)],
+        [(END, 0), (PUT, 3), (DROP, 0), (GET, 0), (END, 1), (GET, 2), (END, 1)],
+        [(FORK, 1), (GET, 1), (INT, 1), (SEND, 0), (GET, 3), (DROP, 0), (RET, 0)],
     ];
-    let child = [(GET, 0), (RECV, 0), (DROP, 0), (RET, 0)];
-    let methods = [main_method(&[END_INT], &main), method(VOID, &[END_INT], &[], &child)];
-    let run = run_all(&methods, &[0, 0, 0, 0, 0, 0, 0, 0, 0, 1, 0], &[]);
-    assert_eq!(answer(&run), (2, 10, 4, 0));
+    let slots = [CHANNEL_INT, END_INT, CHANNEL_INT, END_INT];
+    let child = [(GET, 1), (RECV, 0), (DROP, 0), (RET, 0)];
+    let methods = [main_method(&slots, &main.concat()), method(VOID, &[END_INT, END_INT], &[], &child)];
+    let run = run_all(&methods, &[&[0; 17][..], &[1, 0, 1]].concat(), &[]);
+    assert_eq!(answer(&run), (2, 18, 5, 0));
 }
 
 #[test]

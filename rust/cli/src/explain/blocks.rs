@@ -11,7 +11,7 @@ use crate::history::{each_step, Step};
 use crate::holders::Holders;
 use crate::input::case::Given;
 use crate::sentence::sentence;
-use crate::standing::{standing, Standing};
+use crate::standing::standing;
 
 /// So many instructions of a row of them are written out.
 const MOST_INSTRUCTIONS: usize = 8;
@@ -27,7 +27,7 @@ pub fn entries(given: &Given, told: Told) -> (String, Emptied) {
     each_step(given, told.case, told.run, |step| {
         emptied.read(step);
         if step.lines.is_empty() {
-            block.read(told.code, &holders, step);
+            block.read(told.code, step);
             return;
         }
         text += &std::mem::take(&mut block).text();
@@ -71,17 +71,17 @@ struct Silent {
 }
 
 impl Block {
-    fn read(&mut self, code: &Code, holders: &Holders, step: &Step) {
+    fn read(&mut self, code: &Code, step: &Step) {
         self.entries.push(step.entry);
         let number = usize::from(step.process);
         let silent = self.processes.entry(step.process).or_default();
-        if standing(code, step.before, number) == Standing::Moves {
+        if standing(code, step.before, step.holders, number).is_able() {
             let frame = step.before.processes[number].top();
             silent.steps.extend(frame.and_then(|frame| code.site(frame.place)));
             return;
         }
         if silent.idle.is_empty() {
-            silent.why = how(code, step.before, holders, number);
+            silent.why = how(code, step.before, step.holders, number);
         }
         silent.idle.push(step.entry);
     }

@@ -1,13 +1,13 @@
 //! Each process as it stands: its state, whom it waits for, its frames, and why
 //! what is empty is empty.
 
-use data::{Configuration, Frame, State, Value};
+use data::{Configuration, Fault, Frame, Process, State, Value};
 
 use crate::code::Code;
 use crate::emptied::{Cell, Emptied};
 use crate::explain::Told;
 use crate::holders::Holders;
-use crate::standing::{standing, Offer, Standing};
+use crate::standing::{partner, standing, stands_with, Offer, Standing};
 
 /// The processes at the end of a run.
 pub fn processes(told: Told, emptied: Option<&Emptied>) -> String {
@@ -21,6 +21,9 @@ pub fn processes(told: Told, emptied: Option<&Emptied>) -> String {
             _ => String::new(),
         };
         text += &format!("process {number} {how}{why}\n");
+        if let (State::Stopped(Fault::Gone), Some(offer)) = (process.state, stands_with(told.code, process)) {
+            text += &format!("    {}\n", gone(configuration, &holders, number, offer));
+        }
         for (f, frame) in process.frames.iter().enumerate() {
             // A caller's place stands behind its CALL.
             let verb = if f + 1 == process.frames.len() { "stands at" } else { "goes on at" };
@@ -37,43 +40,65 @@ pub fn processes(told: Told, emptied: Option<&Emptied>) -> String {
 
 /// How a process stands.
 pub fn how(code: &Code, configuration: &Configuration, holders: &Holders, number: usize) -> String {
-    match standing(code, configuration, number) {
+    match standing(code, configuration, holders, number) {
         Standing::NotStarted => "has not started".to_string(),
         Standing::Finished => "has finished".to_string(),
         Standing::Stopped(fault) => format!("was stopped by fault {}", fault.number()),
         Standing::Moves => "is able to move".to_string(),
-        Standing::Waits(offer) => format!("waits {}", waits(code, configuration, holders, number, offer)),
+        Standing::Gone(offer) => {
+            let why = gone(configuration, holders, number, offer);
+            format!("is able to move, to be stopped by fault {}: {why}", Fault::Gone.number())
+        }
+        Standing::Waits(offer) => format!("waits {}", waits(code, configuration, holders, offer)),
     }
 }
 
-/// What a process waits for, and what its partner does.
-fn waits(code: &Code, configuration: &Configuration, holders: &Holders, number: usize, offer: Offer) -> String {
+/// Who has gone, of a process that fault 33 stops or has stopped.
+fn gone(configuration: &Configuration, holders: &Holders, number: usize, offer: Offer) -> String {
+    let Offer { channel, side, .. } = offer;
+    let held = format!("end {} of channel {channel} is held by", side.other());
+    match partner(holders, offer) {
+        Some(holder) if holder != number => {
+            let process = configuration.processes.get(holder);
+            format!("{held} process {holder}, which {}", process.map_or("has not started", over))
+        }
+        _ => format!("{held} itself, and none meets itself"),
+    }
+}
+
+/// How a process is over.
+fn over(process: &Process) -> &'static str {
+    match process.state {
+        State::Finished => "has finished",
+        State::Stopped(_) => "was stopped",
+        State::Running => "runs",
+    }
+}
+
+/// For whom a process waits, and what that one does: it holds the opposite end
+/// and runs.
+fn waits(code: &Code, configuration: &Configuration, holders: &Holders, offer: Offer) -> String {
     let Offer { sends, channel, side } = offer;
     let verb = if sends { "to send" } else { "to receive" };
     let other = side.other();
     let over = format!("{verb} over end {side} of channel {channel}");
-    match holders.ends.get(&(channel, other)).map(|holder| usize::from(*holder)) {
+    match partner(holders, offer) {
         None => format!("{over}: nobody holds end {other}"),
-        Some(holder) if holder == number => format!("{over}: it holds end {other} itself, and none meets itself"),
         Some(holder) => {
-            let partner = partner(code, configuration, holder);
-            format!("{over}, for process {holder}, which holds end {other} and {partner}")
+            let does = does(code, configuration, holders, holder);
+            format!("{over}, for process {holder}, which holds end {other} and {does}")
         }
     }
 }
 
-/// What the holder of the opposite end does.
-fn partner(code: &Code, configuration: &Configuration, number: usize) -> String {
-    let Some(process) = configuration.processes.get(number) else {
-        return "has not started".to_string();
-    };
-    let site = process.top().and_then(|frame| code.site(frame.place));
+/// What a process does that another one waits for.
+fn does(code: &Code, configuration: &Configuration, holders: &Holders, number: usize) -> String {
+    let top = configuration.processes.get(number).and_then(Process::top);
+    let site = top.and_then(|frame| code.site(frame.place));
     let site = site.map(|site| site.to_string()).unwrap_or_default();
-    match (process.state, standing(code, configuration, number)) {
-        (State::Finished, _) => "has finished".to_string(),
-        (State::Stopped(fault), _) => format!("was stopped by fault {}", fault.number()),
-        (State::Running, Standing::Waits(_)) => format!("waits too, at {site}"),
-        (State::Running, _) => format!("stands at {site}"),
+    match standing(code, configuration, holders, number) {
+        Standing::Waits(_) => format!("waits too, at {site}"),
+        _ => format!("stands at {site}"),
     }
 }
 

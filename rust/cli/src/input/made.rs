@@ -8,7 +8,7 @@ use crate::history::{each_step, Step};
 use crate::input::case::{Case, Given};
 use crate::input::numbers::{Schedule, MOST_ENTRIES};
 use crate::machine::{Machine, Runner};
-use crate::standing::{standing, Standing};
+use crate::standing::standing;
 
 /// A schedule, and how it can be given.
 #[derive(Clone, Debug, Default, PartialEq, Eq)]
@@ -72,7 +72,7 @@ fn until_stuck(case: &Case, given: &Given) -> Result<Made, String> {
     // The trace of this run has room for all its lines.
     let given = Given { room: None, ..given.clone() };
     each_step(&given, &whole, &run, |step: &Step| {
-        if standing(code, step.before, usize::from(step.process)) == Standing::Moves {
+        if standing(code, step.before, step.holders, usize::from(step.process)).is_able() {
             moving.push(step.process);
         }
     });

@@ -2,12 +2,12 @@
 
 use data::{Question, Refusal, Value};
 use generate::Case;
-use model::machine::Machine;
+use model::machine::{Machine, Standing};
 use model::step::Effect;
 use model::table::Op;
 use model::Program;
 
-use crate::rules::{effect, Rules, RIGHT};
+use crate::rules::{effect, end_by, End, Rules, RIGHT};
 
 /// The rules before a paper.
 pub struct Before {
@@ -17,11 +17,23 @@ pub struct Before {
     pub touches: fn(&Case) -> bool,
 }
 
-pub const ALL: [Before; 1] = [Before {
-    paper: 3,
-    rules: Rules { check: outcomes_0_and_1, effect: measures_0_or_1, ..RIGHT },
-    touches: |case| case.outcomes.contains(&2),
-}];
+pub const ALL: [Before; 2] = [
+    Before {
+        paper: 3,
+        rules: Rules { check: outcomes_0_and_1, effect: measures_0_or_1, ..RIGHT },
+        touches: |case| case.outcomes.contains(&2),
+    },
+    Before {
+        paper: 6,
+        rules: Rules {
+            standing: gone_waits,
+            end: |machine| end_by(machine, gone_waits),
+            last_end: |machine| end_by(machine, gone_waits).unwrap_or(End::ScheduleUsed),
+            ..RIGHT
+        },
+        touches: some_partner_goes,
+    },
+];
 
 /// "Is each outcome byte 0 or 1? 6 (its index)"
 pub fn outcomes_0_and_1(case: &Case) -> Result<Program, Refusal> {
@@ -45,4 +57,31 @@ fn measures_0_or_1(machine: &Machine, process: usize, partner: Option<usize>) ->
         effect.lines[0].b = u16::from(is_1);
     }
     effect
+}
+
+/// "SEND waits unless another process stands at RECV with the opposite end as
+/// its operand, and RECV likewise".
+pub fn gone_waits(machine: &Machine, number: usize) -> Standing {
+    match machine.gone_for(number) {
+        Some(_) => Standing::Waits,
+        None => machine.standing(number),
+    }
+}
+
+/// Whether at some time a process stands at SEND or RECV whose partner has gone.
+fn some_partner_goes(case: &Case) -> bool {
+    let Ok(program) = (RIGHT.check)(case) else {
+        return false;
+    };
+    let mut machine = Machine::new(&program, &case.outcomes, case.trace_len);
+    let mut bytes = case.schedule.iter();
+    loop {
+        if (0..8).any(|number| machine.gone_for(number).is_some()) {
+            return true;
+        }
+        match bytes.next() {
+            Some(byte) if machine.entry(*byte).is_ok() => (),
+            _ => return false,
+        }
+    }
 }

@@ -1,14 +1,17 @@
 //! Wrong about meetings.
 
-use data::{Frame, Line, Side, Value};
+use data::{Event, Fault, Frame, Line, Side, State, Thing, Value};
+use model::gone::Gone;
 use model::machine::{Machine, Standing};
+use model::owner::{holder, reach};
 use model::step::Effect;
 use model::table::Op;
 
-use crate::rules::{effect, Rules, RIGHT};
+use crate::before::gone_waits;
+use crate::rules::{effect, end_by, End, Rules, RIGHT};
 use crate::Wrong;
 
-pub const WRONG: [Wrong; 9] = [
+pub const WRONG: [Wrong; 15] = [
     // Named in document 01 as an error that has been seen.
     ("a process meets itself", Rules { standing: with_itself, effect: to_itself, ..RIGHT }),
     ("a partner with an emptied value is ready", Rules { standing: never_mind_value, ..RIGHT }),
@@ -19,6 +22,13 @@ pub const WRONG: [Wrong; 9] = [
     ("a meeting's line has the receiver's side", Rules { effect: other_side, ..RIGHT }),
     ("an int is passed by its low 16 bits", Rules { effect: low_bits, ..RIGHT }),
     ("the receiver gets nothing", Rules { effect: nothing_received, ..RIGHT }),
+    // Paper 6.
+    ("who waits for itself waits", Rules { standing: waits_for_itself, end: itself_is_stuck, ..RIGHT }),
+    ("a holder that has stopped is there", Rules { standing: waits_for_stopped, end: stopped_is_stuck, ..RIGHT }),
+    ("33 does not make able to move", Rules { end: gone_is_stuck, ..RIGHT }),
+    ("a holder that has lost its reference has gone", Rules { standing: by_reach, effect: by_reach_33, ..RIGHT }),
+    ("33 comes before 20", Rules { effect: gone_before_empty, ..RIGHT }),
+    ("whoever made the channel is waited for", Rules { standing: by_maker, effect: by_maker_33, ..RIGHT }),
 ];
 
 fn top<'a>(machine: &'a Machine, number: usize) -> Option<&'a Frame> {
@@ -38,7 +48,7 @@ fn end_at_send(machine: &Machine, number: usize) -> Option<(u16, Side)> {
 fn with_itself(machine: &Machine, number: usize) -> Standing {
     let standing = machine.standing(number);
     match end_at_send(machine, number) {
-        Some((channel, side)) if standing == Standing::Waits => {
+        Some((channel, side)) if !matches!(standing, Standing::Meets(_)) => {
             let opposite = Value::End(channel, side.other());
             let both = machine.config.processes[number].values().any(|value| value == opposite);
             if both {
@@ -79,7 +89,7 @@ fn never_mind_value(machine: &Machine, number: usize) -> Standing {
 
 fn emptied_waits(machine: &Machine, number: usize) -> Standing {
     match (machine.standing(number), machine.op_of(number)) {
-        (Standing::Steps, Some(Op::Send | Op::Receive)) => Standing::Waits,
+        (Standing::Steps, Some(Op::Send | Op::Receive)) if machine.gone_for(number).is_none() => Standing::Waits,
         (standing, _) => standing,
     }
 }
@@ -127,4 +137,119 @@ fn nothing_received(machine: &Machine, process: usize, partner: Option<usize>) -
         *frame.pending.last_mut().expect("it received") = Value::Empty;
     }
     effect
+}
+
+/// Waits where the partner has gone in this way.
+fn waits_for(machine: &Machine, number: usize, gone: Gone) -> Standing {
+    match machine.gone_for(number) == Some(gone) {
+        true => Standing::Waits,
+        false => machine.standing(number),
+    }
+}
+
+fn waits_for_itself(machine: &Machine, number: usize) -> Standing {
+    waits_for(machine, number, Gone::Itself)
+}
+
+fn itself_is_stuck(machine: &Machine) -> Option<End> {
+    end_by(machine, waits_for_itself)
+}
+
+fn waits_for_stopped(machine: &Machine, number: usize) -> Standing {
+    waits_for(machine, number, Gone::Stopped)
+}
+
+fn stopped_is_stuck(machine: &Machine) -> Option<End> {
+    end_by(machine, waits_for_stopped)
+}
+
+fn gone_is_stuck(machine: &Machine) -> Option<End> {
+    end_by(machine, gone_waits)
+}
+
+/// The end at SEND or RECV, where all operands are there.
+fn own_end(machine: &Machine, number: usize) -> Option<(u16, Side)> {
+    let pending = &top(machine, number)?.pending;
+    match (machine.op_of(number)?, pending.as_slice()) {
+        (Op::Send, [.., Value::End(channel, side), value]) if *value != Value::Empty => Some((*channel, *side)),
+        (Op::Receive, [.., Value::End(channel, side)]) => Some((*channel, *side)),
+        _ => None,
+    }
+}
+
+/// The model's standing, but for who waits and whose partner has gone by this
+/// rule.
+fn standing_by(machine: &Machine, number: usize, has_gone: fn(&Machine, usize) -> bool) -> Standing {
+    match machine.standing(number) {
+        Standing::Waits if has_gone(machine, number) => Standing::Steps,
+        standing => standing,
+    }
+}
+
+/// 33, where the partner has gone by this rule and the model would let it wait.
+fn effect_by(
+    machine: &Machine,
+    process: usize,
+    partner: Option<usize>,
+    has_gone: fn(&Machine, usize) -> bool,
+) -> Effect {
+    match machine.standing(process) == Standing::Waits && has_gone(machine, process) {
+        true => stopped_by_33(machine, process),
+        false => effect(machine, process, partner),
+    }
+}
+
+fn stopped_by_33(machine: &Machine, process: usize) -> Effect {
+    let mut config = machine.config.clone();
+    config.processes[process].state = State::Stopped(Fault::Gone);
+    let line = Event::Stopped { fault: Fault::Gone }.line(machine.entries as u16, process as u16);
+    Effect { config, lines: vec![line], outcomes_used: 0, fault: Some(Fault::Gone) }
+}
+
+/// Nobody else reaches the opposite end.
+fn out_of_reach(machine: &Machine, number: usize) -> bool {
+    let Some((channel, side)) = own_end(machine, number) else {
+        return false;
+    };
+    let opposite = Thing::End(channel, side.other());
+    let mut others = machine.config.processes.iter().enumerate().filter(|(other, _)| *other != number);
+    !others.any(|(_, other)| other.runs() && reach(other).contains(&opposite))
+}
+
+fn by_reach(machine: &Machine, number: usize) -> Standing {
+    standing_by(machine, number, out_of_reach)
+}
+
+fn by_reach_33(machine: &Machine, process: usize, partner: Option<usize>) -> Effect {
+    effect_by(machine, process, partner, out_of_reach)
+}
+
+/// Whoever made the channel counts, not who was given the end.
+fn maker_gone(machine: &Machine, number: usize) -> bool {
+    let Some((channel, _)) = own_end(machine, number) else {
+        return false;
+    };
+    let made: Vec<Line> = machine.lines.iter().filter(|line| line.kind == 2).copied().collect();
+    let maker = holder(&made, Thing::Channel(channel)).map(usize::from);
+    maker.is_some_and(|maker| maker != number && !machine.config.processes[maker].runs())
+}
+
+fn by_maker(machine: &Machine, number: usize) -> Standing {
+    standing_by(machine, number, maker_gone)
+}
+
+fn by_maker_33(machine: &Machine, process: usize, partner: Option<usize>) -> Effect {
+    effect_by(machine, process, partner, maker_gone)
+}
+
+/// An emptied value at SEND, where the opposite end's holder has gone.
+fn gone_before_empty(machine: &Machine, process: usize, partner: Option<usize>) -> Effect {
+    let effect = effect(machine, process, partner);
+    let (Some(Fault::Empty), Some((channel, side))) = (effect.fault, end_at_send(machine, process)) else {
+        return effect;
+    };
+    match model::gone::gone(&machine.config, &machine.lines, process, channel, side) {
+        Some(_) => stopped_by_33(machine, process),
+        None => effect,
+    }
 }

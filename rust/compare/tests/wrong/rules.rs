@@ -2,7 +2,7 @@
 //! machine has one rule of its own.
 
 use compare::left::{by_model, Buffers, Left};
-use data::{Refusal, Run};
+use data::{Process, Refusal, Run};
 use generate::Case;
 use model::machine::{Machine, Standing};
 use model::step::{self, Effect, Entry};
@@ -56,10 +56,20 @@ pub fn effect(machine: &Machine, process: usize, partner: Option<usize>) -> Effe
     let entry = Entry {
         program: machine.program,
         outcomes: &machine.outcomes[machine.outcomes_used..],
+        lines: &machine.lines,
         number: machine.entries as u16,
         process,
     };
     step::take(entry, &machine.config, op, partner)
+}
+
+/// Ends 1 and 2, where processes stand by this rule.
+pub fn end_by(machine: &Machine, standing: fn(&Machine, usize) -> Standing) -> Option<End> {
+    let mut numbers = 0..machine.config.processes.len();
+    if !machine.config.processes.iter().any(Process::runs) {
+        return Some(End::AllOver);
+    }
+    (!numbers.any(|number| standing(machine, number).is_able())).then_some(End::Stuck)
 }
 
 /// The lent trace and work store after a machine of these rules.

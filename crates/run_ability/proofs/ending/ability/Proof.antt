@@ -1,4 +1,4 @@
--- `ability` goes by the readiness, and by whether an offer has a partner.
+-- `ability` goes by the readiness, and by whether an offer moves it.
 use Rattle.run_ability.proofs.Returns.{no-offer, unmet, met}
 use borrow.Author.Needs.{needs}
 use Rattle.run_ability.proofs.ending.ability.Statement.{statement}
@@ -12,19 +12,19 @@ returns c =
     let args = c .before .before .before .before .before .args in
     no-offer (args .p .now) (args .work .now) (args .t .now) (args .n .0) (c .before .before .readiness-of .ensures) (c .if1 .taken)
 
-has-partner-requires : tie.Need-has-partner-requires
-has-partner-requires c κs = search needs
+is-moved-requires : tie.Need-is-moved-requires
+is-moved-requires c κs = search needs
 
 returns-2 : tie.Need-returns-2
 returns-2 c =
     let args = c .before .before .before .before .before .before .before .args in
-    met (args .p .now) (args .work .now) (args .t .now) (args .n .0) (c .before .before .before .before .readiness-of .ensures) (c .before .before .if1 .left) (c .before .has-partner .ensures) (c .if2 .taken)
+    met (args .p .now) (args .work .now) (args .t .now) (args .n .0) (c .before .before .before .before .readiness-of .ensures) (c .before .before .if1 .left) (c .before .is-moved .ensures) (c .if2 .taken)
 
 returns-3 : tie.Need-returns-3
 returns-3 c =
     let args = c .before .before .before .before .before .before .before .args in
-    unmet (args .p .now) (args .work .now) (args .t .now) (args .n .0) (c .before .before .before .before .readiness-of .ensures) (c .before .before .if1 .left) (c .before .has-partner .ensures) (c .if2 .left)
+    unmet (args .p .now) (args .work .now) (args .t .now) (args .n .0) (c .before .before .before .before .readiness-of .ensures) (c .before .before .if1 .left) (c .before .is-moved .ensures) (c .if2 .left)
 
 pub ability-spec : {M : Type 1} → statement M
 ability-spec =
-    tie.close (tie.spec readiness-of-requires returns has-partner-requires returns-2 returns-3)
+    tie.close (tie.spec readiness-of-requires returns is-moved-requires returns-2 returns-3)
