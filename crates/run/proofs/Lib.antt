@@ -2,3 +2,4 @@ pub mod Answering
 pub mod Buffers
 pub mod Faults
 pub mod Demands
+pub mod Exchanges

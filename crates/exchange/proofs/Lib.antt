@@ -1,0 +1,10 @@
+pub mod Numbered
+pub mod Alike
+pub mod Going
+pub mod Commute
+pub mod Alone
+pub mod Lines
+pub mod Exchange
+pub mod Beside
+pub mod Harmless
+pub mod Needed
