@@ -130,3 +130,18 @@ fn the_first_protocol() {
     let printed = called(&folder, "run further.lqa");
     assert!(printed.ends_with("\n15 0 10 20 - -\n16 1 4 0 1 -\n18 1 9 - - -\nend 1 19 10 1\n"), "{printed}");
 }
+
+/// The table in docs/CAMPAIGNS.md is that of the examples.
+#[test]
+fn the_table_of_a_campaign() {
+    let folder = folder("campaign");
+    let cases = folder.join("cases");
+    fs::create_dir(&cases).expect("a folder");
+    for example in examples() {
+        write(&cases, &format!("{}.lqa", example.name), &example.text);
+    }
+    let table = lanq_in(&folder, &["batch", "cases", "--jobs", "8"]).out;
+    let shown = document("docs/CAMPAIGNS.md");
+    let first = table.lines().next().expect("a table");
+    assert_eq!(block(&shown, first), table);
+}
