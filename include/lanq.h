@@ -22,8 +22,8 @@ extern "C" {
 
 /* The version of this interface. The first number rises where a program has to be changed for it. */
 #define LANQ_VERSION_MAJOR 0
-#define LANQ_VERSION_MINOR 1
-#define LANQ_VERSION "0.1"
+#define LANQ_VERSION_MINOR 2
+#define LANQ_VERSION "0.2"
 
 /* ---- Sizes ---- */
 

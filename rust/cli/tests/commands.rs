@@ -32,6 +32,17 @@ fn help() {
     expect("help-of-each", &all);
 }
 
+/// The version is that of the results: those of another one are not taken over.
+#[test]
+fn version() {
+    let told = lanq(&["version"]).quiet();
+    assert_eq!(lanq(&["--version"]).quiet(), told);
+    let json = Json::read(lanq(&["run", "--json", "given-whole.lqa"]).quiet().trim_end()).expect("JSON");
+    let version = json.get("version").and_then(Json::as_text).expect("a version");
+    assert_eq!(told, format!("lanq {version}\n"));
+    assert!(lanq(&["version", "more"]).failed(2).starts_with("lanq: no command version"));
+}
+
 /// A wrong call has status 2, says what is wrong and how it is called.
 #[test]
 fn wrong_calls() {

@@ -34,7 +34,7 @@ const PRINTED_BY_CPP: &str = "\
 entry 14: process 0 gives qubit 0 to process 1
 entry 15: process 1 applies gate 4 to qubit 0
 entry 17: process 0 is stopped by fault 20
-lanq 0.1: end 1, 9 lines
+lanq 0.2: end 1, 9 lines
 ";
 
 /// The repository's root.

@@ -14,6 +14,7 @@ mod timeline;
 use crate::error::Failure;
 use crate::input::case::Case;
 use crate::options::{Arguments, Opt};
+use crate::report::VERSION;
 
 /// A command of `lanq`.
 #[derive(Debug)]
@@ -84,6 +85,9 @@ pub fn call(words: &[String]) -> Done {
     if ["help", "--help", "-h"].contains(&name) {
         return help(rest);
     }
+    if ["version", "--version"].contains(&name) && rest.is_empty() {
+        return Done::said(format!("lanq {VERSION}\n"));
+    }
     let Some(command) = COMMANDS.iter().find(|command| command.name == name) else {
         return failed(None, Failure::Call(format!("no command {name}")));
     };
@@ -134,7 +138,10 @@ outcomes.txt. Options give each part in place of the case's own.
     for command in COMMANDS {
         text += &format!("    {:9} {}\n", command.name, command.about);
     }
-    text += "\nlanq help COMMAND tells more of one. The exit status is 0, or 1 after a refusal or an error,\nor 2 after a wrong call.\n";
+    text += "
+lanq help COMMAND tells more of one, lanq version which version this is. The exit status is 0, or 1
+after a refusal or an error, or 2 after a wrong call.
+";
     text
 }
 
