@@ -26,6 +26,31 @@ fn is_well_built(svg: &str) -> bool {
     open.is_empty()
 }
 
+/// Where a text stands: left, top, right and bottom. A letter is taken to be a
+/// little more than half as wide as it is high.
+fn place(element: &str) -> Option<[f64; 4]> {
+    let attribute = |name: &str| element.split_once(&format!("{name}=\""))?.1.split('"').next();
+    let number = |name: &str| attribute(name)?.parse::<f64>().ok();
+    let (x, y, size) = (number("x")?, number("y")?, number("font-size")?);
+    let (text, _) = element.split_once('>')?.1.split_once("</text>")?;
+    let width = 0.55 * size * text.chars().count() as f64;
+    let left = match attribute("text-anchor")? {
+        "end" => x - width,
+        "middle" => x - width / 2.0,
+        _ => x,
+    };
+    Some([left, y - 0.8 * size, left + width, y + 0.2 * size])
+}
+
+/// No text of a drawing stands on another one.
+fn is_legible(svg: &str) -> bool {
+    let places: Vec<[f64; 4]> = svg.split("<text ").skip(1).map(|rest| place(rest).expect("a text's place")).collect();
+    let apart = |one: &[f64; 4], other: &[f64; 4]| {
+        one[2] <= other[0] || other[2] <= one[0] || one[3] <= other[1] || other[3] <= one[1]
+    };
+    places.iter().enumerate().all(|(index, one)| places[..index].iter().all(|other| apart(one, other)))
+}
+
 /// The entries with lines.
 fn columns(printed: &str) -> BTreeSet<&str> {
     printed.lines().filter(|line| !line.starts_with("end")).filter_map(|line| line.split(' ').next()).collect()
@@ -35,7 +60,7 @@ fn columns(printed: &str) -> BTreeSet<&str> {
 fn examples_are_drawn() {
     for example in examples() {
         let svg = lanq(&["timeline", &format!("{}.lqa", example.name)]).quiet();
-        assert!(is_well_built(&svg), "{}", example.name);
+        assert!(is_well_built(&svg) && is_legible(&svg), "{}", example.name);
         let texts = texts(&svg);
         let title = format!("{}.lqa: end 1, every process made has finished or stopped", example.name);
         assert_eq!(texts[0], title);
@@ -81,7 +106,8 @@ fn no_click() {
     assert!(svg.contains("\nprocess 1 measures qubit 1, outcome 2: no click</title>"));
 }
 
-/// Eight processes and 32 qubits: a row for each, no two rows in one place.
+/// Eight processes, 32 qubits and 32 ends: a row for each, no two rows in one
+/// place, no text on another.
 #[test]
 fn the_largest_run_has_a_row_for_each() {
     let mut main = "method void main()\n".to_string();
@@ -94,7 +120,11 @@ fn the_largest_run_has_a_row_for_each() {
     write(&folder, "large.lqa", main);
     let called = lanq_in(&folder, &["timeline", "large.lqa", "--schedule", "until-stuck"]);
     assert_eq!(called.status, Some(0));
-    assert!(is_well_built(&called.out));
+    assert!(is_well_built(&called.out) && is_legible(&called.out));
+    // Texts in one place are seen.
+    let twice =
+        called.out.replace("<text x=", "<text x=\"5\" y=\"5\" font-size=\"9\" text-anchor=\"start\">a</text><text x=");
+    assert!(!is_legible(&twice));
     let rows = called.out.split("text-anchor=\"end\"").count() - 1;
     assert_eq!(rows, 8 + 32 + 32);
     let places = called.out.lines().filter(|line| line.contains("text-anchor=\"end\""));
