@@ -136,7 +136,8 @@ module _ (p : List ℕ) (m a t : ℕ) (e : t ≡ slotType p m (a % 16)) (word : 
   )
 
   -- as they are looked up
-  pub limits-kept : (limits : List ℕ) (op long : ℕ) {b : Bool} → limits ≡ limitsFor (methods p) → op < 24 → long ≡ lengthOf p m
+  pub limits-kept : (limits : List ℕ) (op long : ℕ) {b : Bool} → limits ≡ limitsFor (methods p) → op < 24
+      → long ≡ lengthOf p m
       → b ≡ inLimits op (getD limits op 0) long a t → b ≡ opOf op .argument p m a
   limits-kept limits op long l h c q =
       q ∙ ap₂ (λ (ls : List ℕ) (k : ℕ). inLimits op (getD ls op 0) k a t) l c ∙ each Right 24 all-right op h

@@ -22,8 +22,8 @@ use ranges::chosen;
 use ranges::chosen_byte;
 use ranges::limits_for;
 
-// A mark at the target of a jump; ops 17 and 18 jump. Of any other op the mark at its own index i is written as it was, so
-// that no jump depends on the op.
+// A mark at the target of a jump; ops 17 and 18 jump. Of any other op the mark at its own index i is written as it was,
+// so that no jump depends on the op.
 fn mark(targets: &mut [u8], op: usize, at: usize, i: usize)
     requires { ⌜ (T (opOf op .jumps) → at < length (now targets)) × (i < length (now targets)) ⌝ }
     ensures { λ r. ⌜ now (targets .exit) ≡ marks op at (now (targets .entry)) ⌝ }

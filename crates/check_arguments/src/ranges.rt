@@ -1,5 +1,6 @@
-// What an op's argument may be. The limits are read from a table over the op's number and all of them are looked at, so that
-// no jump depends on the op: which one comes next cannot be foreseen, and a wrong guess costs more than a few reads.
+// What an op's argument may be. The limits are read from a table over the op's number and all of them are looked at, so
+// that no jump depends on the op: which one comes next cannot be foreseen, and a wrong guess costs more than a few
+// reads.
 ghost use mathlib.Core.Path.{_≡_};
 ghost use mathlib.Core.Bool.{cond};
 ghost use Prim.Native.Nat.{_%_, _<_};
@@ -10,8 +11,8 @@ ghost use Rattle.check_instructions.specs.OwnersCode.{ownerIn};
 ghost use Rattle.check_arguments.specs.LimitsCode.{limitsFor, inLimits};
 use check_instructions::owner::Owner;
 
-// By the op's number: four times the first number above the arguments, and 2 where the argument is a slot, and 1 where it is
-// not 0. CALL and FORK name one of `count` methods; the bound of a jump is its method's length.
+// By the op's number: four times the first number above the arguments, and 2 where the argument is a slot, and 1 where
+// it is not 0. CALL and FORK name one of `count` methods; the bound of a jump is its method's length.
 pub fn limits_for(count: usize) -> [usize; 24]
     requires { ⌜ count < 65536 ⌝ }
     ensures { λ r. ⌜ r ≡ limitsFor count ⌝ }

@@ -114,7 +114,8 @@ newc-sound : DoingSound opNewC doNewC
 unfolding opNewC doNewC
 newc-sound ks a r =
     let k = a .argument in
-    let frames = frames-implies (a .program) (fits-more-channels ks k (a .qubits)) (a .frame ∷ a .callers) (r .next refl) in
+    let frames =
+    frames-implies (a .program) (fits-more-channels ks k (a .qubits)) (a .frame ∷ a .callers) (r .next refl) in
     let fits = new-channel-fits ks k (a .qubits) (a .channels) (r .channels) (between 1 3 k (r .argument) .1) in
     cond-each (TypedAt ks a) (ltb (a .channels) 16)
     (λ e. (omega (arith, ltb-true (a .channels) 16 e), (k, pushes-typed (r .rule) frames fits)))
@@ -185,7 +186,8 @@ call-sound ks a r =
     let p = a .program in
     let (b, g) = wanted-all r (reverse (paramTypes p (a .argument))) _ (r .rule) in
     let args = arguments-fit p (a .argument) b in
-    let callee = started-typed p (r .kept) (λ t. tt) (a .argument) (reverse (a .operands)) (ltb-yes (r .argument)) args in
+    let callee =
+    started-typed p (r .kept) (λ t. tt) (a .argument) (reverse (a .operands)) (ltb-yes (r .argument)) args in
     cond-each (TypedAt ks a) (ltb (suc (length (a .callers))) 8)
     (λ e. record { stack = (callee, gives-typed g (r .next refl) .stack); depth = ltb-true (suc (length (a .callers))) 8 e })
     (λ e. omega arith)

@@ -117,7 +117,8 @@ module _ (p ks : List ℕ) (c : Config) (t : ConfigTyped p ks c) where
 forking-typed : (p ks : List ℕ) (k : Kept p) (c : Config) → ConfigTyped p ks c
     → (n m : ℕ) (args : List Value) (fs : List Frame)
     → ActTyped p ks (c .qubits) (length (c .processes)) (forks m args fs)
-    → ConfigTyped p ks (joined (setProcess c n (runs (framesWithout (thingsOf args) fs))) (runs (started p m args ∷ [])))
+    → ConfigTyped p ks
+    (joined (setProcess c n (runs (framesWithout (thingsOf args) fs))) (runs (started p m args ∷ [])))
 unfolding setProcess
 forking-typed p ks k c t n m args fs (room, method, fit, parent) =
     let given = frames-without p ks (c .qubits) (thingsOf args) [] fs parent in
@@ -185,7 +186,8 @@ meeting-typed p outcomes ks k s t e (fit, sender, receiver) =
     (pushTop-typed p ks q (e .value) (getD ks (e .channel) 0) (e .receiverFrames) fit receiver)
 
 meetingIf-typed : (p outcomes ks : List ℕ) (k : ℕ) (s : State) → ConfigTyped p ks (s .config) → (o : Option Meeting)
-    → Given (MeetingTyped p ks (s .config .qubits)) o → ConfigTyped p ks (meetIfIn (tableMachine p outcomes) k s o .config)
+    → Given (MeetingTyped p ks (s .config .qubits)) o
+    → ConfigTyped p ks (meetIfIn (tableMachine p outcomes) k s o .config)
 unfolding meetIfIn
 meetingIf-typed p outcomes ks k s t none g = t
 meetingIf-typed p outcomes ks k s t (some e) g = meeting-typed p outcomes ks k s t e g
@@ -240,7 +242,8 @@ module _ (p : List ℕ) (k : Kept p) (outcomes : List ℕ) (bytes : All (λ o. o
   applied-typed i n ends h g = (ks, set-typed p ks (s .config) t n _ refl)
   applied-typed i n (makes u fs) h g = making-typed p ks (s .config) t n u fs h
   applied-typed i n (forks m args fs) h g = (ks, forking-typed p ks k (s .config) t n m args fs h)
-  applied-typed i n (offers o) h g = (ks, meetingIf-typed p outcomes ks i s t (meetingOf p outcomes s n o) (meetingOf-typed n o h))
+  applied-typed i n (offers o) h g =
+      (ks, meetingIf-typed p outcomes ks i s t (meetingOf p outcomes s n o) (meetingOf-typed n o h))
 
   pub effect-typed : (i n : ℕ) → Typed p (effectOf p outcomes i s n .config)
   unfolding effectIn
@@ -249,5 +252,6 @@ module _ (p : List ℕ) (k : Kept p) (outcomes : List ℕ) (bytes : All (λ o. o
       (applied-typed i n (actOf p outcomes s n) (act-typed p k outcomes bytes s ks t n) runs-on)
       (λ o e. fault-typed i n 33 (inr refl) (runs-on (λ w. offers≢idle o (sym e ∙ w))))
     where
-      runs-on : actOf p outcomes s n ≢ idle → Frames p (Fits ks (s .config .qubits)) [] (processAt (s .config) n .frames)
+      runs-on : actOf p outcomes s n ≢ idle
+          → Frames p (Fits ks (s .config .qubits)) [] (processAt (s .config) n .frames)
       runs-on = act-runs p k outcomes bytes s ks t n

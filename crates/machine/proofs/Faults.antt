@@ -1,5 +1,5 @@
--- A fault stops the process that its entry names and does nothing else; and whatever process is stopped, an entry that named
--- it faulted.
+-- A fault stops the process that its entry names and does nothing else; and whatever process is stopped, an entry that
+-- named it faulted.
 use Prim.Native.Nat.{ℕ, zero, suc, _+_, _≤_, _<_}
 use mathlib.Core.Path.{_≡_, refl, sym, _∙_, ap, subst}
 use mathlib.Core.Logic.{_≢_, _⊎_, inl, inr, ⊎-elim}
@@ -43,7 +43,8 @@ module _ (p outcomes : List ℕ) (s : State) (n f : ℕ) (would : faultOf p outc
 
   fault-made : n < length (s .config .processes)
   unfolding faultIn ableIn movesIn
-  fault-made = able-made p outcomes s n (ap (moves p outcomes s n) (fault-act (judged s n (actOf p outcomes s n)) f would))
+  fault-made =
+      able-made p outcomes s n (ap (moves p outcomes s n) (fault-act (judged s n (actOf p outcomes s n)) f would))
 
   pub fault-stops : (k : ℕ) → StoppedBy k n f s (afterEffect s (effectOf p outcomes k s n))
   unfolding afterEffect setProcess
@@ -70,14 +71,17 @@ ended-not : (f : ℕ) → finished ≡ stopped f → ⊥
 ended-not f e = let z : _≡_ {A = ℕ} 0 1 = cc in omega arith
 
 made-if : (c : Config) (n f : ℕ) → IsStopped c n f → n < length (c .processes)
-made-if c n f e = ⊎-elim (ltb-true n (length (c .processes))) (λ l. absurd (beyond (ltb-false n (length (c .processes)) l))) (decide (ltb n (length (c .processes))))
+made-if c n f e =
+    ⊎-elim (ltb-true n (length (c .processes))) (λ l. absurd (beyond (ltb-false n (length (c .processes)) l)))
+    (decide (ltb n (length (c .processes))))
   where
     beyond : length (c .processes) ≤ n → ⊥
     beyond l = ended-not f (sym (ap (λ (pr : Process). pr .status) (process-beyond c n l)) ∙ e)
 
 set-stopped : (c : Config) (m n : ℕ) (pr : Process) (f : ℕ) → IsStopped (setProcess c m pr) n f
     → IsStopped c n f ⊎ ((m ≡ n) × (pr .status ≡ stopped f))
-set-stopped c m n pr f e = ⊎-elim (λ i. inr (same (eqb-true n m i))) (λ i. inl (other (eqb-false n m i))) (decide (eqb n m))
+set-stopped c m n pr f e =
+    ⊎-elim (λ i. inr (same (eqb-true n m i))) (λ i. inl (other (eqb-false n m i))) (decide (eqb n m))
   where
     other : n ≢ m → IsStopped c n f
     other ne = sym (ap (λ (q : Process). q .status) (process-other c m n pr ne)) ∙ e
@@ -93,10 +97,12 @@ set-stopped c m n pr f e = ⊎-elim (λ i. inr (same (eqb-true n m i))) (λ i. i
     )
 
 -- a process set running, or finished, is not stopped
-set-going : (c : Config) (m n : ℕ) (pr : Process) (f : ℕ) → (pr .status ≡ stopped f → ⊥) → IsStopped (setProcess c m pr) n f → IsStopped c n f
+set-going : (c : Config) (m n : ℕ) (pr : Process) (f : ℕ) → (pr .status ≡ stopped f → ⊥)
+    → IsStopped (setProcess c m pr) n f → IsStopped c n f
 set-going c m n pr f going e = ⊎-elim (λ i. i) (λ i. absurd (going (i .1))) (set-stopped c m n pr f e)
 
-joined-stopped : (c : Config) (pr : Process) (n f : ℕ) → (pr .status ≡ stopped f → ⊥) → IsStopped (joined c pr) n f → IsStopped c n f
+joined-stopped : (c : Config) (pr : Process) (n f : ℕ) → (pr .status ≡ stopped f → ⊥) → IsStopped (joined c pr) n f
+    → IsStopped c n f
 joined-stopped c pr n f going e =
     ⊎-elim (λ l. old (ltb-true n (length (c .processes)) l)) (λ l. absurd (new (ltb-false n (length (c .processes)) l)))
     (decide (ltb n (length (c .processes))))
@@ -116,14 +122,16 @@ counted-stopped (qubit i) c n f e = e
 counted-stopped (channel i) c n f e = e
 counted-stopped (end i d) c n f e = e
 
-met-stopped : (p outcomes : List ℕ) (k : ℕ) (s : State) (o : Option Meeting) (n f : ℕ) → IsStopped (meetIfIn (tableMachine p outcomes) k s o .config) n f → IsStopped (s .config) n f
+met-stopped : (p outcomes : List ℕ) (k : ℕ) (s : State) (o : Option Meeting) (n f : ℕ)
+    → IsStopped (meetIfIn (tableMachine p outcomes) k s o .config) n f → IsStopped (s .config) n f
 unfolding meetIfIn meetIn
 met-stopped p outcomes k s none n f e = e
 met-stopped p outcomes k s (some w) n f e =
     set-going (s .config) (w .sender) n _ f (runs-not f) (set-going _ (w .receiver) n _ f (runs-not f) e)
 
 -- whoever is stopped after an entry was stopped before it, or is the process named, which faulted
-entry-stopped : (p outcomes : List ℕ) (k : ℕ) (s : State) (m n f : ℕ) → IsStopped (effectOf p outcomes k s m .config) n f
+entry-stopped : (p outcomes : List ℕ) (k : ℕ) (s : State) (m n f : ℕ)
+    → IsStopped (effectOf p outcomes k s m .config) n f
     → IsStopped (s .config) n f ⊎ ((m ≡ n) × (faultOf p outcomes s n ≡ some f))
 unfolding effectIn appliedIn forkingIn faultIn faulted
 entry-stopped p outcomes k s m n f e = go (judged s m (actOf p outcomes s m)) refl e
@@ -162,7 +170,8 @@ module _ (p outcomes : List ℕ) (room : ℕ) where
   unfolding runFromIn
   ends-or-takes s i n = go (allOver s) (noneAble p outcomes s) (fits room s (effectOf p outcomes i s n)) refl refl refl
     where
-      go : (a b c : Bool) → allOver s ≡ a → noneAble p outcomes s ≡ b → fits room s (effectOf p outcomes i s n) ≡ c → Ends s i n ⊎ Takes s i n
+      go : (a b c : Bool) → allOver s ≡ a → noneAble p outcomes s ≡ b → fits room s (effectOf p outcomes i s n) ≡ c
+          → Ends s i n ⊎ Takes s i n
       go true b c x y z = inl (λ rest. rw x (refl, refl))
       go false true c x y z = inl (λ rest. rw (x, y) (refl, refl))
       go false false true x y z = inr (λ rest. rw (x, y, z))
@@ -193,24 +202,28 @@ module _ (p outcomes : List ℕ) (room : ℕ) where
   taken-from (n ∷ schedule) s i (suc k) j e h =
       let t = taken s i n schedule (omega (arith, e)) in
       ap (λ (r : Result). r .state) (t (take (suc k) schedule))
-      ∙ taken-from schedule (next s i n) (suc i) k j (omega (arith, e)) (subst (λ (r : Result). j < r .entries) (t schedule) h)
+      ∙ taken-from schedule (next s i n) (suc i) k j (omega (arith, e))
+      (subst (λ (r : Result). j < r .entries) (t schedule) h)
       ∙ ap (λ (r : Result). next (r .state) j (getD schedule k 0)) (sym (t (take k schedule)))
 
-  -- whoever is stopped was stopped at the start, or is named by an entry before, which the run takes and at which it faults
+  -- whoever is stopped was stopped at the start, or is named by an entry before, which the run takes and at which it
+  -- faults
   abbrev FaultedBefore : List ℕ → State → ℕ → ℕ → ℕ → ℕ → Type 0
   FaultedBefore schedule s i k n f =
       (j : ℕ) × (j < k) × (i + j < from s i schedule .entries) × (getD schedule j 0 ≡ n)
       × (faultOf p outcomes (from s i (take j schedule) .state) n ≡ some f)
 
   module _ (m : ℕ) (schedule : List ℕ) (s : State) (i k n f : ℕ) (t : Takes s i m) where
-    at-once : IsStopped (next s i m .config) n f → IsStopped (s .config) n f ⊎ FaultedBefore (m ∷ schedule) s i (suc k) n f
+    at-once : IsStopped (next s i m .config) n f
+        → IsStopped (s .config) n f ⊎ FaultedBefore (m ∷ schedule) s i (suc k) n f
     unfolding afterEffect
     at-once e =
         ⊎-elim inl
         (λ w. inr (
           0,
           omega arith,
-          subst (λ (r : Result). i + 0 < r .entries) (sym (t schedule)) (omega (arith, entries-from (next s i m) (suc i) schedule)),
+          subst (λ (r : Result). i + 0 < r .entries) (sym (t schedule))
+              (omega (arith, entries-from (next s i m) (suc i) schedule)),
           w .0,
           subst (λ (x : State). faultOf p outcomes x n ≡ some f) (sym (stays s i)) (w .1),
         ))
@@ -225,7 +238,8 @@ module _ (p outcomes : List ℕ) (room : ℕ) where
       subst (λ (r : Result). faultOf p outcomes (r .state) n ≡ some f) (sym (t (take (w .0) schedule))) (w .4),
     )
 
-  stopped-from : (schedule : List ℕ) (s : State) (i k n f : ℕ) → IsStopped (from s i (take k schedule) .state .config) n f
+  stopped-from : (schedule : List ℕ) (s : State) (i k n f : ℕ)
+      → IsStopped (from s i (take k schedule) .state .config) n f
       → IsStopped (s .config) n f ⊎ FaultedBefore schedule s i k n f
   stopped-from [] s i zero n f e = inl (subst (λ (x : State). IsStopped (x .config) n f) (stays s i) e)
   stopped-from [] s i (suc k) n f e = inl (subst (λ (x : State). IsStopped (x .config) n f) (stays s i) e)
@@ -234,7 +248,8 @@ module _ (p outcomes : List ℕ) (room : ℕ) where
       ⊎-elim (λ h. inl (subst (λ (x : State). IsStopped (x .config) n f) (h (take k schedule) .0) e))
       (λ t.
       ⊎-elim (at-once m schedule s i k n f t) (λ w. inr (later m schedule s i k n f t w))
-      (stopped-from schedule (next s i m) (suc i) k n f (subst (λ (r : Result). IsStopped (r .state .config) n f) (t (take k schedule)) e)))
+      (stopped-from schedule (next s i m) (suc i) k n f
+      (subst (λ (r : Result). IsStopped (r .state .config) n f) (t (take k schedule)) e)))
       (ends-or-takes s i m)
 
   -- the two claims, of the run from its start

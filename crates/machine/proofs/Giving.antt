@@ -36,10 +36,13 @@ All-values P (f ∷ fs) a =
     (All-values P fs (a .1))
 
 -- whatever frames within ys reach is reached through ys
-pub frames-reach : (ys : List Value) (fs : List Frame) → FramesWithin ys fs → (x : Thing) → InReach (valuesOf fs) x → InReach ys x
+pub frames-reach : (ys : List Value) (fs : List Frame) → FramesWithin ys fs → (x : Thing) → InReach (valuesOf fs) x
+    → InReach ys x
 frames-reach ys fs h x r =
     any-elim (names x) (Within ys) (InReach ys x) (λ v w u. w x u) (valuesOf fs)
-    (All-values (Within ys) fs (All-implies (FrameWithin ys) (λ f. All (Within ys) (f .slots) × All (Within ys) (f .pending)) (λ f w. (w .slots, w .pending)) fs h))
+    (All-values (Within ys) fs
+    (All-implies (FrameWithin ys) (λ f. All (Within ys) (f .slots) × All (Within ys) (f .pending))
+    (λ f w. (w .slots, w .pending)) fs h))
     r
 
 -- the things among values within ys
@@ -59,7 +62,8 @@ things-cover (empty ∷ vs) x r = things-cover vs x r
 things-cover (int z ∷ vs) x r = things-cover vs x r
 things-cover (bool b ∷ vs) x r = things-cover vs x r
 things-cover (ref t ∷ vs) x r =
-    ⊎-elim (or-left (covers t x) (covered (thingsOf vs) x)) (λ u. or-right (covers t x) (covered (thingsOf vs) x) (things-cover vs x u))
+    ⊎-elim (or-left (covers t x) (covered (thingsOf vs) x))
+    (λ u. or-right (covers t x) (covered (thingsOf vs) x) (things-cover vs x u))
     (or-cases (covers t x) (any (names x) vs) r)
 
 -- the giver
@@ -69,14 +73,16 @@ abbrev Left : List Value → List Thing → Thing → Value → Type 0
 Left ys ts x v = T (names x v) → InReach ys x × (T (covered ts x) → ⊥)
 
 -- a given thing that covers what v reaches takes v with it
-lost-common : (ts : List Thing) (x : Thing) (v : Value) → T (names x v) → T (covered ts x) → T (any (λ t. lostWith t v) ts)
+lost-common : (ts : List Thing) (x : Thing) (v : Value) → T (names x v) → T (covered ts x)
+    → T (any (λ t. lostWith t v) ts)
 unfolding names lostWith
 lost-common ts x empty r c = absurd r
 lost-common ts x (int z) r c = absurd r
 lost-common ts x (bool b) r c = absurd r
 lost-common ts x (ref w) r c =
     any-mono (λ t. covers t x) (λ t. lostWith t (ref w))
-    (λ t u. ⊎-elim (or-left (covers t w) (covers w t)) (or-right (covers t w) (covers w t)) (covers-common t w x u r)) ts c
+    (λ t u. ⊎-elim (or-left (covers t w) (covers w t)) (or-right (covers t w) (covers w t)) (covers-common t w x u r))
+    ts c
 
 value-left : (ys : List Value) (ts : List Thing) (x : Thing) (v : Value) → Within ys v → Left ys ts x (without ts v)
 unfolding without names
@@ -88,7 +94,8 @@ pub giver-left : (ys : List Value) (ts : List Thing) (fs : List Frame) → Frame
     → InReach (valuesOf (framesWithout ts fs)) x → InReach ys x × (T (covered ts x) → ⊥)
 unfolding framesWithout frameWithout
 giver-left ys ts fs h x r =
-    any-elim (names x) (Left ys ts x) (InReach ys x × (T (covered ts x) → ⊥)) (λ v l u. l u) (valuesOf (framesWithout ts fs))
+    any-elim (names x) (Left ys ts x) (InReach ys x × (T (covered ts x) → ⊥)) (λ v l u. l u)
+    (valuesOf (framesWithout ts fs))
     (All-values (Left ys ts x) (framesWithout ts fs)
     (All-map (λ f. All (Left ys ts x) (f .slots) × All (Left ys ts x) (f .pending)) (frameWithout ts) fs
     (All-implies (FrameWithin ys) _ (λ f w. (each (f .slots) (w .slots), each (f .pending) (w .pending))) fs h)))
@@ -132,7 +139,8 @@ others-keep c ls named n m ts within ne x r =
 
 -- processes of a changed configuration
 
-pub process-same : (c : Config) (n : ℕ) (pr : Process) → n < length (c .processes) → processAt (setProcess c n pr) n ≡ pr
+pub process-same : (c : Config) (n : ℕ) (pr : Process) → n < length (c .processes)
+    → processAt (setProcess c n pr) n ≡ pr
 unfolding processAt setProcess
 process-same c n pr h = getD-set-same (c .processes) n pr unmade h
 
@@ -155,9 +163,11 @@ pub count-set : (c : Config) (n : ℕ) (pr : Process) → length (setProcess c n
 unfolding setProcess
 count-set c n pr = length-set (c .processes) n pr
 
-pub reach-set : (c : Config) (n : ℕ) (pr : Process) (m : ℕ) (x : Thing) → T (reaches (processAt (setProcess c n pr) m) x)
+pub reach-set : (c : Config) (n : ℕ) (pr : Process) (m : ℕ) (x : Thing)
+    → T (reaches (processAt (setProcess c n pr) m) x)
     → ((m ≡ n) × T (reaches pr x)) ⊎ ((m ≢ n) × T (reaches (processAt c m) x))
-reach-set c n pr m x r = ⊎-elim (λ e. inl (same (eqb-true m n e))) (λ e. inr (other (eqb-false m n e))) (decide (eqb m n))
+reach-set c n pr m x r =
+    ⊎-elim (λ e. inl (same (eqb-true m n e))) (λ e. inr (other (eqb-false m n e))) (decide (eqb m n))
   where
     other : m ≢ n → (m ≢ n) × T (reaches (processAt c m) x)
     other ne = (ne, subst (λ (q : Process). T (reaches q x)) (process-other c n m pr ne) r)
@@ -171,7 +181,8 @@ reach-set c n pr m x r = ⊎-elim (λ e. inl (same (eqb-true m n e))) (λ e. inr
     same : m ≡ n → (m ≡ n) × T (reaches pr x)
     same e = (e, subst (λ (q : Process). T (reaches q x)) (process-same c n pr (made e)) (here e))
 
-pub joined-old : (c : Config) (pr : Process) (m : ℕ) → m < length (c .processes) → processAt (joined c pr) m ≡ processAt c m
+pub joined-old : (c : Config) (pr : Process) (m : ℕ) → m < length (c .processes)
+    → processAt (joined c pr) m ≡ processAt c m
 unfolding processAt joined
 joined-old c pr m h = List·getD-append (c .processes) (pr ∷ []) unmade m h
 
@@ -179,7 +190,8 @@ pub joined-new : (c : Config) (pr : Process) → processAt (joined c pr) (length
 unfolding processAt joined
 joined-new c pr = getD-append-seam (c .processes) pr [] unmade
 
-pub joined-last : (c : Config) (pr : Process) (m : ℕ) → m < length (joined c pr .processes) → length (c .processes) ≤ m → m ≡ length (c .processes)
+pub joined-last : (c : Config) (pr : Process) (m : ℕ) → m < length (joined c pr .processes) → length (c .processes) ≤ m
+    → m ≡ length (c .processes)
 unfolding joined
 joined-last c pr m h k = omega (arith, length-append (c .processes) (pr ∷ []))
 

@@ -27,7 +27,8 @@ unfolding holder
 holder-append ls new x = foldl-append (holderAfter x) none ls new
 
 -- a line of no making and no giving leaves every holder
-pub holder-kept : (x : Thing) (h : Option ℕ) (l : Line) → l .kind ≢ 1 → l .kind ≢ 2 → l .kind ≢ 6 → holderAfter x h l ≡ h
+pub holder-kept : (x : Thing) (h : Option ℕ) (l : Line) → l .kind ≢ 1 → l .kind ≢ 2 → l .kind ≢ 6
+    → holderAfter x h l ≡ h
 unfolding holderAfter
 holder-kept x h l a b c = rw (ne-eqb (l .kind) 1 a, ne-eqb (l .kind) 2 b, ne-eqb (l .kind) 6 c)
 
@@ -84,7 +85,8 @@ abbrev pub LinesHeld : List Line → List Line → Type 0
 LinesHeld = EachLine LineHeld
 
 -- a line that is no gate, no measurement, no giving and no meeting asks for nothing
-pub line-free : (above : List Line) (l : Line) → l .kind ≢ 3 → l .kind ≢ 4 → l .kind ≢ 6 → l .kind ≢ 7 → LineHeld above l
+pub line-free : (above : List Line) (l : Line) → l .kind ≢ 3 → l .kind ≢ 4 → l .kind ≢ 6 → l .kind ≢ 7
+    → LineHeld above l
 line-free above l a b c d = record {
   gate = λ e. absurd (a e);
   measurement = λ e. absurd (b e);
@@ -110,8 +112,8 @@ lines-quiet ys above k n (e ∷ es) held a = (
       (a .1),
 )
 
--- the lines of givings by process n to q, and of what follows a meeting's line: whatever is given, n held by the lines of
--- the entries before, and by those directly above n holds it still or q already
+-- the lines of givings by process n to q, and of what follows a meeting's line: whatever is given, n held by the lines
+-- of the entries before, and by those directly above n holds it still or q already
 
 pub record Givable (above : List Line) (k n q : ℕ) (x : Thing) : Type 0 where
   pub two : n ≢ q
@@ -126,7 +128,9 @@ givable-more above k n q l x e after g = record {
   two = g .two;
   giver = rw (before-own k above l e) (g .giver);
   above-it =
-      ⊎-elim (λ i. ⊎-elim (λ h. inl (holder-append above (l ∷ []) x ∙ i ∙ h)) (λ h. inr (holder-append above (l ∷ []) x ∙ i ∙ h)) (g .above-it))
+      ⊎-elim
+      (λ i. ⊎-elim (λ h. inl (holder-append above (l ∷ []) x ∙ i ∙ h))
+      (λ h. inr (holder-append above (l ∷ []) x ∙ i ∙ h)) (g .above-it))
       (λ i. inr (holder-append above (l ∷ []) x ∙ i)) after;
 }
 
@@ -152,7 +156,8 @@ line-gave above k n q t g = record {
   };
 }
 
-pub lines-given : (above : List Line) (k n q : ℕ) (ts : List Thing) → ((x : Thing) → T (covered ts x) → Givable above k n q x)
+pub lines-given : (above : List Line) (k n q : ℕ) (ts : List Thing)
+    → ((x : Thing) → T (covered ts x) → Givable above k n q x)
     → LinesHeld above (map (lineOf k n) (map (gave q) ts))
 lines-given above k n q [] g = tt
 lines-given above k n q (t ∷ ts) g = (
@@ -165,14 +170,19 @@ lines-given above k n q (t ∷ ts) g = (
         ⊎ (holderAfter x (holder above x) (lineOf k n (gave q t)) ≡ some q)
     after x = rw (holder-gave x (holder above x) k n q t) (either (covers t x))
       where
-        either : (b : Bool) → (cond b (some q) (holder above x) ≡ holder above x) ⊎ (cond b (some q) (holder above x) ≡ some q)
+        either : (b : Bool)
+            → (cond b (some q) (holder above x) ≡ holder above x) ⊎ (cond b (some q) (holder above x) ≡ some q)
         either true = inr refl
         either false = inl refl
 
-pub lines-handing : (above : List Line) (k n q : ℕ) (v : Value) → ((x : Thing) → T (covered (thingsOf (v ∷ [])) x) → Givable above k n q x)
+pub lines-handing : (above : List Line) (k n q : ℕ) (v : Value)
+    → ((x : Thing) → T (covered (thingsOf (v ∷ [])) x) → Givable above k n q x)
     → LinesHeld above (map (lineOf k n) (handing q v))
 unfolding handing thingsOf
-lines-handing above k n q empty g = (line-free above (lineOf k n (passed empty)) (omega arith) (omega arith) (omega arith) (omega arith), tt)
-lines-handing above k n q (int z) g = (line-free above (lineOf k n (passed (int z))) (omega arith) (omega arith) (omega arith) (omega arith), tt)
-lines-handing above k n q (bool b) g = (line-free above (lineOf k n (passed (bool b))) (omega arith) (omega arith) (omega arith) (omega arith), tt)
+lines-handing above k n q empty g =
+    (line-free above (lineOf k n (passed empty)) (omega arith) (omega arith) (omega arith) (omega arith), tt)
+lines-handing above k n q (int z) g =
+    (line-free above (lineOf k n (passed (int z))) (omega arith) (omega arith) (omega arith) (omega arith), tt)
+lines-handing above k n q (bool b) g =
+    (line-free above (lineOf k n (passed (bool b))) (omega arith) (omega arith) (omega arith) (omega arith), tt)
 lines-handing above k n q (ref t) g = lines-given above k n q (t ∷ []) g

@@ -1,5 +1,5 @@
--- Laws of the lines of a trace: a law of each by the lines above it; and their entry numbers: the lines of an entry bear its
--- number, so that those so far are of the entries before it.
+-- Laws of the lines of a trace: a law of each by the lines above it; and their entry numbers: the lines of an entry
+-- bear its number, so that those so far are of the entries before it.
 use Prim.Native.Nat.{ℕ, zero, suc, _<_}
 use mathlib.Core.Path.{_≡_, refl, sym, ap, ap₂, subst}
 use mathlib.Core.Bool.{Bool, cond}
@@ -23,7 +23,8 @@ EachLine P above [] = Unit {0}
 EachLine P above (l ∷ ls) = P above l × EachLine P (above ++ (l ∷ [])) ls
 
 module _ (P : List Line → Line → Type 0) where
-  pub each-append : (above xs ys : List Line) → EachLine P above xs → EachLine P (above ++ xs) ys → EachLine P above (xs ++ ys)
+  pub each-append : (above xs ys : List Line) → EachLine P above xs → EachLine P (above ++ xs) ys
+      → EachLine P above (xs ++ ys)
   each-append above [] ys a b = subst (λ (ls : List Line). EachLine P ls ys) (append-nil above) b
   each-append above (x ∷ xs) ys a b = (
     a .0,
@@ -31,7 +32,8 @@ module _ (P : List Line → Line → Type 0) where
         (subst (λ (ls : List Line). EachLine P ls ys) (sym (append-assoc above (x ∷ []) xs)) b),
   )
 
-  pub each-at : (above ls : List Line) → EachLine P above ls → (i : ℕ) → i < length ls → P (above ++ take i ls) (getD ls i noLine)
+  pub each-at : (above ls : List Line) → EachLine P above ls → (i : ℕ) → i < length ls
+      → P (above ++ take i ls) (getD ls i noLine)
   each-at above [] a i h = absurd (not-suc-le-zero h)
   each-at above (l ∷ ls) a zero h = subst (λ (xs : List Line). P xs l) (sym (append-nil above)) (a .0)
   each-at above (l ∷ ls) a (suc i) h =

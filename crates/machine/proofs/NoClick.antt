@@ -1,10 +1,10 @@
 -- Paper 3: "A run without any 2 gives what it gave before."
 --
 -- What moved is the bound of question 6: byte 2 was refused and is now an outcome. Document 01's rule of MEAS knows the
--- outcomes 0 and 1 alone. For an outcome list of 0s and 1s the questions answer as they did (`asked-before`), every process
--- would do what it would by that rule (`acts-before`), and so the run, with its lines, counts, end and configuration, is the
--- same one (`ran-before`), and the answer too (`answered-before`). A byte 2 is told apart: there question 6 said no, and says
--- yes now (`two-allowed`).
+-- outcomes 0 and 1 alone. For an outcome list of 0s and 1s the questions answer as they did (`asked-before`), every
+-- process would do what it would by that rule (`acts-before`), and so the run, with its lines, counts, end and
+-- configuration, is the same one (`ran-before`), and the answer too (`answered-before`). A byte 2 is told apart: there
+-- question 6 said no, and says yes now (`two-allowed`).
 use Prim.Native.Nat.{ℕ, _≤_}
 use mathlib.Core.Path.{_≡_, refl, sym, _∙_, ap, ap₂}
 use mathlib.Core.Logic.{⊎-elim}
@@ -40,13 +40,20 @@ meas-before a h = by-value (operand a 0)
   where
     by-outcome : (q : ℕ) (os : List ℕ) → NoTwo os
         → withOutcome os (λ o. goes (push (int (pos o)) (a .frame) ∷ a .callers) (measured q o ∷ []) 1)
-        ≡ withOutcome os (λ o. cond (leb o 1) (goes (push (int (pos o)) (a .frame) ∷ a .callers) (measured q o ∷ []) 1) stuck)
+        ≡ withOutcome os
+        (λ o. cond (leb o 1) (goes (push (int (pos o)) (a .frame) ∷ a .callers) (measured q o ∷ []) 1) stuck)
     by-outcome q [] h = refl
-    by-outcome q (o ∷ os) h = sym (ap (λ (b : Bool). cond b (goes (push (int (pos o)) (a .frame) ∷ a .callers) (measured q o ∷ []) 1) stuck) (le-leb o 1 (h .0)))
+    by-outcome q (o ∷ os) h =
+        sym
+        (ap (λ (b : Bool). cond b (goes (push (int (pos o)) (a .frame) ∷ a .callers) (measured q o ∷ []) 1) stuck)
+        (le-leb o 1 (h .0)))
 
     by-value : (v : Value)
-        → asQubit v (λ q. withOutcome (a .outcomes) (λ o. goes (push (int (pos o)) (a .frame) ∷ a .callers) (measured q o ∷ []) 1))
-        ≡ asQubit v (λ q. withOutcome (a .outcomes) (λ o. cond (leb o 1) (goes (push (int (pos o)) (a .frame) ∷ a .callers) (measured q o ∷ []) 1) stuck))
+        → asQubit v
+        (λ q. withOutcome (a .outcomes) (λ o. goes (push (int (pos o)) (a .frame) ∷ a .callers) (measured q o ∷ []) 1))
+        ≡ asQubit v
+        (λ q. withOutcome (a .outcomes)
+        (λ o. cond (leb o 1) (goes (push (int (pos o)) (a .frame) ∷ a .callers) (measured q o ∷ []) 1) stuck))
     by-value empty = refl
     by-value (int z) = refl
     by-value (bool b) = refl
@@ -75,7 +82,9 @@ module _ (p outcomes : List ℕ) (h : NoTwo outcomes) where
   unfolding atFrames atFramesBefore atFrame atFrameBefore sceneOf
   frames-before s [] = refl
   frames-before s (f ∷ fs) =
-      ap (λ (x : Act). cond (leb (takenAt p (f .place)) (length (f .pending))) (cond (any isEmpty (take (takenAt p (f .place)) (f .pending))) (faults 20) x) stuck)
+      ap
+      (λ (x : Act). cond (leb (takenAt p (f .place)) (length (f .pending)))
+      (cond (any isEmpty (take (takenAt p (f .place)) (f .pending))) (faults 20) x) stuck)
       (doing-before (opAt p (f .place)) (sceneOf p outcomes s f fs) (All-drop (λ o. o ≤ 1) (s .used) outcomes h))
 
   pub acts-before : (s : State) (n : ℕ) → actOf p outcomes s n ≡ actBefore p outcomes s n
@@ -95,15 +104,20 @@ module _ (p outcomes : List ℕ) (h : NoTwo outcomes) where
       let small : getD outcomes i 0 ≤ 1 = All-getD (λ o. o ≤ 1) outcomes i 0 h (omega arith) in
       le-leb (getD outcomes i 0) 2 (omega (arith, small)) ∙ sym (le-leb (getD outcomes i 0) 1 small)
 
-  pub asked-before : (schedule : List ℕ) (words : ℕ) → questions p schedule outcomes words ≡ questionsBefore p schedule outcomes words
+  pub asked-before : (schedule : List ℕ) (words : ℕ)
+      → questions p schedule outcomes words ≡ questionsBefore p schedule outcomes words
   unfolding questions questionsBefore question6 question6Before
   asked-before schedule words =
-      ap (λ (test : ℕ → Bool). andThen (tableQuestions p) (andThen (firstOf 6 test (length outcomes)) (andThen (question7 schedule) (question8 words))))
+      ap
+      (λ (test : ℕ → Bool). andThen (tableQuestions p)
+      (andThen (firstOf 6 test (length outcomes)) (andThen (question7 schedule) (question8 words))))
       (λ i j. passes-both j i)
 
-  pub answered-before : (schedule : List ℕ) (room words : ℕ) → answerOf p schedule outcomes room words ≡ answerBefore p schedule outcomes room words
+  pub answered-before : (schedule : List ℕ) (room words : ℕ)
+      → answerOf p schedule outcomes room words ≡ answerBefore p schedule outcomes room words
   unfolding answerOf answerBefore
-  answered-before schedule room words = ap₂ (λ (v : Verdict) (r : Result). unlessRefused v r) (asked-before schedule words) (ran-before room schedule)
+  answered-before schedule room words =
+      ap₂ (λ (v : Verdict) (r : Result). unlessRefused v r) (asked-before schedule words) (ran-before room schedule)
 
 pub two-allowed : (question6Before (2 ∷ []) ≡ refused 6 0) × (question6 (2 ∷ []) ≡ accepted)
 unfolding question6Before table-opened

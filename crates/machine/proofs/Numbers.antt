@@ -1,5 +1,5 @@
--- Numbers are given out in order: the counts of a configuration are the numbers of lines that made a qubit, a channel or a
--- process, so that every line of a making names a new one.
+-- Numbers are given out in order: the counts of a configuration are the numbers of lines that made a qubit, a channel
+-- or a process, so that every line of a making names a new one.
 use Prim.Native.Nat.{ℕ, suc, _+_}
 use mathlib.Core.Path.{_≡_, refl, sym, _∙_, ap, subst}
 use mathlib.Core.Logic.{_≢_}
@@ -49,7 +49,8 @@ count-none j k n (e ∷ es) a = rw (ne-eqb (e .kind) j (a .0)) (count-none j k n
 
 -- entries that make nothing
 
-plain-new : (above : List Line) (k n : ℕ) (es : List Event) → All Plain es → EachLine LineNew above (map (lineOf k n) es)
+plain-new : (above : List Line) (k n : ℕ) (es : List Event) → All Plain es
+    → EachLine LineNew above (map (lineOf k n) es)
 plain-new above k n [] a = tt
 plain-new above k n (e ∷ es) a = (
   record { qubit = λ i. absurd (a .0 .0 i); channel = λ i. absurd (a .0 .1 i); child = λ i. absurd (a .0 .2 i) },
@@ -142,11 +143,13 @@ nothing-new : (c : Config) (ls : List Line) → Numbered c ls → Numbered c (ls
 nothing-new c ls h = rw append-nil h
 
 numbered-met : (p outcomes : List ℕ) (k : ℕ) (s : State) (o : Option Meeting) → Numbered (s .config) (s .lines)
-    → Numbered (meetIfIn (tableMachine p outcomes) k s o .config) (s .lines ++ meetIfIn (tableMachine p outcomes) k s o .lines)
+    → Numbered (meetIfIn (tableMachine p outcomes) k s o .config)
+    (s .lines ++ meetIfIn (tableMachine p outcomes) k s o .lines)
 unfolding meetIfIn meetIn
 numbered-met p outcomes k s none h = nothing-new (s .config) (s .lines) h
 numbered-met p outcomes k s (some e) h =
-    numbered-plain _ (s .lines) k (e .sender) (met (e .receiver) (e .channel) (e .side) ∷ handing (e .receiver) (e .value))
+    numbered-plain _ (s .lines) k (e .sender)
+    (met (e .receiver) (e .channel) (e .side) ∷ handing (e .receiver) (e .value))
     ((omega arith, omega arith, omega arith), handing-plain (e .receiver) (e .value))
     (numbered-set _ (s .lines) (e .receiver) _ (numbered-set (s .config) (s .lines) (e .sender) _ h))
 
@@ -167,9 +170,12 @@ applied-numbered p outcomes k s n h ends w =
 applied-numbered p outcomes k s n h (makes t fs) w =
     numbered-making _ (s .lines) k n t (w .0) (numbered-set (s .config) (s .lines) n (runs fs) h)
 applied-numbered p outcomes k s n h (forks m args fs) w =
-    subst (Numbered _) (append-assoc (s .lines) (lineOf k n (forked child m (length args)) ∷ []) (map (lineOf k n) (map (gave child) (thingsOf args))))
+    subst (Numbered _)
+    (append-assoc (s .lines) (lineOf k n (forked child m (length args)) ∷ [])
+    (map (lineOf k n) (map (gave child) (thingsOf args))))
     (numbered-plain _ _ k n (map (gave child) (thingsOf args)) (gave-plain child (thingsOf args))
-    (numbered-fork _ (s .lines) k n child m (length args) _ (sym (count-set (s .config) n _)) (numbered-set (s .config) (s .lines) n _ h)))
+    (numbered-fork _ (s .lines) k n child m (length args) _ (sym (count-set (s .config) n _))
+    (numbered-set (s .config) (s .lines) n _ h)))
   where
     child : ℕ
     child = length (s .config .processes)

@@ -1,7 +1,7 @@
 -- Demand 3 over the whole schedule. The invariant: whatever a process reaches, the lines so far name it as holder, and
 -- it was made; every line is lawful by the lines above it; and numbers are given out in order (Numbers.antt). One lemma
--- carries reach and holders over any entry: whatever the entry did, some things went to one process by its lines, and beyond
--- them nobody reaches more than before.
+-- carries reach and holders over any entry: whatever the entry did, some things went to one process by its lines, and
+-- beyond them nobody reaches more than before.
 use Prim.Native.Nat.{ℕ, zero, suc, _<_}
 use mathlib.Core.Path.{_≡_, refl, sym, _∙_, ap, subst}
 use mathlib.Core.Logic.{_≢_, _⊎_, inl, inr, ⊎-elim}
@@ -61,7 +61,8 @@ choice-false : (b : Bool) (h g : Option ℕ) → (T b → ⊥) → cond b g h �
 choice-false true h g f = absurd (f tt)
 choice-false false h g f = refl
 
-choice-some : (b : Bool) (h : Option ℕ) (q : ℕ) → ((r : ℕ) × (h ≡ some r)) ⊎ T b → (r : ℕ) × (cond b (some q) h ≡ some r)
+choice-some : (b : Bool) (h : Option ℕ) (q : ℕ) → ((r : ℕ) × (h ≡ some r)) ⊎ T b
+    → (r : ℕ) × (cond b (some q) h ≡ some r)
 choice-some true h q w = (q, refl)
 choice-some false h q (inl w) = w
 choice-some false h q (inr t) = absurd t
@@ -85,7 +86,8 @@ moved-keeps c c′ ls new q ts v h = record {
         → cond (covered ts x) (some q) (holder ls x) ≡ some n
     stayed x n o =
         ⊎-elim
-        (λ e. choice-same (covered ts x) (holder ls x) q (h .named x n (o .0) ∙ ap {B = Option ℕ} some e) ∙ ap {B = Option ℕ} some (sym e))
+        (λ e. choice-same (covered ts x) (holder ls x) q (h .named x n (o .0) ∙ ap {B = Option ℕ} some e)
+        ∙ ap {B = Option ℕ} some (sym e))
         (λ f. choice-false (covered ts x) (holder ls x) (some q) f ∙ h .named x n (o .0))
         (o .1)
 
@@ -137,7 +139,8 @@ module _ (c : Config) (ls : List Line) (h : Kept c ls) (k n : ℕ) where
     reach = λ m x r.
         inr (
           ⊎-elim
-              (λ g. subst (λ (i : ℕ). T (reaches (processAt c i) x)) (sym (g .0)) (frames-reach own (pr .frames) w x (g .1)))
+              (λ g. subst (λ (i : ℕ). T (reaches (processAt c i) x)) (sym (g .0))
+              (frames-reach own (pr .frames) w x (g .1)))
               (λ g. g .1)
               (reach-set c n pr m x r),
           inr (λ b. b),
@@ -220,9 +223,12 @@ module _ (c : Config) (ls : List Line) (h : Kept c ls) (k n : ℕ) where
 
   line-making : (t : Thing) → LineHeld ls (lineOf k n (making t))
   unfolding making
-  line-making (qubit a) = line-free ls (lineOf k n (making (qubit a))) (omega arith) (omega arith) (omega arith) (omega arith)
-  line-making (channel a) = line-free ls (lineOf k n (making (channel a))) (omega arith) (omega arith) (omega arith) (omega arith)
-  line-making (end a s) = line-free ls (lineOf k n (making (end a s))) (omega arith) (omega arith) (omega arith) (omega arith)
+  line-making (qubit a) =
+      line-free ls (lineOf k n (making (qubit a))) (omega arith) (omega arith) (omega arith) (omega arith)
+  line-making (channel a) =
+      line-free ls (lineOf k n (making (channel a))) (omega arith) (omega arith) (omega arith) (omega arith)
+  line-making (end a s) =
+      line-free ls (lineOf k n (making (end a s))) (omega arith) (omega arith) (omega arith) (omega arith)
 
   moved-making : (t : Thing) (fs : List Frame) → Next (c .qubits) (c .channels) t → FramesWithin (ref t ∷ own) fs
       → Moved c (counted t (setProcess c n (runs fs))) ls (lineOf k n (making t) ∷ []) n (t ∷ [])
@@ -263,7 +269,8 @@ module _ (c : Config) (ls : List Line) (h : Kept c ls) (k n : ℕ) where
       (reach-set c n (runs (framesWithout ts fs)) m x r)
 
   -- what is given was held by the giver, and was made
-  given-held : (ts : List Thing) → All (λ t. Within own (ref t)) ts → (x : Thing) → T (covered ts x) → T (reaches (processAt c n) x)
+  given-held : (ts : List Thing) → All (λ t. Within own (ref t)) ts → (x : Thing) → T (covered ts x)
+      → T (reaches (processAt c n) x)
   unfolding names reaches
   given-held ts ht x b =
       any-elim (λ t. covers t x) (λ t. Within own (ref t)) (T (reaches (processAt c n) x)) (λ t w u. w x u) ts ht b
@@ -272,7 +279,8 @@ module _ (c : Config) (ls : List Line) (h : Kept c ls) (k n : ℕ) where
   given-made ts ht x b = h .made x n (given-held ts ht x b)
 
   -- after the first line of the entry, which moves no holder, process n may give to another whatever is covered
-  givable : Dated k ls → (q : ℕ) (ts : List Thing) → (n < length (c .processes) → n ≢ q) → All (λ t. Within own (ref t)) ts
+  givable : Dated k ls → (q : ℕ) (ts : List Thing) → (n < length (c .processes) → n ≢ q)
+      → All (λ t. Within own (ref t)) ts
       → (e : Event) → e .kind ≢ 1 → e .kind ≢ 2 → e .kind ≢ 6 → (x : Thing) → T (covered ts x)
       → Givable (ls ++ (lineOf k n e ∷ [])) k n q x
   givable dated q ts two ht e i j l x b =
@@ -317,7 +325,8 @@ module _ (c : Config) (ls : List Line) (h : Kept c ls) (k n : ℕ) where
       child : ℕ
       child = length (c .processes)
 
-      still : (x : Thing) → Made c x → Made (joined (setProcess c n (runs (framesWithout ts fs))) (runs (started p m args ∷ []))) x
+      still : (x : Thing) → Made c x
+          → Made (joined (setProcess c n (runs (framesWithout ts fs))) (runs (started p m args ∷ []))) x
       still x e =
           still-joined (setProcess c n (runs (framesWithout ts fs))) (runs (started p m args ∷ [])) x
           (still-set c n (runs (framesWithout ts fs)) x e)
@@ -351,7 +360,8 @@ module _ (c : Config) (ls : List Line) (h : Kept c ls) (k n : ℕ) where
         ⊎-elim (λ u. inl (g .0, u))
         (λ u. inr (subst (λ (i : ℕ). T (reaches (processAt c i) x)) (sym (g .0)) u, inl (g .0)))
         (receiver-reach (valuesOf (processAt c q .frames)) v gs (hr .1) x (g .1)))
-        (λ g. let l = reach-giver ts fs (things-within own (v ∷ []) (hs .1, tt)) (hs .2) m x (g .1) in inr (l .0, inr (l .1)))
+        (λ g. let l = reach-giver ts fs (things-within own (v ∷ []) (hs .1, tt)) (hs .2) m x (g .1) in inr
+        (l .0, inr (l .1)))
         (reach-set c₁ q (runs (pushTop v gs)) m x r);
     still = still;
     fresh = λ x b. still x (given-made ts (things-within own (v ∷ []) (hs .1, tt)) x b);
@@ -381,8 +391,12 @@ module _ (c : Config) (ls : List Line) (h : Kept c ls) (k n : ℕ) where
 
 record Joined (c : Config) (e : Meeting) : Type 0 where
   two : e .sender ≢ e .receiver
-  sending : OfferWithin (valuesOf (processAt c (e .sender) .frames)) (sends (e .channel) (e .side) (e .value) (e .senderFrames))
-  receiving : OfferWithin (valuesOf (processAt c (e .receiver) .frames)) (receives (e .channel) (not (e .side)) (e .receiverFrames))
+  sending :
+      OfferWithin (valuesOf (processAt c (e .sender) .frames))
+      (sends (e .channel) (e .side) (e .value) (e .senderFrames))
+  receiving :
+      OfferWithin (valuesOf (processAt c (e .receiver) .frames))
+      (receives (e .channel) (not (e .side)) (e .receiverFrames))
 
 pub cond-some : (b : Bool) (x e : Meeting) → cond b (some x) none ≡ some e → T b × (x ≡ e)
 cond-some true x e h = (tt, Option·some-injective x e h)
@@ -400,7 +414,8 @@ opposite c c′ d d′ t =
     turned false true t = refl
     turned false false t = absurd t
 
-joins-within : (c : Config) (n q : ℕ) (o r : Offer) (e : Meeting) → n ≢ q → OfferWithin (valuesOf (processAt c n .frames)) o
+joins-within : (c : Config) (n q : ℕ) (o r : Offer) (e : Meeting) → n ≢ q
+    → OfferWithin (valuesOf (processAt c n .frames)) o
     → OfferWithin (valuesOf (processAt c q .frames)) r → joins n o q r ≡ some e → Joined c e
 unfolding joins
 joins-within c n q (sends a d v fs) (sends a′ d′ w gs) e ne ho hr h = absurd (Option·none-ne-some e h)
@@ -441,7 +456,8 @@ meets-offer n q o (forks m args fs) e h = absurd (Option·none-ne-some e h)
 meets-offer n q o (offers r) e h = (r, refl, h)
 
 meeting-joined : (p outcomes : List ℕ) (s : State) (n : ℕ) (o : Offer) (e : Meeting)
-    → OfferWithin (valuesOf (processAt (s .config) n .frames)) o → meetingOf p outcomes s n o ≡ some e → Joined (s .config) e
+    → OfferWithin (valuesOf (processAt (s .config) n .frames)) o → meetingOf p outcomes s n o ≡ some e
+    → Joined (s .config) e
 unfolding meetingIn
 meeting-joined p outcomes s n o e ho h = found (firstSome-found _ (length (s .config .processes)) e h)
   where
@@ -449,14 +465,18 @@ meeting-joined p outcomes s n o e ho h = found (firstSome-found _ (length (s .co
     partner q ne m =
         let w = meets-offer n q o (actOf p outcomes s q) e m in
         joins-within (s .config) n q o (w .0) e (λ i. ne (sym i)) ho
-        (subst (ActWithin (valuesOf (processAt (s .config) q .frames)) (s .config .qubits) (s .config .channels)) (w .1) (act-within p outcomes s q))
+        (subst (ActWithin (valuesOf (processAt (s .config) q .frames)) (s .config .qubits) (s .config .channels)) (w .1)
+        (act-within p outcomes s q))
         (w .2)
 
-    tested : (q : ℕ) (b : Bool) → eqb q n ≡ b → cond b none (meetsWith n o q (offered (actOf p outcomes s q))) ≡ some e → Joined (s .config) e
+    tested : (q : ℕ) (b : Bool) → eqb q n ≡ b → cond b none (meetsWith n o q (offered (actOf p outcomes s q))) ≡ some e
+        → Joined (s .config) e
     tested q true i m = absurd (Option·none-ne-some e m)
     tested q false i m = partner q (eqb-false q n i) m
 
-    found : (q : ℕ) × (q < length (s .config .processes)) × (cond (eqb q n) none (meetsWith n o q (offered (actOf p outcomes s q))) ≡ some e) → Joined (s .config) e
+    found :
+        (q : ℕ) × (q < length (s .config .processes)) ×
+        (cond (eqb q n) none (meetsWith n o q (offered (actOf p outcomes s q))) ≡ some e) → Joined (s .config) e
     found w = tested (w .0) (eqb (w .0) n) refl (w .2)
 
 -- every entry
@@ -485,7 +505,8 @@ quiet-finishes ys = record {
   measurement = λ e. absurd (omega arith);
 }
 
-moved-met : (p outcomes : List ℕ) (k : ℕ) (s : State) (o : Option Meeting) → Dated k (s .lines) → Kept (s .config) (s .lines)
+moved-met : (p outcomes : List ℕ) (k : ℕ) (s : State) (o : Option Meeting) → Dated k (s .lines)
+    → Kept (s .config) (s .lines)
     → ((e : Meeting) → o ≡ some e → Joined (s .config) e) → SomeMoved s (meetIfIn (tableMachine p outcomes) k s o)
 unfolding meetIfIn meetIn
 moved-met p outcomes k s none dated h j = (0, [], moved-nothing (s .config) (s .lines))
@@ -493,11 +514,13 @@ moved-met p outcomes k s (some e) dated h j =
     let w = j e refl in (
       e .receiver,
       thingsOf (e .value ∷ []),
-      moved-meeting (s .config) (s .lines) h k (e .sender) dated (e .receiver) (e .channel) (e .side) (e .value) (e .senderFrames) (e .receiverFrames)
+      moved-meeting (s .config) (s .lines) h k (e .sender) dated (e .receiver) (e .channel) (e .side) (e .value)
+          (e .senderFrames) (e .receiverFrames)
           (w .two) (w .sending) (w .receiving),
     )
 
-applied-moved : (p outcomes : List ℕ) (k : ℕ) (s : State) (n : ℕ) → Dated k (s .lines) → Kept (s .config) (s .lines) → (act : Act)
+applied-moved : (p outcomes : List ℕ) (k : ℕ) (s : State) (n : ℕ) → Dated k (s .lines) → Kept (s .config) (s .lines)
+    → (act : Act)
     → ActWithin (valuesOf (processAt (s .config) n .frames)) (s .config .qubits) (s .config .channels) act
     → SomeMoved s (applied p outcomes k s n act)
 unfolding appliedIn forkingIn
@@ -533,7 +556,8 @@ pub entry-kept : (p outcomes : List ℕ) (k : ℕ) (s : State) (n : ℕ) → Dat
 unfolding effectIn
 entry-kept p outcomes k s n dated h =
     let w = applied-moved p outcomes k s n dated h (judged s n (actOf p outcomes s n)) (judged-within p outcomes s n) in
-    moved-keeps (s .config) (effectOf p outcomes k s n .config) (s .lines) (effectOf p outcomes k s n .lines) (w .0) (w .1) (w .2) h
+    moved-keeps (s .config) (effectOf p outcomes k s n .config) (s .lines) (effectOf p outcomes k s n .lines) (w .0)
+    (w .1) (w .2) h
 
 -- the run
 
@@ -569,7 +593,8 @@ record Fine (k : ℕ) (s : State) : Type 0 where
   kept : Kept (s .config) (s .lines)
   numbered : Numbered (s .config) (s .lines)
 
-entry-fine : (p outcomes : List ℕ) (k : ℕ) (s : State) (n : ℕ) → Fine k s → Fine (suc k) (afterEffect s (effectOf p outcomes k s n))
+entry-fine : (p outcomes : List ℕ) (k : ℕ) (s : State) (n : ℕ) → Fine k s
+    → Fine (suc k) (afterEffect s (effectOf p outcomes k s n))
 unfolding afterEffect
 entry-fine p outcomes k s n h = record {
   dated = dated-next k (s .lines) (effectOf p outcomes k s n .lines) (h .dated) (effect-of p outcomes k s n);

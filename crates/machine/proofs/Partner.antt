@@ -22,14 +22,17 @@ use Rattle.machine.proofs.Giving.{process-beyond}
 use Rattle.machine.proofs.Ownership.{Kept, cond-some, opposite, meets-offer}
 
 -- whoever meets the offer reaches that end
-partner-reaches : (c : Config) (n q : ℕ) (o r : Offer) (e : Meeting) → OfferWithin (valuesOf (processAt c q .frames)) r → joins n o q r ≡ some e
+partner-reaches : (c : Config) (n q : ℕ) (o r : Offer) (e : Meeting) → OfferWithin (valuesOf (processAt c q .frames)) r
+    → joins n o q r ≡ some e
     → InReach (valuesOf (processAt c q .frames)) (oppositeEnd o)
 unfolding joins
 partner-reaches c n q (sends a d v fs) (sends a′ d′ w gs) e hr h = absurd (Option·none-ne-some e h)
 partner-reaches c n q (sends a d v fs) (receives a′ d′ gs) e hr h =
-    subst (InReach (valuesOf (processAt c q .frames))) (sym (opposite a a′ d d′ (cond-some (eqb a a′ && Bool·beq d (not d′)) _ e h .0))) (hr .0)
+    subst (InReach (valuesOf (processAt c q .frames)))
+    (sym (opposite a a′ d d′ (cond-some (eqb a a′ && Bool·beq d (not d′)) _ e h .0))) (hr .0)
 partner-reaches c n q (receives a d fs) (sends a′ d′ w gs) e hr h =
-    subst (InReach (valuesOf (processAt c q .frames))) (sym (opposite a a′ d d′ (cond-some (eqb a a′ && Bool·beq d (not d′)) _ e h .0))) (hr .0)
+    subst (InReach (valuesOf (processAt c q .frames)))
+    (sym (opposite a a′ d d′ (cond-some (eqb a a′ && Bool·beq d (not d′)) _ e h .0))) (hr .0)
 partner-reaches c n q (receives a d fs) (receives a′ d′ gs) e hr h = absurd (Option·none-ne-some e h)
 
 -- an answer given at no index, and at one alone
@@ -43,11 +46,13 @@ unfolding orElse
 else-none none = refl
 else-none (some a) = refl
 
-first-only : {A : Type 0} (f : ℕ → Option A) (n h : ℕ) → ((q : ℕ) → q < n → q ≢ h → f q ≡ none) → (n ≤ h → f h ≡ none) → firstSome f n ≡ f h
+first-only : {A : Type 0} (f : ℕ → Option A) (n h : ℕ) → ((q : ℕ) → q < n → q ≢ h → f q ≡ none) → (n ≤ h → f h ≡ none)
+    → firstSome f n ≡ f h
 unfolding firstSome orElse
 first-only f zero h others out = sym (out (omega arith))
 first-only f (suc n) h others out =
-    ⊎-elim (λ t. here (eqb-true h n t)) (λ t. elsewhere (eqb-false h n t) (first-only f n h (λ q l. others q (omega arith)))) (decide (eqb h n))
+    ⊎-elim (λ t. here (eqb-true h n t))
+    (λ t. elsewhere (eqb-false h n t) (first-only f n h (λ q l. others q (omega arith)))) (decide (eqb h n))
   where
     here : h ≡ n → orElse (firstSome f n) (f n) ≡ f h
     here e =
@@ -64,7 +69,8 @@ first-only f (suc n) h others out =
         past l = ⊎-elim (λ t. ltb-true n h t) (λ t. absurd (ne (omega (arith, l, ltb-false n h t)))) (decide (ltb n h))
 
 -- a process that is not made does nothing
-pub unmade-idle : (p outcomes : List ℕ) (s : State) (q : ℕ) → length (s .config .processes) ≤ q → actOf p outcomes s q ≡ idle
+pub unmade-idle : (p outcomes : List ℕ) (s : State) (q : ℕ) → length (s .config .processes) ≤ q
+    → actOf p outcomes s q ≡ idle
 unfolding actOf byStatus
 unmade-idle p outcomes s q h =
     ap (λ (pr : Process). byStatus (pr .status) (atFrames p outcomes s (pr .frames))) (process-beyond (s .config) q h)
@@ -80,7 +86,8 @@ module _ (p outcomes : List ℕ) (s : State) (kept : Kept (s .config) (s .lines)
       let w = meets-offer n q o (actOf p outcomes s q) e m in
       held q (kept .named (oppositeEnd o) q
       (partner-reaches (s .config) n q o (w .0) e
-      (subst (ActWithin (valuesOf (processAt (s .config) q .frames)) (s .config .qubits) (s .config .channels)) (w .1) (act-within p outcomes s q))
+      (subst (ActWithin (valuesOf (processAt (s .config) q .frames)) (s .config .qubits) (s .config .channels)) (w .1)
+      (act-within p outcomes s q))
       (w .2)))
 
   others-none : (q : ℕ) → q ≢ h → tried q ≡ none
@@ -96,7 +103,9 @@ module _ (p outcomes : List ℕ) (s : State) (kept : Kept (s .config) (s .lines)
 
   unmade-none : length (s .config .processes) ≤ h → tried h ≡ none
   unfolding meetsWith offered
-  unmade-none l = ap (λ (a : Act). cond (eqb h n) none (meetsWith n o h (offered a))) (unmade-idle p outcomes s h l) ∙ both (eqb h n)
+  unmade-none l =
+      ap (λ (a : Act). cond (eqb h n) none (meetsWith n o h (offered a))) (unmade-idle p outcomes s h l)
+      ∙ both (eqb h n)
     where
       both : (b : Bool) → cond {A = Option Meeting} b none none ≡ none
       both true = refl

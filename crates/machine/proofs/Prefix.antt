@@ -30,7 +30,8 @@ module _ (p outcomes : List ℕ) (room : ℕ) where
   asked false false false s k n rest rest′ e = refl
 
   run-snoc : (s : State) (k : ℕ) (schedule : List ℕ) (n : ℕ)
-      → runFrom p outcomes room s k (schedule ++ (n ∷ [])) ≡ followed p outcomes room (runFrom p outcomes room s k schedule) n
+      → runFrom p outcomes room s k (schedule ++ (n ∷ [])) ≡ followed p outcomes room
+      (runFrom p outcomes room s k schedule) n
   unfolding runFromIn followedIn
   run-snoc s k [] n = last-asked (allOver s) (noneAble p outcomes s) s k n
   run-snoc s k (m ∷ schedule) n =

@@ -26,7 +26,8 @@ pub record Stack (p : List ℕ) (c : Config) (f : Frame) (fs : List Frame) : Typ
   pub sound : All (FrameSound p c) (f ∷ fs)
   pub deep : length fs < 8
 
-abbrev pub stacked : {p : List ℕ} {c : Config} {f : Frame} {fs : List Frame} → Kept p → All (FrameSound p c) (f ∷ fs) → length fs < 8 → Stack p c f fs
+abbrev pub stacked : {p : List ℕ} {c : Config} {f : Frame} {fs : List Frame} → Kept p → All (FrameSound p c) (f ∷ fs)
+    → length fs < 8 → Stack p c f fs
 stacked kept sound deep = record { kept = kept; sound = sound; deep = deep }
 
 -- The same where f is the top frame: it stands at an instruction whose argument is a 16-bit word.
@@ -34,7 +35,8 @@ pub record AtWork (p : List ℕ) (c : Config) (f : Frame) (fs : List Frame) : Ty
   pub stack : Stack p c f fs
   pub small : argAt p (f .place) < 65536
 
-abbrev pub busy-at : {p outcomes : List ℕ} {s : State} → Reached p outcomes s → {f : Frame} {fs : List Frame} → All (FrameSound p (s .config)) (f ∷ fs)
+abbrev pub busy-at : {p outcomes : List ℕ} {s : State} → Reached p outcomes s → {f : Frame} {fs : List Frame}
+    → All (FrameSound p (s .config)) (f ∷ fs)
     → length fs < 8 → AtWork p (s .config) f fs
 busy-at r {f} sound deep = record { stack = stacked (r .kept) sound deep; small = r .narrow (f .place) }
 

@@ -31,7 +31,8 @@ main-takes-none p k = ap (λ n. take n (slotTypes p 0)) (k .main-params)
 pub start-typed : (p : List ℕ) → Kept p → ConfigTyped p [] (start p .config)
 unfolding startWith startConfigWith
 start-typed p k =
-    let main = started-typed p k {R = Fits [] 0} (λ t. tt) 0 [] (k .sizes .methods-some) (rw (main-takes-none p k) nil) in
+    let main =
+    started-typed p k {R = Fits [] 0} (λ t. tt) 0 [] (k .sizes .methods-some) (rw (main-takes-none p k) nil) in
     record {
       channels = refl;
       channelCount = omega arith;
@@ -44,7 +45,8 @@ module _ (p : List ℕ) (k : Kept p) (outcomes : List ℕ) (bytes : All (λ o. o
   run-typed : (schedule : List ℕ) → Typed p (run p outcomes room schedule .state .config)
   unfolding runIn afterEffect
   run-typed schedule =
-      run-keeps p outcomes room (λ i s. Typed p (s .config)) (λ i s n h. effect-typed p k outcomes bytes s (h .0) (h .1) i n)
+      run-keeps p outcomes room (λ i s. Typed p (s .config))
+      (λ i s n h. effect-typed p k outcomes bytes s (h .0) (h .1) i n)
       (start p) 0 schedule ([], start-typed p k)
 
 -- From typed to sound
@@ -103,7 +105,8 @@ module _ (p : List ℕ) (k : Kept p) (ks : List ℕ) (c : Config) (t : ConfigTyp
     qubitCount = t .qubitCount;
     channelCount = t .channelCount;
     processes =
-        All-implies (ProcessTyped p (Fits ks (c .qubits))) (ProcessSound p c) (λ pr. process-sound (pr .status) (pr .frames))
+        All-implies (ProcessTyped p (Fits ks (c .qubits))) (ProcessSound p c)
+        (λ pr. process-sound (pr .status) (pr .frames))
         (c .processes) (t .processes);
   }
 

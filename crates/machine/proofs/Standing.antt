@@ -38,13 +38,15 @@ module _ (p : List ℕ) (k : Kept p) {R : Value → ℕ → Type 0} (f : Frame) 
 
   operands-enough : takenAt p (f .place) ≤ length (f .pending)
   operands-enough =
-      rw (both-length pending-fits) (given-operands p (f .place) (before p (f .place)) (reading .given) (reading .finds))
+      rw (both-length pending-fits)
+      (given-operands p (f .place) (before p (f .place)) (reading .given) (reading .finds))
 
   left-fits : Both R (drop (takenAt p (f .place)) (f .pending)) (drop (takenAt p (f .place)) (before p (f .place)))
   left-fits = both-drop (takenAt p (f .place)) pending-fits
 
   -- after the instruction the frame is owed what the instruction gives
-  passed-typed : opThere p (f .place) .closes ≡ false → FrameTyped p R (reading .given) (passedBy (takenAt p (f .place)) f)
+  passed-typed : opThere p (f .place) .closes ≡ false
+      → FrameTyped p R (reading .given) (passedBy (takenAt p (f .place)) f)
   unfolding passedBy
   passed-typed e =
       let next = inside-next p k (h .place) e in
@@ -59,7 +61,8 @@ module _ (p : List ℕ) (k : Kept p) {R : Value → ℕ → Type 0} (f : Frame) 
       }
 
   -- at a jump's target it is owed nothing
-  landed-typed : T (opThere p (f .place) .jumps && opThere p (f .place) .bare) → argAt p (f .place) < lengthOf p (f .method)
+  landed-typed : T (opThere p (f .place) .jumps && opThere p (f .place) .bare)
+      → argAt p (f .place) < lengthOf p (f .method)
       → FrameTyped p R [] (atPlace (offsetOf p (f .method) + argAt p (f .place)) (passedBy (takenAt p (f .place)) f))
   unfolding passedBy
   landed-typed t l =

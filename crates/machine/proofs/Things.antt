@@ -65,4 +65,6 @@ covers-common (end a t) (end b r) (end c s) p q =
     inl
     (and-both (eqb a b) (Bool·beq t r)
     (eqb-common a b c (and-left (eqb a c) (Bool·beq t s) p) (and-left (eqb b c) (Bool·beq r s) q))
-    (subst (λ (o : Bool). T (Bool·beq t o)) (beq-eq t s (and-right (eqb a c) (Bool·beq t s) p) ∙ sym (beq-eq r s (and-right (eqb b c) (Bool·beq r s) q))) (beq-refl t)))
+    (subst (λ (o : Bool). T (Bool·beq t o))
+    (beq-eq t s (and-right (eqb a c) (Bool·beq t s) p) ∙ sym (beq-eq r s (and-right (eqb b c) (Bool·beq r s) q)))
+    (beq-refl t)))

@@ -48,7 +48,8 @@ fits-more-qubits ks q (int z) t h = h
 fits-more-qubits ks q (bool b) t h = h
 fits-more-qubits ks q (ref u) t h = thing-more-qubits ks q u t h
 
-thing-more-channels : (ks : List ℕ) (k q : ℕ) (u : Thing) (t : ℕ) → ThingFits ks q u t → ThingFits (ks ++ (k ∷ [])) q u t
+thing-more-channels : (ks : List ℕ) (k q : ℕ) (u : Thing) (t : ℕ) → ThingFits ks q u t
+    → ThingFits (ks ++ (k ∷ [])) q u t
 thing-more-channels ks k q (qubit n) t h = h
 thing-more-channels ks k q (channel n) t h =
     rw (List·getD-append ks (k ∷ []) 0 n (h .1), length-append) (h .0, omega arith, h .2)
@@ -101,7 +102,8 @@ pub frames-pay : {p : List ℕ} {R : Value → ℕ → Type 0} {owed : List ℕ}
 frames-pay h b = record { stack = (frame-pay (h .stack .0) b, h .stack .1); depth = h .depth }
 
 -- a slot of the top frame gets a value that fits
-pub frames-slot : {p : List ℕ} {R : Value → ℕ → Type 0} {owed : List ℕ} {f : Frame} {fs : List Frame} {v : Value} (s : ℕ)
+pub frames-slot :
+    {p : List ℕ} {R : Value → ℕ → Type 0} {owed : List ℕ} {f : Frame} {fs : List Frame} {v : Value} (s : ℕ)
     → Frames p R owed (f ∷ fs) → R v (getD (slotTypes p (f .method)) s 0) → Frames p R owed (withSlot s v f ∷ fs)
 frames-slot s h r =
     let top = h .stack .0 in
@@ -147,7 +149,8 @@ module _ (p : List ℕ) {R S : Value → ℕ → Type 0} where
     pending = both-implies g (h .pending);
   }
 
-  callers-implies : ((v : Value) (t : ℕ) → R v t → S v t) → (m : ℕ) (fs : List Frame) → Callers p R m fs → Callers p S m fs
+  callers-implies : ((v : Value) (t : ℕ) → R v t → S v t) → (m : ℕ) (fs : List Frame) → Callers p R m fs
+      → Callers p S m fs
   callers-implies g m [] h = tt
   callers-implies g m (f ∷ fs) h = (frame-implies g (h .0), callers-implies g (f .method) fs (h .1))
 

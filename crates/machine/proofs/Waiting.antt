@@ -1,5 +1,5 @@
--- A process that waits waits for another one that runs and that the lines name as holder of the opposite end; so at end 2 every
--- process that runs does.
+-- A process that waits waits for another one that runs and that the lines name as holder of the opposite end; so at end
+-- 2 every process that runs does.
 use Prim.Native.Nat.{ℕ, suc, _≤_, _<_}
 use mathlib.Core.Path.{_≡_, refl, sym, _∙_, ap, subst}
 use mathlib.Core.Logic.{_≢_, ⊎-elim}
@@ -46,7 +46,8 @@ or-false-right : (a b : Bool) → (a || b) ≡ false → b ≡ false
 or-false-right true b e = absurd (true≢false e)
 or-false-right false b e = e
 
-not-gone : (s : State) (n : ℕ) (o : Offer) (q : ℕ) → Holds (s .lines) q (oppositeEnd o) → gone s n o ≡ false → WaitsFor s n o
+not-gone : (s : State) (n : ℕ) (o : Offer) (q : ℕ) → Holds (s .lines) q (oppositeEnd o) → gone s n o ≡ false
+    → WaitsFor s n o
 unfolding gone isGone
 not-gone s n o q h g =
     let e : (eqb q n || isOver (processAt (s .config) q)) ≡ false = sym (ap (isGone (s .config) n) h) ∙ g in
@@ -58,17 +59,24 @@ not-gone s n o q h g =
     }
 
 -- an offer that does not move is not of a partner that has gone
-waits-not-gone : (p outcomes : List ℕ) (s : State) (n : ℕ) (o : Offer) → actOf p outcomes s n ≡ offers o → able p outcomes s n ≡ false
+waits-not-gone : (p outcomes : List ℕ) (s : State) (n : ℕ) (o : Offer) → actOf p outcomes s n ≡ offers o
+    → able p outcomes s n ≡ false
     → gone s n o ≡ false
 unfolding ableIn movesIn judged
 waits-not-gone p outcomes s n o a e =
     ⊎-elim
-    (λ t. absurd (true≢false (sym (ap (λ (x : Act). moves p outcomes s n (judged s n x)) a ∙ ap (λ (b : Bool). moves p outcomes s n (cond b (faults 33) (offers o))) t) ∙ e)))
+    (λ t. absurd
+    (true≢false
+    (sym
+    (ap (λ (x : Act). moves p outcomes s n (judged s n x)) a
+    ∙ ap (λ (b : Bool). moves p outcomes s n (cond b (faults 33) (offers o))) t)
+    ∙ e)))
     (λ f. f)
     (decide (gone s n o))
 
 -- the end opposite to one in reach was made
-opposite-made : (c : Config) (n : ℕ) (ls : List Line) (o : Offer) → Kept c ls → OfferWithin (valuesOf (processAt c n .frames)) o → Made c (oppositeEnd o)
+opposite-made : (c : Config) (n : ℕ) (ls : List Line) (o : Offer) → Kept c ls
+    → OfferWithin (valuesOf (processAt c n .frames)) o → Made c (oppositeEnd o)
 unfolding reaches
 opposite-made c n ls (sends i d v fs) h w = h .made (end i d) n (w .0)
 opposite-made c n ls (receives i d fs) h w = h .made (end i d) n (w .0)
@@ -76,21 +84,26 @@ opposite-made c n ls (receives i d fs) h w = h .made (end i d) n (w .0)
 module _ (p outcomes : List ℕ) (s : State) (h : Kept (s .config) (s .lines)) where
   pub waits-for : (n : ℕ) (o : Offer) → actOf p outcomes s n ≡ offers o → able p outcomes s n ≡ false → WaitsFor s n o
   waits-for n o a e =
-      let within = subst (ActWithin (valuesOf (processAt (s .config) n .frames)) (s .config .qubits) (s .config .channels)) a (act-within p outcomes s n) in
+      let within =
+      subst (ActWithin (valuesOf (processAt (s .config) n .frames)) (s .config .qubits) (s .config .channels)) a
+      (act-within p outcomes s n) in
       let (q, held) = h .held (oppositeEnd o) (opposite-made (s .config) n (s .lines) o h within) in
       not-gone s n o q held (waits-not-gone p outcomes s n o a e)
 
 running-made : (c : Config) (n : ℕ) → processAt c n .status ≡ running → n < length (c .processes)
 running-made c n e =
     ⊎-elim (ltb-true n (length (c .processes)))
-    (λ l. absurd (finished≢running (sym (ap (λ (pr : Process). pr .status) (process-beyond c n (ltb-false n (length (c .processes)) l))) ∙ e)))
+    (λ l. absurd
+    (finished≢running
+    (sym (ap (λ (pr : Process). pr .status) (process-beyond c n (ltb-false n (length (c .processes)) l))) ∙ e)))
     (decide (ltb n (length (c .processes))))
   where
     finished≢running : finished ≡ running → ⊥
     finished≢running i = let z : _≡_ {A = ℕ} 0 1 = cc in omega arith
 
 -- a process that runs is not idle by its instruction
-pub running-busy : (p outcomes : List ℕ) (s : State) (n : ℕ) → processAt (s .config) n .status ≡ running → Busy (actOf p outcomes s n)
+pub running-busy : (p outcomes : List ℕ) (s : State) (n : ℕ) → processAt (s .config) n .status ≡ running
+    → Busy (actOf p outcomes s n)
 unfolding actOf byStatus
 running-busy p outcomes s n e =
     subst (λ (st : Status). Busy (byStatus st (atFrames p outcomes s (processAt (s .config) n .frames)))) (sym e)
@@ -136,18 +149,21 @@ module _ (p outcomes : List ℕ) (room : ℕ) (schedule : List ℕ) where
   abbrev last : State
   last = run p outcomes room schedule .state
 
-  none-able : run p outcomes room schedule .end ≡ 2 → (n : ℕ) → n < length (last .config .processes) → able p outcomes last n ≡ false
+  none-able : run p outcomes room schedule .end ≡ 2 → (n : ℕ) → n < length (last .config .processes)
+      → able p outcomes last n ≡ false
   unfolding runIn noneAbleIn
   none-able e n l =
       ⊎-elim
       (λ t. absurd (true≢false (sym (stuck-from (start p) 0 schedule e)
-      ∙ ap not {x = any (able p outcomes last) (below (length (last .config .processes)))} (passed _ (any-below (able p outcomes last) (length (last .config .processes)) n l (passes t))))))
+      ∙ ap not {x = any (able p outcomes last) (below (length (last .config .processes)))}
+      (passed _ (any-below (able p outcomes last) (length (last .config .processes)) n l (passes t))))))
       (λ f. f)
       (decide (able p outcomes last n))
 
   -- at end 2 every process that runs waits for another that runs
   pub all-wait : Accepted p → All (λ o. o ≤ 2) outcomes → run p outcomes room schedule .end ≡ 2 → (n : ℕ)
-      → processAt (last .config) n .status ≡ running → (o : Offer) × (actOf p outcomes last n ≡ offers o) × WaitsFor last n o
+      → processAt (last .config) n .status ≡ running
+      → (o : Offer) × (actOf p outcomes last n ≡ offers o) × WaitsFor last n o
   unfolding ableIn movesIn judged
   all-wait accepted bytes e n r = go (actOf p outcomes last n) refl
     where
@@ -157,7 +173,8 @@ module _ (p outcomes : List ℕ) (room : ℕ) (schedule : List ℕ) where
       moved : (act : Act) → actOf p outcomes last n ≡ act → moves p outcomes last n (judged last n act) ≡ false
       moved act i = sym (ap (λ (x : Act). moves p outcomes last n (judged last n x)) i) ∙ unable
 
-      go : (act : Act) → actOf p outcomes last n ≡ act → (o : Offer) × (actOf p outcomes last n ≡ offers o) × WaitsFor last n o
+      go : (act : Act) → actOf p outcomes last n ≡ act
+          → (o : Offer) × (actOf p outcomes last n ≡ offers o) × WaitsFor last n o
       go idle i = absurd (subst Busy i (running-busy p outcomes last n r))
       go stuck i = absurd (sound p outcomes room schedule accepted bytes .going n i)
       go (faults f) i = absurd (true≢false (moved (faults f) i))

@@ -218,7 +218,8 @@ module _ (ys : List Value) (a : At) (h : SceneWithin ys a) where
   unfolding doGateOne
   fine-gate-one small =
       on-qubit Fine tt (operand a 0) _
-      (λ q e. fine-event (a .frame) (gatedOne (a .argument) q) 0 (h .frame) (gate-one ys (a .argument) q small (operand-thing 0 (qubit q) e)))
+      (λ q e. fine-event (a .frame) (gatedOne (a .argument) q) 0 (h .frame)
+      (gate-one ys (a .argument) q small (operand-thing 0 (qubit q) e)))
 
   fine-gate-two : Fine (doGateTwo a)
   unfolding doGateTwo
@@ -299,14 +300,16 @@ unfolding doCall
 keeps-call ys a h =
     cond-both (Fine ys a h) (ltb (suc (length (a .callers))) 8) (
       (
-        frame-started ys (a .program) (a .argument) (reverse (a .operands)) (All-reverse (Within ys) (a .operands) (h .operands)),
+        frame-started ys (a .program) (a .argument) (reverse (a .operands))
+            (All-reverse (Within ys) (a .operands) (h .operands)),
         (h .frame, h .callers),
       ),
       tt,
     )
     tt
 
-keeps-return : (ys : List Value) (qs cs : ℕ) (vs : List Value) (fs : List Frame) → All (Within ys) vs → FramesWithin ys fs
+keeps-return : (ys : List Value) (qs cs : ℕ) (vs : List Value) (fs : List Frame) → All (Within ys) vs
+    → FramesWithin ys fs
     → ActWithin ys qs cs (returnTo vs fs)
 keeps-return ys qs cs vs [] hv hf = tt
 keeps-return ys qs cs vs (f ∷ fs) hv hf =
@@ -437,7 +440,8 @@ all-own (x ∷ xs) zs sub = (
   all-own xs zs (λ t u. sub t (or-right (names t x) (any (names t) xs) u)),
 )
 
-pub frames-own : (fs : List Frame) (zs : List Value) → ((t : Thing) → InReach (valuesOf fs) t → InReach zs t) → FramesWithin zs fs
+pub frames-own : (fs : List Frame) (zs : List Value) → ((t : Thing) → InReach (valuesOf fs) t → InReach zs t)
+    → FramesWithin zs fs
 unfolding valuesOf
 frames-own [] zs sub = tt
 frames-own (f ∷ fs) zs sub = (
@@ -471,7 +475,8 @@ at-frames-within p outcomes s [] = tt
 at-frames-within p outcomes s (f ∷ fs) =
     cond-both Kept (leb (takenAt p (f .place)) (length (f .pending)))
     (cond-both Kept (any isEmpty (take (takenAt p (f .place)) (f .pending))) tt
-    (All-getD Keeps doings (opAt p (f .place)) doNothing keeps keeps-nothing (valuesOf (f ∷ fs)) (sceneOf p outcomes s f fs)
+    (All-getD Keeps doings (opAt p (f .place)) doNothing keeps keeps-nothing (valuesOf (f ∷ fs))
+    (sceneOf p outcomes s f fs)
     (scene-within p outcomes s f fs (valuesOf (f ∷ fs)) (frames-own (f ∷ fs) (valuesOf (f ∷ fs)) (λ t u. u)))))
     tt
   where
@@ -487,7 +492,8 @@ by-status P i (stopped n) act h = i
 
 -- the act of process n keeps within what it reaches
 pub act-within : (p outcomes : List ℕ) (s : State) (n : ℕ)
-    → ActWithin (valuesOf (processAt (s .config) n .frames)) (s .config .qubits) (s .config .channels) (actOf p outcomes s n)
+    → ActWithin (valuesOf (processAt (s .config) n .frames)) (s .config .qubits) (s .config .channels)
+    (actOf p outcomes s n)
 unfolding actOf
 act-within p outcomes s n =
     by-status
@@ -499,7 +505,8 @@ act-within p outcomes s n =
 
 -- and so does fault 33, which judging may make of it
 pub judged-within : (p outcomes : List ℕ) (s : State) (n : ℕ)
-    → ActWithin (valuesOf (processAt (s .config) n .frames)) (s .config .qubits) (s .config .channels) (judged s n (actOf p outcomes s n))
+    → ActWithin (valuesOf (processAt (s .config) n .frames)) (s .config .qubits) (s .config .channels)
+    (judged s n (actOf p outcomes s n))
 judged-within p outcomes s n =
     judged-keeps (ActWithin (valuesOf (processAt (s .config) n .frames)) (s .config .qubits) (s .config .channels)) s n
     (actOf p outcomes s n) (act-within p outcomes s n) (λ o e. tt)

@@ -178,11 +178,12 @@ pub record Cases : Type 0 where
   -- P10 GET q, GET q, CALL of a method that forks q away and returns a new qubit, CX: 20
   pub p10 : answer givenDuringCall (replicate 11 0) [] ≡ ran 0 11 5 0
   pub p10-line : lastLine givenDuringCall (replicate 11 0) [] 4 ≡ 10 ∷ 0 ∷ 10 ∷ 20 ∷ 65535 ∷ 65535 ∷ []
-  -- P11 main forks a child with end 1, the child returns, main stands at SEND: main is able to move since Paper 6, so the
-  -- schedule is used up
+  -- P11 main forks a child with end 1, the child returns, main stands at SEND: main is able to move since Paper 6, so
+  -- the schedule is used up
   pub p11 : answer sendToGone (replicate 8 0 ++ (1 ∷ 0 ∷ 0 ∷ [])) [] ≡ ran 0 11 4 0
   -- "Case P11, with one more entry of main, now ends with main stopped and end 1"
   pub p11-gone : answer sendToGone (replicate 8 0 ++ (1 ∷ 0 ∷ 0 ∷ 0 ∷ [])) [] ≡ ran 1 12 5 0
-  pub p11-line : lastLine sendToGone (replicate 8 0 ++ (1 ∷ 0 ∷ 0 ∷ 0 ∷ [])) [] 4 ≡ 11 ∷ 0 ∷ 10 ∷ 33 ∷ 65535 ∷ 65535 ∷ []
+  pub p11-line :
+      lastLine sendToGone (replicate 8 0 ++ (1 ∷ 0 ∷ 0 ∷ 0 ∷ [])) [] 4 ≡ 11 ∷ 0 ∷ 10 ∷ 33 ∷ 65535 ∷ 65535 ∷ []
   -- P12 outcome byte 2: 6; by Paper 3 "Question 6 and case P12 move to byte 3"
   pub p12 : answer workedTable workedSchedule (3 ∷ []) ≡ refusal 6 0

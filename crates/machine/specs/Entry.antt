@@ -1,6 +1,6 @@
 -- One entry of the schedule: giving away, meeting, and what the named process's act does to the configuration and to
--- the trace. The rules are for any machine, that is for any type of frames with what a process would do there; the machine
--- of a program table stands at the end, and the names without `In` are its own.
+-- the trace. The rules are for any machine, that is for any type of frames with what a process would do there; the
+-- machine of a program table stands at the end, and the names without `In` are its own.
 use Prim.Native.Nat.{ℕ, suc}
 use mathlib.Core.Bool.{Bool, true, false, cond, _&&_, _||_, not, Bool·beq}
 use mathlib.Core.List.{List, [], _∷_, _++_, map}
@@ -103,8 +103,8 @@ abbrev pub oppositeEnd : {F : Type 0} → OfferOf F → Thing
 oppositeEnd (sends c d v fs) = end c (not d)
 oppositeEnd (receives c d fs) = end c (not d)
 
--- Paper 6, of process n, where h is the holder of the opposite end: "the opposite end's holder is itself, has finished or
--- has stopped"
+-- Paper 6, of process n, where h is the holder of the opposite end: "the opposite end's holder is itself, has finished
+-- or has stopped"
 unfoldable pub isGone : {F : Type 0} → ConfigOf F → ℕ → Option ℕ → Bool
 isGone c n none = false
 isGone c n (some h) = eqb h n || isOver (processAt c h)
@@ -113,8 +113,9 @@ isGone c n (some h) = eqb h n || isOver (processAt c h)
 unfoldable pub gone : {F : Type 0} → StateOf F → ℕ → OfferOf F → Bool
 gone s n o = isGone (s .config) n (holder (s .lines) (oppositeEnd o))
 
--- What process n would do, a partner that has gone considered: "33 when a process stands at SEND or RECV with its operands
--- present and the opposite end's holder is itself, has finished or has stopped, judged after fault 20 and before waiting".
+-- What process n would do, a partner that has gone considered: "33 when a process stands at SEND or RECV with its
+-- operands present and the opposite end's holder is itself, has finished or has stopped, judged after fault 20 and
+-- before waiting".
 unfoldable pub judged : {F : Type 0} → StateOf F → ℕ → ActOf F → ActOf F
 judged s n idle = idle
 judged s n stuck = stuck

@@ -80,7 +80,7 @@ pub record Examples : Type 0 where
       ≡ 10 ∷ 1 ∷ 10 ∷ 20 ∷ 65535 ∷ 65535 ∷ 11 ∷ 0 ∷ 10 ∷ 33 ∷ 65535 ∷ 65535 ∷ []
   -- a holder that runs and reaches the end no more has not gone: main waits
   pub unreached : answer keptUnreached (toReceive ++ (0 ∷ 1 ∷ [])) [] ≡ ran 0 12 3 0
-  -- by the lines directly above the second of them the child holds the qubit and not the giver, process 0, who holds it by
-  -- the lines of the entries before
+  -- by the lines directly above the second of them the child holds the qubit and not the giver, process 0, who holds it
+  -- by the lines of the entries before
   pub twice-above : holder aboveSecond (qubit 0) ≡ some 1
   pub twice-before : holder (linesBefore 3 aboveSecond) (qubit 0) ≡ some 0

@@ -7,10 +7,12 @@ use mathlib.Core.List.{[], _∷_, _++_}
 use lib.ListN.{length}
 use Rattle.machine.specs.State.{stopped, State, processAt}
 
--- "Faults stop the process, which keeps all slots and pending values as they were before the entry, and use no outcome":
--- from the state before entry k to the one after it, process n was stopped by fault f, and nothing else was done.
+-- "Faults stop the process, which keeps all slots and pending values as they were before the entry, and use no
+-- outcome": from the state before entry k to the one after it, process n was stopped by fault f, and nothing else was
+-- done.
 pub record StoppedBy (k n f : ℕ) (before after : State) : Type 0 where
-  pub process : processAt (after .config) n ≡ record { status = stopped f; frames = processAt (before .config) n .frames }
+  pub process :
+      processAt (after .config) n ≡ record { status = stopped f; frames = processAt (before .config) n .frames }
   pub others : (m : ℕ) → m ≢ n → processAt (after .config) m ≡ processAt (before .config) m
   -- nothing is made
   pub processes : length (after .config .processes) ≡ length (before .config .processes)

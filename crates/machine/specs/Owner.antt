@@ -71,9 +71,10 @@ pub record MeetingHeld (ls : List Line) (l : Line) : Type 0 where
   pub sender : Holds ls (l .process) (end (l .b) (sideOf (l .c)))
   pub receiver : Holds ls (l .a) (end (l .b) (not (sideOf (l .c))))
 
--- One FORK may give a thing twice, or a channel and then an end of it ("all taken off first, so the child has every one"),
--- so that the line directly above may have given the thing already. Its giver holds it, a channel with its ends, by the
--- lines of the entries before; by the lines directly above it is held by the giver still, or by the receiver already.
+-- One FORK may give a thing twice, or a channel and then an end of it ("all taken off first, so the child has every
+-- one"), so that the line directly above may have given the thing already. Its giver holds it, a channel with its ends,
+-- by the lines of the entries before; by the lines directly above it is held by the giver still, or by the receiver
+-- already.
 pub record GivingHeld (ls : List Line) (l : Line) : Type 0 where
   pub two : l .process ≢ l .a
   pub thing : Thing
@@ -87,8 +88,8 @@ pub record LineHeld (ls : List Line) (l : Line) : Type 0 where
   pub meeting : l .kind ≡ 7 → MeetingHeld ls l
   pub giving : l .kind ≡ 6 → GivingHeld ls l
 
--- "A new process, qubit or channel takes the count of those made before it as its number; no number is used again", by the
--- lines above. Process 0 has no line.
+-- "A new process, qubit or channel takes the count of those made before it as its number; no number is used again", by
+-- the lines above. Process 0 has no line.
 pub record LineNew (ls : List Line) (l : Line) : Type 0 where
   pub qubit : l .kind ≡ 1 → l .a ≡ countKind 1 ls
   pub channel : l .kind ≡ 2 → l .a ≡ countKind 2 ls

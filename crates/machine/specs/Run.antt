@@ -1,5 +1,5 @@
--- The run: the four ends, and the entries of a schedule one after the other. As in Entry.antt, the rules are for any machine;
--- the run of a program table stands at the end.
+-- The run: the four ends, and the entries of a schedule one after the other. As in Entry.antt, the rules are for any
+-- machine; the run of a program table stands at the end.
 use Prim.Native.Nat.{ℕ, suc, _+_}
 use mathlib.Core.Bool.{Bool, cond, not}
 use mathlib.Core.List.{List, [], _∷_, _++_}

@@ -21,8 +21,8 @@ pub data Status : Type 0 where
   finished : Status
   stopped : ℕ → Status
 
--- A process's frames, the top frame first. Processes, configurations and states are for any type F of frames: 01's rules
--- of entries, meetings, faults and ends do not look into a frame. `Frame` is that of a program table.
+-- A process's frames, the top frame first. Processes, configurations and states are for any type F of frames: 01's
+-- rules of entries, meetings, faults and ends do not look into a frame. `Frame` is that of a program table.
 pub record ProcessOf (F : Type 0) : Type 0 where
   pub status : Status
   pub frames : List F

@@ -68,7 +68,8 @@ module _ {p outcomes : List ℕ} {s : State} (reached : Reached p outcomes s) (r
   -- stands
 
   stand-process : (st : Status) (fs : List Frame) → ProcessSound p config (record { status = st; frames = fs })
-      → Stands (byStatus st (atFrames p outcomes s fs)) (readinessOp p (processWords (record { status = st; frames = fs })))
+      → Stands (byStatus st (atFrames p outcomes s fs))
+      (readinessOp p (processWords (record { status = st; frames = fs })))
   unfolding byStatus atFrames
   stand-process running [] h = absurd (omega (arith, h .status))
   stand-process running (f ∷ fs) h = stand-is outcomes s (busy-at reached (h .frames) (omega (arith, h .depth)))
@@ -87,7 +88,8 @@ module _ {p outcomes : List ℕ} {s : State} (reached : Reached p outcomes s) (r
   unfolding actOf
   stand-at q h =
       ⊎-elim
-      (λ t. subst (λ (w : List ℕ). Stands (actOf p outcomes s q) (readinessOp p w)) (sym (part-is config laid rest q (ltb-true q (length (config .processes)) t)))
+      (λ t. subst (λ (w : List ℕ). Stands (actOf p outcomes s q) (readinessOp p w))
+      (sym (part-is config laid rest q (ltb-true q (length (config .processes)) t)))
       (stand-process (processAt config q .status) (processAt config q .frames) (process-sound q)))
       (λ t. beyond (ltb-false q (length (config .processes)) t))
       (decide (ltb q (length (config .processes))))
@@ -116,7 +118,8 @@ module _ {p outcomes : List ℕ} {s : State} (reached : Reached p outcomes s) (r
   unfolding actOf byStatus
   over-ready q h = go (processAt config q .status) refl
     where
-      over : (st : Status) → processAt config q .status ≡ st → byStatus st (atFrames p outcomes s (processAt config q .frames)) ≡ idle
+      over : (st : Status) → processAt config q .status ≡ st
+          → byStatus st (atFrames p outcomes s (processAt config q .frames)) ≡ idle
           → eqb (readinessOp p (partOf work q) .kind) 0 ≡ true
       over st e i =
           ap (λ (x : Readiness). eqb (x .kind) 0)
@@ -126,9 +129,11 @@ module _ {p outcomes : List ℕ} {s : State} (reached : Reached p outcomes s) (r
       by-status : Status → Bool
       by-status st = isOver (record { status = st; frames = processAt config q .frames })
 
-      go : (st : Status) → processAt config q .status ≡ st → eqb (readinessOp p (partOf work q) .kind) 0 ≡ isOver (processAt config q)
+      go : (st : Status) → processAt config q .status ≡ st
+          → eqb (readinessOp p (partOf work q) .kind) 0 ≡ isOver (processAt config q)
       go running e =
-          stands-busy (actOf p outcomes s q) (readinessOp p (partOf work q)) (running-busy p outcomes s q e) (not-stuck q) (stand-at q h)
+          stands-busy (actOf p outcomes s q) (readinessOp p (partOf work q)) (running-busy p outcomes s q e)
+          (not-stuck q) (stand-at q h)
           ∙ sym (ap by-status e)
       go finished e = over finished e refl ∙ sym (ap by-status e)
       go (stopped f) e = over (stopped f) e refl ∙ sym (ap by-status e)
@@ -137,7 +142,8 @@ module _ {p outcomes : List ℕ} {s : State} (reached : Reached p outcomes s) (r
 
   module _ (owned : own.Kept config (s .lines)) (t : List (List ℕ)) (holding : Holding t (s .lines)) where
     -- the channel of an offer's end was made
-    offer-made : (n : ℕ) (o : Offer) → OfferWithin (valuesOf (processAt config n .frames)) o → Made config (oppositeEnd o)
+    offer-made : (n : ℕ) (o : Offer) → OfferWithin (valuesOf (processAt config n .frames)) o
+        → Made config (oppositeEnd o)
     unfolding reaches
     offer-made n (sends c d v fs) h = owned .made (end c d) n (h .0)
     offer-made n (receives c d fs) h = owned .made (end c d) n (h .0)
@@ -156,9 +162,12 @@ module _ {p outcomes : List ℕ} {s : State} (reached : Reached p outcomes s) (r
     abbrev looked : ℕ → Bool → ℕ
     looked c d = holderIn t (valOf (ref (end c d)) .number % 65536) (oppositeOf (valOf (ref (end c d)) .tag))
 
-    looked-held : (c : ℕ) (d : Bool) → c < config .channels → (q : ℕ) → holder (s .lines) (end c (not d)) ≡ some q → looked c d ≡ q
+    looked-held : (c : ℕ) (d : Bool) → c < config .channels → (q : ℕ) → holder (s .lines) (end c (not d)) ≡ some q
+        → looked c d ≡ q
     looked-held c d h q e =
-        ap₂ (holderIn t) (ap (λ (i : ℕ). i % 65536) (number-same c d) ∙ mod-eq-of-lt (omega (arith, h, sound .channelCount))) (side-facing c d)
+        ap₂ (holderIn t)
+        (ap (λ (i : ℕ). i % 65536) (number-same c d) ∙ mod-eq-of-lt (omega (arith, h, sound .channelCount)))
+        (side-facing c d)
         ∙ holding .says c (not d) q (omega (arith, h, sound .channelCount)) e
 
     -- the holder that the code finds in the table is the lines'
@@ -166,12 +175,14 @@ module _ {p outcomes : List ℕ} {s : State} (reached : Reached p outcomes s) (r
     found (sends c d v fs) = looked c d
     found (receives c d fs) = looked c d
 
-    found-held : (n : ℕ) (o : Offer) → OfferWithin (valuesOf (processAt config n .frames)) o → (q : ℕ) → holder (s .lines) (oppositeEnd o) ≡ some q → found o ≡ q
+    found-held : (n : ℕ) (o : Offer) → OfferWithin (valuesOf (processAt config n .frames)) o → (q : ℕ)
+        → holder (s .lines) (oppositeEnd o) ≡ some q → found o ≡ q
     unfolding found
     found-held n (sends c d v fs) h q e = looked-held c d (offer-made n (sends c d v fs) h) q e
     found-held n (receives c d fs) h q e = looked-held c d (offer-made n (receives c d fs) h) q e
 
-    held-found : (n : ℕ) (o : Offer) → OfferWithin (valuesOf (processAt config n .frames)) o → holder (s .lines) (oppositeEnd o) ≡ some (found o)
+    held-found : (n : ℕ) (o : Offer) → OfferWithin (valuesOf (processAt config n .frames)) o
+        → holder (s .lines) (oppositeEnd o) ≡ some (found o)
     held-found n o w =
         let r = owned .held (oppositeEnd o) (offer-made n o w) in
         r .1 ∙ ap {B = Option ℕ} some (sym (found-held n o w (r .0) (r .1)))
@@ -185,7 +196,8 @@ module _ {p outcomes : List ℕ} {s : State} (reached : Reached p outcomes s) (r
     abbrev comes : Bool → Bool → ℕ → Partner
     comes g m h = cond g code.gone (cond m (ready h) waits)
 
-    ready-is : (n : ℕ) (o : Offer) (st : Readiness) → OfferWithin (valuesOf (processAt config n .frames)) o → Stands (offers o) st
+    ready-is : (n : ℕ) (o : Offer) (st : Readiness) → OfferWithin (valuesOf (processAt config n .frames)) o
+        → Stands (offers o) st
         → readyOp p work n st (found o) ≡ comes (gone s n o) (isMeeting (meetingOf p outcomes s n o)) (found o)
     unfolding readyOp isNoOther isMeeting meetsWith offered
     ready-is n o st w stands =
@@ -203,21 +215,28 @@ module _ {p outcomes : List ℕ} {s : State} (reached : Reached p outcomes s) (r
         over-beyond l = ap isOver (process-beyond config h (omega (arith, l, sound .processCount)))
 
         near : h < 8 → (b : Bool) → isOver (processAt config h) ≡ b
-            → cond (eqb (readinessOp p (partOf work h) .kind) 0) code.gone (cond (meetsOp st (readinessOp p (partOf work h))) (ready h) waits)
+            → cond (eqb (readinessOp p (partOf work h) .kind) 0) code.gone
+            (cond (meetsOp st (readinessOp p (partOf work h))) (ready h) waits)
             ≡ comes b (isMeeting met) h
-        near l true e = ap (λ (x : Bool). cond x code.gone (cond (meetsOp st (readinessOp p (partOf work h))) (ready h) waits)) (over-ready h l ∙ e)
+        near l true e =
+            ap (λ (x : Bool). cond x code.gone (cond (meetsOp st (readinessOp p (partOf work h))) (ready h) waits))
+            (over-ready h l ∙ e)
         near l false e =
             ap₂ (λ (x y : Bool). cond x code.gone (cond y (ready h) waits)) (over-ready h l ∙ e)
-            (meets-act n h o (actOf p outcomes s h) st (readinessOp p (partOf work h)) stands (not-stuck h) (stand-at h l))
+            (meets-act n h o (actOf p outcomes s h) st (readinessOp p (partOf work h)) stands (not-stuck h)
+            (stand-at h l))
 
         same : (x y : Bool) → leb 8 h ≡ y
-            → cond (x || y) code.gone (cond (eqb (readinessOp p (partOf work h) .kind) 0) code.gone (cond (meetsOp st (readinessOp p (partOf work h))) (ready h) waits))
+            → cond (x || y) code.gone
+            (cond (eqb (readinessOp p (partOf work h) .kind) 0) code.gone
+            (cond (meetsOp st (readinessOp p (partOf work h))) (ready h) waits))
             ≡ comes (x || isOver (processAt config h)) (isMeeting (cond x none met)) h
         same true y e = refl
         same false true e = sym (ap (λ (b : Bool). comes b (isMeeting met) h) (over-beyond (leb-true 8 h e)))
         same false false e = near (leb-false 8 h e) (isOver (processAt config h)) refl ∙ refl
 
-    pub partner-law : (n : ℕ) (o : Offer) (st : Readiness) → OfferWithin (valuesOf (processAt config n .frames)) o → Stands (offers o) st
+    pub partner-law : (n : ℕ) (o : Offer) (st : Readiness) → OfferWithin (valuesOf (processAt config n .frames)) o
+        → Stands (offers o) st
         → partnerOp p work t n st ≡ comes (gone s n o) (isMeeting (meetingOf p outcomes s n o)) (found o)
     unfolding partnerOp found
     partner-law n (sends c d v fs) st w h =
@@ -229,21 +248,28 @@ module _ {p outcomes : List ℕ} {s : State} (reached : Reached p outcomes s) (r
 
     -- where there is a meeting, its partner is another process that was made
     pub met-with : (n : ℕ) (o : Offer) → OfferWithin (valuesOf (processAt config n .frames)) o
-        → meetingOf p outcomes s n o ≡ cond (eqb (found o) n) none (meetsWith n o (found o) (offered (actOf p outcomes s (found o))))
+        → meetingOf p outcomes s n o ≡ cond (eqb (found o) n) none
+        (meetsWith n o (found o) (offered (actOf p outcomes s (found o))))
     met-with n o w = partner-is p outcomes s owned n o (found o) (found-held n o w)
 
-    pub found-partner : (n : ℕ) (o : Offer) → OfferWithin (valuesOf (processAt config n .frames)) o → isMeeting (meetingOf p outcomes s n o) ≡ true
+    pub found-partner : (n : ℕ) (o : Offer) → OfferWithin (valuesOf (processAt config n .frames)) o
+        → isMeeting (meetingOf p outcomes s n o) ≡ true
         → (found o < length (config .processes)) × (found o ≢ n)
     unfolding isMeeting meetsWith offered
     found-partner n o w e = (
       ⊎-elim (λ t. ltb-true (found o) (length (config .processes)) t)
-          (λ t. absurd (true≢false (sym met ∙ ap (λ (a : Act). isMeeting (cond (eqb (found o) n) none (meetsWith n o (found o) (offered a))))
-          (unmade-idle p outcomes s (found o) (ltb-false (found o) (length (config .processes)) t)) ∙ nothing (eqb (found o) n))))
+          (λ t. absurd (true≢false
+          (sym met ∙ ap (λ (a : Act). isMeeting (cond (eqb (found o) n) none (meetsWith n o (found o) (offered a))))
+          (unmade-idle p outcomes s (found o) (ltb-false (found o) (length (config .processes)) t)) ∙ nothing
+          (eqb (found o) n))))
           (decide (ltb (found o) (length (config .processes)))),
-      λ i. true≢false (sym met ∙ ap (λ (b : Bool). isMeeting (cond b none (meetsWith n o (found o) (offered (actOf p outcomes s (found o)))))) (eq-eqb (found o) n i)),
+      λ i. true≢false
+          (sym met ∙ ap (λ (b : Bool). isMeeting (cond b none (meetsWith n o (found o) (offered (actOf p outcomes s (found o)))))) (eq-eqb (found o) n i)),
     )
       where
-        met : isMeeting (cond (eqb (found o) n) none (meetsWith n o (found o) (offered (actOf p outcomes s (found o))))) ≡ true
+        met :
+            isMeeting (cond (eqb (found o) n) none (meetsWith n o (found o) (offered (actOf p outcomes s (found o)))))
+            ≡ true
         met = ap isMeeting (sym (met-with n o w)) ∙ e
 
         nothing : (b : Bool) → isMeeting (cond {A = Option Meeting} b none none) ≡ false
@@ -278,11 +304,14 @@ module _ {p outcomes : List ℕ} {s : State} (reached : Reached p outcomes s) (r
         either true = refl
         either false = refl
 
-        both : (g : Bool) → eqb (cond {A = ℕ} (g || isMeeting (meetingOf p outcomes s n o)) 1 2) 1 ≡ moves p outcomes s n (cond g (faults 33) (offers o))
+        both : (g : Bool)
+            → eqb (cond {A = ℕ} (g || isMeeting (meetingOf p outcomes s n o)) 1 2) 1 ≡ moves p outcomes s n
+            (cond g (faults 33) (offers o))
         both true = refl
         both false = either (isMeeting (meetingOf p outcomes s n o))
 
-    offer-rank : (n : ℕ) (o : Offer) (st : Readiness) → OfferWithin (valuesOf (processAt config n .frames)) o → Stands (offers o) st → ltb (st .kind) 2 ≡ false
+    offer-rank : (n : ℕ) (o : Offer) (st : Readiness) → OfferWithin (valuesOf (processAt config n .frames)) o
+        → Stands (offers o) st → ltb (st .kind) 2 ≡ false
         → abilityOf p work t n st ≡ rank n (offers o)
     unfolding abilityOf rank isMoving
     offer-rank n o st w h k =
@@ -294,7 +323,9 @@ module _ {p outcomes : List ℕ} {s : State} (reached : Reached p outcomes s) (r
         either false true = refl
         either false false = refl
 
-    act-rank : (n : ℕ) (a : Act) (st : Readiness) → ActWithin (valuesOf (processAt config n .frames)) (config .qubits) (config .channels) a → a ≢ stuck → Stands a st
+    act-rank : (n : ℕ) (a : Act) (st : Readiness)
+        → ActWithin (valuesOf (processAt config n .frames)) (config .qubits) (config .channels) a → a ≢ stuck
+        → Stands a st
         → abilityOf p work t n st ≡ rank n a
     unfolding abilityOf rank
     act-rank n idle st w ns h = ap (λ (x : Readiness). abilityOf p work t n x) h
@@ -304,12 +335,16 @@ module _ {p outcomes : List ℕ} {s : State} (reached : Reached p outcomes s) (r
     act-rank n ends st w ns h = ap (λ (x : Readiness). abilityOf p work t n x) h
     act-rank n (makes x fs) st w ns h = ap (λ (x : Readiness). abilityOf p work t n x) h
     act-rank n (forks m args fs) st w ns h = ap (λ (x : Readiness). abilityOf p work t n x) h
-    act-rank n (offers (sends c d v fs)) st w ns h = offer-rank n (sends c d v fs) st w h (ap (λ (x : Readiness). ltb (x .kind) 2) h)
-    act-rank n (offers (receives c d fs)) st w ns h = offer-rank n (receives c d fs) st w h (ap (λ (x : Readiness). ltb (x .kind) 2) h)
+    act-rank n (offers (sends c d v fs)) st w ns h =
+        offer-rank n (sends c d v fs) st w h (ap (λ (x : Readiness). ltb (x .kind) 2) h)
+    act-rank n (offers (receives c d fs)) st w ns h =
+        offer-rank n (receives c d fs) st w h (ap (λ (x : Readiness). ltb (x .kind) 2) h)
 
     ability-is : (n : ℕ) → n < 8 → abilityOp p work t n ≡ rank n (actOf p outcomes s n)
     unfolding abilityOp
-    ability-is n h = act-rank n (actOf p outcomes s n) (readinessOp p (partOf work n)) (act-within p outcomes s n) (not-stuck n) (stand-at n h)
+    ability-is n h =
+        act-rank n (actOf p outcomes s n) (readinessOp p (partOf work n)) (act-within p outcomes s n) (not-stuck n)
+        (stand-at n h)
 
     pub able-is : (n : ℕ) → n < 8 → able p outcomes s n ≡ eqb (abilityOp p work t n) 1
     unfolding ableIn
@@ -323,7 +358,12 @@ module _ {p outcomes : List ℕ} {s : State} (reached : Reached p outcomes s) (r
     some-found a (suc n) e =
         ⊎-elim
         (λ i. (let r = some-found a n i in (r .0, omega (arith, r .1), r .2)))
-        (λ i. (n, omega arith, eqb-true (abilityOp p work t n) a (ap (λ (b : Bool). b || eqb (abilityOp p work t n) a) (sym i) ∙ e)))
+        (λ i. (
+          n,
+          omega arith,
+          eqb-true (abilityOp p work t n) a
+              (ap (λ (b : Bool). b || eqb (abilityOp p work t n) a) (sym i) ∙ e),
+        ))
         (decide (someIs p work t a n))
 
     some-missed : (a n : ℕ) → someIs p work t a n ≡ false → (q : ℕ) → q < n → abilityOp p work t q ≢ a
@@ -332,7 +372,8 @@ module _ {p outcomes : List ℕ} {s : State} (reached : Reached p outcomes s) (r
     some-missed a (suc n) e q h i =
         ⊎-elim
         (λ l. some-missed a n (or-first (someIs p work t a n) (eqb (abilityOp p work t n) a) e) q l i)
-        (λ j. eqb-false (abilityOp p work t n) a (or-second (someIs p work t a n) (eqb (abilityOp p work t n) a) e) (ap (abilityOp p work t) (sym j) ∙ i))
+        (λ j. eqb-false (abilityOp p work t n) a (or-second (someIs p work t a n) (eqb (abilityOp p work t n) a) e)
+        (ap (abilityOp p work t) (sym j) ∙ i))
         (before q n h)
       where
         or-first : (x y : Bool) → (x || y) ≡ false → x ≡ false
@@ -344,7 +385,8 @@ module _ {p outcomes : List ℕ} {s : State} (reached : Reached p outcomes s) (r
         or-second false y z = z
 
         before : (q n : ℕ) → q < suc n → (q < n) ⊎ (q ≡ n)
-        before q n h = ⊎-elim (λ t. inl (ltb-true q n t)) (λ t. inr (omega (arith, h, ltb-false q n t))) (decide (ltb q n))
+        before q n h =
+            ⊎-elim (λ t. inl (ltb-true q n t)) (λ t. inr (omega (arith, h, ltb-false q n t))) (decide (ltb q n))
 
     -- the ends
 
@@ -353,14 +395,16 @@ module _ {p outcomes : List ℕ} {s : State} (reached : Reached p outcomes s) (r
     at-work fs e = subst Busy e (frames-busy p outcomes s fs)
 
     -- a process that is not over is not idle, and one that is over does not wait
-    idle-over : (st : Status) (fs : List Frame) → ProcessSound p config (record { status = st; frames = fs }) → byStatus st (atFrames p outcomes s fs) ≡ idle
+    idle-over : (st : Status) (fs : List Frame) → ProcessSound p config (record { status = st; frames = fs })
+        → byStatus st (atFrames p outcomes s fs) ≡ idle
         → isOver (record { status = st; frames = fs }) ≡ true
     unfolding byStatus
     idle-over running fs h e = absurd (at-work fs e)
     idle-over finished fs h e = refl
     idle-over (stopped n) fs h e = refl
 
-    over-idle : (st : Status) (fs : List Frame) → isOver (record { status = st; frames = fs }) ≡ true → byStatus st (atFrames p outcomes s fs) ≡ idle
+    over-idle : (st : Status) (fs : List Frame) → isOver (record { status = st; frames = fs }) ≡ true
+        → byStatus st (atFrames p outcomes s fs) ≡ idle
     unfolding byStatus
     over-idle running fs e = absurd (true≢false (sym e))
     over-idle finished fs e = refl
@@ -381,14 +425,17 @@ module _ {p outcomes : List ℕ} {s : State} (reached : Reached p outcomes s) (r
         neither true x y = absurd (x refl)
         neither false x y = absurd (y refl)
 
-    every-at : (prs : List Process) → ((q : ℕ) → q < length prs → isOver (getD prs q unmade) ≡ true) → every isOver prs ≡ true
+    every-at : (prs : List Process) → ((q : ℕ) → q < length prs → isOver (getD prs q unmade) ≡ true)
+        → every isOver prs ≡ true
     every-at [] h = refl
     every-at (pr ∷ prs) h = ap₂ _&&_ (h 0 (omega arith)) (every-at prs (λ q l. h (suc q) (omega (arith, l))))
 
-    every-none : (prs : List Process) (q : ℕ) → q < length prs → isOver (getD prs q unmade) ≡ false → every isOver prs ≡ false
+    every-none : (prs : List Process) (q : ℕ) → q < length prs → isOver (getD prs q unmade) ≡ false
+        → every isOver prs ≡ false
     every-none [] q l e = absurd (omega (arith, l))
     every-none (pr ∷ prs) zero l e = ap (λ (b : Bool). b && every isOver prs) e
-    every-none (pr ∷ prs) (suc q) l e = ap (λ (b : Bool). isOver pr && b) (every-none prs q (omega (arith, l)) e) ∙ and-false (isOver pr)
+    every-none (pr ∷ prs) (suc q) l e =
+        ap (λ (b : Bool). isOver pr && b) (every-none prs q (omega (arith, l)) e) ∙ and-false (isOver pr)
       where
         and-false : (b : Bool) → (b && false) ≡ false
         and-false true = refl
@@ -429,7 +476,9 @@ module _ {p outcomes : List ℕ} {s : State} (reached : Reached p outcomes s) (r
         few = sound .processCount
 
         unable : someIs p work t 1 8 ≡ false → (q : ℕ) → q < length (config .processes) → able p outcomes s q ≡ false
-        unable e q l = able-is q (omega (arith, l, few)) ∙ ne-eqb (abilityOp p work t q) 1 (some-missed 1 8 e q (omega (arith, l, few)))
+        unable e q l =
+            able-is q (omega (arith, l, few))
+            ∙ ne-eqb (abilityOp p work t q) 1 (some-missed 1 8 e q (omega (arith, l, few)))
 
         none-able : someIs p work t 1 8 ≡ false → noneAble p outcomes s ≡ true
         none-able e = ap not (none-below (able p outcomes s) (length (config .processes)) (unable e))
@@ -437,11 +486,15 @@ module _ {p outcomes : List ℕ} {s : State} (reached : Reached p outcomes s) (r
         waits : someIs p work t 2 8 ≡ true → allOver s ≡ false
         waits e =
             let r = some-found 2 8 e in
-            let ne : actOf p outcomes s (r .0) ≢ idle = λ i. absurd (omega (arith, sym (r .2) ∙ ability-is (r .0) (r .1) ∙ ap (rank (r .0)) i)) in
+            let ne : actOf p outcomes s (r .0) ≢ idle =
+            λ i. absurd (omega (arith, sym (r .2) ∙ ability-is (r .0) (r .1) ∙ ap (rank (r .0)) i)) in
             every-none (config .processes) (r .0) (made (r .0) ne) (not-over (r .0) ne)
           where
             made : (q : ℕ) → actOf p outcomes s q ≢ idle → q < length (config .processes)
-            made q ne = ⊎-elim (λ i. ltb-true q (length (config .processes)) i) (λ i. absurd (ne (unmade-idle p outcomes s q (ltb-false q (length (config .processes)) i)))) (decide (ltb q (length (config .processes))))
+            made q ne =
+                ⊎-elim (λ i. ltb-true q (length (config .processes)) i)
+                (λ i. absurd (ne (unmade-idle p outcomes s q (ltb-false q (length (config .processes)) i))))
+                (decide (ltb q (length (config .processes))))
 
         over : someIs p work t 1 8 ≡ false → someIs p work t 2 8 ≡ false → allOver s ≡ true
         over e f = every-at (config .processes) (λ q l.
@@ -450,7 +503,8 @@ module _ {p outcomes : List ℕ} {s : State} (reached : Reached p outcomes s) (r
             (λ i. some-missed 1 8 e q (omega (arith, l, few)) (ability-is q (omega (arith, l, few)) ∙ i))
             (λ i. some-missed 2 8 f q (omega (arith, l, few)) (ability-is q (omega (arith, l, few)) ∙ i))))
 
-        second : someIs p work t 1 8 ≡ false → (b : Bool) → someIs p work t 2 8 ≡ b → _≡_ {A = ℕ} (cond b 2 1) (cond (allOver s) 1 (cond (noneAble p outcomes s) 2 0))
+        second : someIs p work t 1 8 ≡ false → (b : Bool) → someIs p work t 2 8 ≡ b
+            → _≡_ {A = ℕ} (cond b 2 1) (cond (allOver s) 1 (cond (noneAble p outcomes s) 2 0))
         second e true f = sym (ap₂ (λ (x y : Bool). cond {A = ℕ} x 1 (cond y 2 0)) (waits f) (none-able e))
         second e false f = sym (ap (λ (x : Bool). cond {A = ℕ} x 1 (cond (noneAble p outcomes s) 2 0)) (over e f))
 

@@ -1,5 +1,5 @@
--- A process that cannot move stays so while others move, as long as each of those goes on by itself: it neither comes to stand at
--- an offer nor finishes nor stops. One that moves by itself can move.
+-- A process that cannot move stays so while others move, as long as each of those goes on by itself: it neither comes
+-- to stand at an offer nor finishes nor stops. One that moves by itself can move.
 use Prim.Native.Nat.{ℕ, _%_, _<_}
 use mathlib.Core.Path.{_≡_, refl, sym, _∙_, ap, ap₂}
 use mathlib.Core.Logic.{_≢_, _⊎_, inl, inr, ⊎-elim}
@@ -32,20 +32,27 @@ no-offer-meets a b h =
 module _ (p work work′ : List ℕ) (t : List (List ℕ)) (n : ℕ) (own : partOf work′ n ≡ partOf work n)
     (others : (q : ℕ) → q < 8 → (partOf work′ q ≡ partOf work q) ⊎ (readinessOp p (partOf work′ q) .kind ≡ 1)) where
   -- its partner is who it was, or is not ready and has not gone
-  ready-still : (a : Readiness) (q : ℕ) → (readyOp p work′ n a q ≡ readyOp p work n a q) ⊎ (readyOp p work′ n a q ≡ waits)
+  ready-still : (a : Readiness) (q : ℕ)
+      → (readyOp p work′ n a q ≡ readyOp p work n a q) ⊎ (readyOp p work′ n a q ≡ waits)
   unfolding readyOp isNoOther
   ready-still a q = near (eqb q n) (leb 8 q) refl
     where
       found : List ℕ → Partner
-      found w = cond (eqb (readinessOp p (partOf w q) .kind) 0) gone (cond (meetsOp a (readinessOp p (partOf w q))) (ready q) waits)
+      found w =
+          cond (eqb (readinessOp p (partOf w q) .kind) 0) gone
+          (cond (meetsOp a (readinessOp p (partOf w q))) (ready q) waits)
 
       near : (x y : Bool) → leb 8 q ≡ y
-          → (cond (x || y) gone (found work′) ≡ cond (x || y) gone (found work)) ⊎ (cond (x || y) gone (found work′) ≡ waits)
+          → (cond (x || y) gone (found work′) ≡ cond (x || y) gone (found work)) ⊎
+          (cond (x || y) gone (found work′) ≡ waits)
       near true y e = inl refl
       near false true e = inl refl
       near false false e =
           ⊎-elim
-          (λ s. inl (ap (λ (w : List ℕ). cond (eqb (readinessOp p w .kind) 0) gone (cond (meetsOp a (readinessOp p w)) (ready q) waits)) s))
+          (λ s. inl
+          (ap
+          (λ (w : List ℕ). cond (eqb (readinessOp p w .kind) 0) gone
+          (cond (meetsOp a (readinessOp p w)) (ready q) waits)) s))
           (λ s. inr (ap₂ (λ (x y : Bool). cond x gone (cond y (ready q) waits))
           (ne-eqb (readinessOp p (partOf work′ q) .kind) 0 (λ z. absurd (omega (arith, s, z))))
           (no-offer-meets a (readinessOp p (partOf work′ q)) (omega (arith, s)))))
@@ -54,7 +61,8 @@ module _ (p work work′ : List ℕ) (t : List (List ℕ)) (n : ℕ) (own : part
   pub still-unable : abilityOp p work t n ≢ 1 → abilityOp p work′ t n ≢ 1
   unfolding abilityOp abilityOf partnerOp isMoving
   still-unable h e =
-      ⊎-elim (λ s. h (sym (ap (by (ltb (a .kind) 2)) s) ∙ same)) (λ s. stays (ltb (a .kind) 2) (sym (ap (by (ltb (a .kind) 2)) s) ∙ same) h)
+      ⊎-elim (λ s. h (sym (ap (by (ltb (a .kind) 2)) s) ∙ same))
+      (λ s. stays (ltb (a .kind) 2) (sym (ap (by (ltb (a .kind) 2)) s) ∙ same) h)
       (ready-still a (holderIn t (a .end .number % 65536) (oppositeOf (a .end .tag))))
     where
       a : Readiness
@@ -63,7 +71,9 @@ module _ (p work work′ : List ℕ) (t : List (List ℕ)) (n : ℕ) (own : part
       by : Bool → Partner → ℕ
       by b q = cond b (a .kind) (cond (isMoving q) 1 2)
 
-      same : by (ltb (a .kind) 2) (readyOp p work′ n a (holderIn t (a .end .number % 65536) (oppositeOf (a .end .tag)))) ≡ 1
+      same :
+          by (ltb (a .kind) 2) (readyOp p work′ n a (holderIn t (a .end .number % 65536) (oppositeOf (a .end .tag))))
+          ≡ 1
       same = ap (λ (w : List ℕ). abilityOf p work′ t n (readinessOp p w)) (sym own) ∙ e
 
       stays : (b : Bool) → by b waits ≡ 1
@@ -72,11 +82,13 @@ module _ (p work work′ : List ℕ) (t : List (List ℕ)) (n : ℕ) (own : part
       stays false i u = absurd (omega (arith, i))
 
 -- a process that moves by itself is able to move
-pub alone-able : (p work : List ℕ) (t : List (List ℕ)) (n : ℕ) → readinessOp p (partOf work n) .kind ≡ 1 → abilityOp p work t n ≡ 1
+pub alone-able : (p work : List ℕ) (t : List (List ℕ)) (n : ℕ) → readinessOp p (partOf work n) .kind ≡ 1
+    → abilityOp p work t n ≡ 1
 unfolding abilityOp abilityOf
 alone-able p work t n e =
     ap (λ (i : ℕ). cond (ltb i 2) i (cond (isMoving (partnerOp p work t n (readinessOp p (partOf work n)))) 1 2)) e
 
 -- so the run goes on
-pub alone-goes : (p work : List ℕ) (t : List (List ℕ)) (n : ℕ) → n < 8 → readinessOp p (partOf work n) .kind ≡ 1 → 0 ≡ endingOp p work t 8
+pub alone-goes : (p work : List ℕ) (t : List (List ℕ)) (n : ℕ) → n < 8 → readinessOp p (partOf work n) .kind ≡ 1
+    → 0 ≡ endingOp p work t 8
 alone-goes p work t n h k = goes-on p work t 8 n h (sym (alone-able p work t n k)) refl

@@ -44,14 +44,16 @@ kind-test e = ap (λ (r : Readiness). eqb (r .kind) 0) e
 
 module _ (p work : List ℕ) (t : List (List ℕ)) (n : ℕ) where
   -- the holder q of the opposite end was asked
-  pub partner-asked : (a : Readiness) {c d q : ℕ} {r : Partner} → c ≡ a .end .number % 65536 → d ≡ oppositeOf (a .end .tag) → q ≡ holderIn t c d
+  pub partner-asked : (a : Readiness) {c d q : ℕ} {r : Partner} → c ≡ a .end .number % 65536
+      → d ≡ oppositeOf (a .end .tag) → q ≡ holderIn t c d
       → r ≡ readyOp p work n a q → r ≡ partnerOp p work t n a
   unfolding partnerOp
   partner-asked a e f h g = g ∙ ap (readyOp p work n a) (h ∙ ap₂ (holderIn t) e f)
 
   -- whether the offer moves its process
 
-  module _ (a : Readiness) {c d q : ℕ} (channel : c ≡ a .end .number % 65536) (side : d ≡ oppositeOf (a .end .tag)) (held : q ≡ holderIn t c d)
+  module _ (a : Readiness) {c d q : ℕ} (channel : c ≡ a .end .number % 65536) (side : d ≡ oppositeOf (a .end .tag))
+      (held : q ≡ holderIn t c d)
       {x : Bool} (other : x ≡ isNoOther n q) where
     asked : {b : Bool} {r : Partner} → b ≡ isMoving r → r ≡ readyOp p work n a q → b ≡ isMoving (partnerOp p work t n a)
     asked e g = e ∙ ap isMoving (partner-asked a channel side held g)
@@ -63,7 +65,8 @@ module _ (p work : List ℕ) (t : List (List ℕ)) (n : ℕ) where
     module _ (no : x ≡ false) {s : Readiness} (stands : s ≡ readinessOp p (partOf work q)) where
       pub over-asked : s .kind ≡ 0 → true ≡ isMoving (partnerOp p work t n a)
       unfolding readyOp isMoving
-      over-asked k = asked {r = gone} refl (passed-by _ _ _ other no (took _ _ _ (kind-test stands) (eq-eqb (s .kind) 0 k) refl))
+      over-asked k =
+          asked {r = gone} refl (passed-by _ _ _ other no (took _ _ _ (kind-test stands) (eq-eqb (s .kind) 0 k) refl))
 
       pub other-asked : (s .kind ≡ 0 → ⊥) → {b : Bool} → b ≡ meetsOp a s → b ≡ isMoving (partnerOp p work t n a)
       unfolding readyOp isMoving
@@ -82,7 +85,8 @@ module _ (p work : List ℕ) (t : List (List ℕ)) (n : ℕ) where
   unfolding abilityOp abilityOf
   no-offer {a} e h = took _ _ _ refl (lt-ltb (a .kind) 2 h) refl ∙ ap (abilityOf p work t n) e
 
-  module _ {a : Readiness} (stands : a ≡ readinessOp p (partOf work n)) (offer : 2 ≤ a .kind) {b : Bool} (told : b ≡ isMoving (partnerOp p work t n a)) where
+  module _ {a : Readiness} (stands : a ≡ readinessOp p (partOf work n)) (offer : 2 ≤ a .kind) {b : Bool}
+      (told : b ≡ isMoving (partnerOp p work t n a)) where
     offers-so : cond {A = ℕ} b 1 2 ≡ abilityOp p work t n
     unfolding abilityOp abilityOf
     offers-so =
@@ -113,20 +117,24 @@ module _ (p work : List ℕ) (n : ℕ) (a : Readiness) (q : ℕ) {r : Pairing} w
         unfolding pairWith
         pairs-with h e =
             passed-by _ _ _ other no
-            (passed-by _ _ _ (kind-test stands) (ne-eqb (b .kind) 0 going) (took _ _ _ (told ∙ ap (meetsOp a) stands) h (e ∙ ap (pairedOf n a q) stands)))
+            (passed-by _ _ _ (kind-test stands) (ne-eqb (b .kind) 0 going)
+            (took _ _ _ (told ∙ ap (meetsOp a) stands) h (e ∙ ap (pairedOf n a q) stands)))
 
         pub pairs-not : m ≡ false → r ≡ unpaired 1 → r ≡ pairWith p work n a q
         unfolding pairWith
         pairs-not h e =
             passed-by _ _ _ other no
-            (passed-by _ _ _ (kind-test stands) (ne-eqb (b .kind) 0 going) (passed-by _ _ _ (told ∙ ap (meetsOp a) stands) h e))
+            (passed-by _ _ _ (kind-test stands) (ne-eqb (b .kind) 0 going)
+            (passed-by _ _ _ (told ∙ ap (meetsOp a) stands) h e))
 
-module _ (p work : List ℕ) (t : List (List ℕ)) (n code : ℕ) {a : Readiness} (stands : a ≡ offerOf (partOf work n) code) {r : Pairing} where
+module _ (p work : List ℕ) (t : List (List ℕ)) (n code : ℕ) {a : Readiness}
+    (stands : a ≡ offerOf (partOf work n) code) {r : Pairing} where
   pub pairs-none : a .kind < 2 → r ≡ unpaired 0 → r ≡ pairingOp p work t n code
   unfolding pairingOp pairingOf
   pairs-none h e = took _ _ _ refl (lt-ltb (a .kind) 2 h) e ∙ ap (pairingOf p work t n) stands
 
-  pub pairs-asked : 2 ≤ a .kind → {c d q : ℕ} → c ≡ a .end .number % 65536 → d ≡ oppositeOf (a .end .tag) → q ≡ holderIn t c d
+  pub pairs-asked : 2 ≤ a .kind → {c d q : ℕ} → c ≡ a .end .number % 65536 → d ≡ oppositeOf (a .end .tag)
+      → q ≡ holderIn t c d
       → r ≡ pairWith p work n a q → r ≡ pairingOp p work t n code
   unfolding pairingOp pairingOf
   pairs-asked h f g k e =

@@ -20,7 +20,8 @@ or-true false = refl
 
 module _ (p work : List ℕ) (t : List (List ℕ)) where
   -- process j has ability r, which is k or is not
-  pub not-one : (k j : ℕ) {r : ℕ} → r ≡ abilityOp p work t j → (r ≡ k → ⊥) → someIs p work t k (j + 1) ≡ someIs p work t k j
+  pub not-one : (k j : ℕ) {r : ℕ} → r ≡ abilityOp p work t j → (r ≡ k → ⊥)
+      → someIs p work t k (j + 1) ≡ someIs p work t k j
   unfolding someIs
   not-one k j e n =
       ap (someIs p work t k) (add-one j)
@@ -40,7 +41,9 @@ module _ (p work : List ℕ) (t : List (List ℕ)) where
   one-of k zero j h e q = absurd (not-suc-le-zero h)
   one-of k (suc n) j {r} h e q =
       ⊎-elim
-      (λ z. ap (λ (b : Bool). someIs p work t k n || b) (eq-eqb (abilityOp p work t n) k (ap (abilityOp p work t) (sym z) ∙ sym e ∙ q)) ∙ or-true (someIs p work t k n))
+      (λ z. ap (λ (b : Bool). someIs p work t k n || b)
+      (eq-eqb (abilityOp p work t n) k (ap (abilityOp p work t) (sym z) ∙ sym e ∙ q))
+      ∙ or-true (someIs p work t k n))
       (λ l. ap (λ (b : Bool). b || eqb (abilityOp p work t n) k) (one-of k n j l e q))
       (eq-or-lt-of-le (le-of-suc-le-suc h))
 
@@ -50,6 +53,7 @@ module _ (p work : List ℕ) (t : List (List ℕ)) where
   goes-on n j h e q =
       sym (ap (λ (b : Bool). cond b 0 (cond (someIs p work t 2 n) 2 1)) (one-of 1 n j h e q))
 
-  pub over : (n : ℕ) {r : ℕ} → someIs p work t 1 n ≡ false → r ≡ cond (someIs p work t 2 n) 2 1 → r ≡ endingOp p work t n
+  pub over : (n : ℕ) {r : ℕ} → someIs p work t 1 n ≡ false → r ≡ cond (someIs p work t 2 n) 2 1
+      → r ≡ endingOp p work t n
   unfolding endingOp
   over n e q = q ∙ sym (ap (λ (b : Bool). cond b 0 (cond (someIs p work t 2 n) 2 1)) e)

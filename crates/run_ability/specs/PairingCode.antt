@@ -33,7 +33,8 @@ pairWith p work n a q =
 
 unfoldable pub pairingOf : List ℕ → List ℕ → List (List ℕ) → ℕ → Readiness → Pairing
 pairingOf p work t n a =
-    cond (ltb (a .kind) 2) (unpaired 0) (pairWith p work n a (holderIn t (a .end .number % 65536) (oppositeOf (a .end .tag))))
+    cond (ltb (a .kind) 2) (unpaired 0)
+    (pairWith p work n a (holderIn t (a .end .number % 65536) (oppositeOf (a .end .tag))))
 
 -- the offer of process n, by the code of its step
 unfoldable pub pairingOp : List ℕ → List ℕ → List (List ℕ) → ℕ → ℕ → Pairing

@@ -1,5 +1,5 @@
--- The partner of an offer, on the words of the store. These definitions follow the code; that they are document 01's and
--- Paper 6's is proved in proofs/.
+-- The partner of an offer, on the words of the store. These definitions follow the code; that they are document 01's
+-- and Paper 6's is proved in proofs/.
 use Prim.Native.Nat.{ℕ, _%_}
 use mathlib.Core.Bool.{Bool, true, false, cond, _||_}
 use mathlib.Core.List.{List}

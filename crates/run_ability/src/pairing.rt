@@ -15,7 +15,8 @@ use run_store::references::ProcessNo;
 use run_store::values::Val;
 use run_store::values::empty;
 
-// Kind 0 is no offer, 1 an offer that waits, 2 a meeting, with its sender's end and value, 3 an offer whose partner has gone.
+// Kind 0 is no offer, 1 an offer that waits, 2 a meeting, with its sender's end and value, 3 an offer whose partner has
+// gone.
 pub struct Pairing {
     pub kind: u32,
     pub sender: ProcessNo,

@@ -6,6 +6,7 @@ ghost use Rattle.table.specs.Table.{methods};
 ghost use Rattle.run_parts.specs.ReadinessCode.{readinessOp, offerOf, offersNothing};
 ghost use Rattle.run_parts.specs.PartsCode.{partOf};
 ghost use Rattle.run_ability.specs.ReadsCode.{argumentIn, emptyIn};
+use run_parts::part::part_at;
 use run_parts::readiness::Readiness;
 use run_parts::readiness::offers_nothing;
 use run_parts::readiness::read_offer;
@@ -20,7 +21,7 @@ pub fn readiness_of(p: &[u16], start: usize, work: &[u32], n: ProcessNo) -> Read
     requires { ⌜ (start ≡ 2 + 20 * methods (now p)) × (8192 ≤ length (now work)) × (n .0 < 8) ⌝ }
     ensures { λ r. ⌜ r ≡ readinessOp (now (p .entry)) (partOf (now (work .entry)) (n .0)) ⌝ }
 {
-    let from = 512 + 512 * (n.0 as usize);
+    let from = part_at(n);
     let to = from + 512;
     read_readiness(p, start, &work[from..to])
 }
@@ -30,7 +31,7 @@ pub fn offer_of(work: &[u32], n: ProcessNo, code: u32) -> Readiness
     requires { ⌜ (8192 ≤ length (now work)) × (n .0 < 8) ⌝ }
     ensures { λ r. ⌜ r ≡ offerOf (partOf (now (work .entry)) (n .0)) code ⌝ }
 {
-    let from = 512 + 512 * (n.0 as usize);
+    let from = part_at(n);
     let to = from + 512;
     read_offer(&work[from..to], code)
 }
@@ -40,7 +41,7 @@ pub fn alone_of(p: &[u16], start: usize, work: &[u32], n: ProcessNo) -> bool
     requires { ⌜ (start ≡ 2 + 20 * methods (now p)) × (8192 ≤ length (now work)) × (n .0 < 8) ⌝ }
     ensures { λ r. ⌜ r ≡ offersNothing (now (p .entry)) (partOf (now (work .entry)) (n .0)) ⌝ }
 {
-    let from = 512 + 512 * (n.0 as usize);
+    let from = part_at(n);
     let to = from + 512;
     offers_nothing(p, start, &work[from..to])
 }
@@ -59,7 +60,7 @@ pub fn argument_of(p: &[u16], start: usize, work: &[u32], n: ProcessNo) -> u16
     requires { ⌜ (start ≡ 2 + 20 * methods (now p)) × (8192 ≤ length (now work)) × (n .0 < 8) ⌝ }
     ensures { λ r. ⌜ r ≡ argumentIn (now (p .entry)) (partOf (now (work .entry)) (n .0)) ⌝ }
 {
-    let from = 512 + 512 * (n.0 as usize);
+    let from = part_at(n);
     let to = from + 512;
     argument(p, start, &work[from..to])
 }
@@ -76,7 +77,7 @@ pub fn lacks_of(work: &[u32], n: ProcessNo, args: u16) -> bool
     requires { ⌜ (8192 ≤ length (now work)) × (n .0 < 8) ⌝ }
     ensures { λ r. ⌜ r ≡ emptyIn (partOf (now (work .entry)) (n .0)) args ⌝ }
 {
-    let from = 512 + 512 * (n.0 as usize);
+    let from = part_at(n);
     let to = from + 512;
     lacks(&work[from..to], args)
 }

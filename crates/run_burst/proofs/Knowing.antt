@@ -29,14 +29,16 @@ still false e = sym e
 -- the marks
 
 module _ (known : Knowledge) (n : ℕ) where
-  pub marks-on : {idle : List Bool} → known .some ≡ true → idle ≡ marked (known .idle) n → record { some = true; idle = idle } ≡ withIdle known n
+  pub marks-on : {idle : List Bool} → known .some ≡ true → idle ≡ marked (known .idle) n
+      → record { some = true; idle = idle } ≡ withIdle known n
   unfolding withIdle
   marks-on e h = ap with-marks (h ∙ ap (λ (l : List Bool). marked l n) (took _ _ (replicate 8 false) refl e refl))
     where
       with-marks : List Bool → Knowledge
       with-marks l = record { some = true; idle = l }
 
-  pub marks-anew : {idle : List Bool} → known .some ≡ false → idle ≡ marked (replicate 8 false) n → record { some = true; idle = idle } ≡ withIdle known n
+  pub marks-anew : {idle : List Bool} → known .some ≡ false → idle ≡ marked (replicate 8 false) n
+      → record { some = true; idle = idle } ≡ withIdle known n
   unfolding withIdle
   marks-anew e h = ap with-marks (h ∙ ap (λ (l : List Bool). marked l n) (passed-by _ (known .idle) _ refl e refl))
     where
@@ -53,7 +55,9 @@ module _ (p work : List ℕ) (n : ℕ) (known : Knowledge) (code : ℕ) where
   pub no-step : not (known .some) ≡ false → (code ≡ 0 → ⊥) → known ≡ knownAfterStep p work n known code
   unfolding knownAfterStep
   no-step e h = λ i. record {
-    some = took (known .some) (cond (eqb code 0) (alone p work n) true) false refl (still (known .some) e) (passed-by (eqb code 0) (alone p work n) true refl (ne-eqb code 0 h) (still (known .some) e)) i;
+    some =
+        took (known .some) (cond (eqb code 0) (alone p work n) true) false refl (still (known .some) e)
+        (passed-by (eqb code 0) (alone p work n) true refl (ne-eqb code 0 h) (still (known .some) e)) i;
     idle = known .idle;
   }
 
@@ -61,7 +65,9 @@ module _ (p work : List ℕ) (n : ℕ) (known : Knowledge) (code : ℕ) where
       → record { some = b; idle = known .idle } ≡ knownAfterStep p work n known code
   unfolding knownAfterStep
   looked-at e h {b} q = λ i. record {
-    some = took (known .some) (cond (eqb code 0) (alone p work n) true) false refl (still (known .some) e) (took (eqb code 0) (alone p work n) true refl (eq-eqb code 0 h) q) i;
+    some =
+        took (known .some) (cond (eqb code 0) (alone p work n) true) false refl (still (known .some) e)
+        (took (eqb code 0) (alone p work n) true refl (eq-eqb code 0 h) q) i;
     idle = known .idle;
   }
 
@@ -78,7 +84,8 @@ module _ (p work : List ℕ) (n : ℕ) (known : Knowledge) where
 
   pub still-alone : (code : ℕ) → code ≡ 0 → knownAfterStep p work n known code .some ≡ true → alone p work n ≡ true
   unfolding knownAfterStep
-  still-alone code z e = go (known .some) (sym (ap (λ (c : ℕ). cond (known .some) (cond (eqb c 0) (alone p work n) true) false) z) ∙ e)
+  still-alone code z e =
+      go (known .some) (sym (ap (λ (c : ℕ). cond (known .some) (cond (eqb c 0) (alone p work n) true) false) z) ∙ e)
     where
       go : (b : Bool) → cond b (alone p work n) false ≡ true → alone p work n ≡ true
       go true i = i
@@ -90,7 +97,8 @@ pub beyond-alone : (p work : List ℕ) (n : ℕ) → 8 ≤ n → false ≡ alone
 unfolding alone
 beyond-alone p work n h = took _ _ _ refl (le-leb 8 n h) refl
 
-pub stand-alone : (p work : List ℕ) (n : ℕ) {b : Bool} → n < 8 → b ≡ offersNothing p (partOf work n) → b ≡ alone p work n
+pub stand-alone : (p work : List ℕ) (n : ℕ) {b : Bool} → n < 8 → b ≡ offersNothing p (partOf work n)
+    → b ≡ alone p work n
 unfolding alone
 stand-alone p work n h e = passed-by _ _ _ refl (lt-leb 8 n h) e
 
@@ -99,17 +107,20 @@ pub alone-so : (p work : List ℕ) (n : ℕ) → alone p work n ≡ true → (n 
 unfolding alone
 alone-so p work n e = go (leb 8 n) refl e
   where
-    go : (b : Bool) → leb 8 n ≡ b → cond b false (offersNothing p (partOf work n)) ≡ true → (n < 8) × (readinessOp p (partOf work n) .kind ≡ 1)
+    go : (b : Bool) → leb 8 n ≡ b → cond b false (offersNothing p (partOf work n)) ≡ true
+        → (n < 8) × (readinessOp p (partOf work n) .kind ≡ 1)
     go true i h = absurd (true≢false (sym h))
     go false i h = (leb-false 8 n i, nothing-alone p (partOf work n) h)
 
-pub ends-alone : (p work : List ℕ) (t : List (List ℕ)) (n : ℕ) {b : Bool} → b ≡ alone p work n → b ≡ true → 0 ≡ endingOp p work t 8
+pub ends-alone : (p work : List ℕ) (t : List (List ℕ)) (n : ℕ) {b : Bool} → b ≡ alone p work n → b ≡ true
+    → 0 ≡ endingOp p work t 8
 ends-alone p work t n e h = alone-goes p work t n (alone-so p work n (sym e ∙ h) .0) (alone-so p work n (sym e ∙ h) .1)
 
 -- after an entry with lines
 
 module _ (p work : List ℕ) (n : ℕ) (known : Knowledge) (code : ℕ) {b : Bool} (e : b ≡ oneLine code) where
-  pub one-entered : b ≡ true → {k : Knowledge} → k ≡ knownAfterStep p work n known 0 → k ≡ knownAfterEntry p work n known code
+  pub one-entered : b ≡ true → {k : Knowledge} → k ≡ knownAfterStep p work n known 0
+      → k ≡ knownAfterEntry p work n known code
   unfolding knownAfterEntry
   one-entered h q = took _ _ _ e h q
 
@@ -117,7 +128,8 @@ module _ (p work : List ℕ) (n : ℕ) (known : Knowledge) (code : ℕ) {b : Boo
   unfolding knownAfterEntry
   more-entered h q = passed-by _ _ _ e h q
 
-pub forgotten : (known : Knowledge) {changed : Bool} → changed ≡ true → {k : Knowledge} → k ≡ nothingKnown → k ≡ unlessChanged known changed
+pub forgotten : (known : Knowledge) {changed : Bool} → changed ≡ true → {k : Knowledge} → k ≡ nothingKnown
+    → k ≡ unlessChanged known changed
 unfolding unlessChanged
 forgotten known h q = took _ _ _ refl h q
 
@@ -126,12 +138,15 @@ unfolding unlessChanged
 not-forgotten known h = passed-by _ _ _ refl h refl
 
 -- what is known after an entry with lines was known before it
-pub entered-so : (p work : List ℕ) (n : ℕ) (known : Knowledge) (code : ℕ) (changed : Bool) → unlessChanged (knownAfterEntry p work n known code) changed .some ≡ true
+pub entered-so : (p work : List ℕ) (n : ℕ) (known : Knowledge) (code : ℕ) (changed : Bool)
+    → unlessChanged (knownAfterEntry p work n known code) changed .some ≡ true
     → (changed ≡ false) × (oneLine code ≡ true) × (known .some ≡ true) × (alone p work n ≡ true)
 unfolding unlessChanged knownAfterEntry knownAfterStep nothingKnown
 entered-so p work n known code changed z = go changed (oneLine code) (known .some) z
   where
-    go : (a b c : Bool) → cond a nothingKnown (cond b (record { some = cond c (alone p work n) false; idle = known .idle }) nothingKnown) .some ≡ true
+    go : (a b c : Bool)
+        → cond a nothingKnown
+        (cond b (record { some = cond c (alone p work n) false; idle = known .idle }) nothingKnown) .some ≡ true
         → (a ≡ false) × (b ≡ true) × (c ≡ true) × (alone p work n ≡ true)
     go true b c z = absurd (true≢false (sym z))
     go false true true z = (refl, refl, refl, z)

@@ -18,7 +18,8 @@ use Rattle.run_burst.specs.TurnCode.{AfterTurn, afterTurn, namedEntryOp,
 -- the entry of a byte that names no process, or one
 
 module _ (p outcomes trace work : List ℕ) (room : ℕ) (g : Count) (n code : ℕ) (offer : Pairing) where
-  pub names-none : {m : EntryResult} → 8 ≤ n → m ≡ idleAt g → afterEntry m trace work ≡ namedEntryOp p outcomes trace work room g n code offer
+  pub names-none : {m : EntryResult} → 8 ≤ n → m ≡ idleAt g
+      → afterEntry m trace work ≡ namedEntryOp p outcomes trace work room g n code offer
   unfolding namedEntryOp
   names-none h e = took _ _ _ refl (le-leb 8 n h) (came-to e refl refl)
 
@@ -32,13 +33,16 @@ module _ (p outcomes trace work : List ℕ) (room : ℕ) (g : Count) (n code : �
 abbrev with-end : EntryResult → List ℕ → List ℕ → ℕ → Knowledge → AfterTurn
 with-end m ts ws e q = afterTurn (record { end = e; lines = m .lines; used = m .used; known = q }) ts ws
 
-module _ (p outcomes trace work : List ℕ) (room : ℕ) (t : List (List ℕ)) (g : Count) (n code : ℕ) (offer : Pairing) (known : Knowledge) {m : EntryResult}
-    {ts ws : List ℕ} (changed : afterEntry m ts ws ≡ namedEntryOp p outcomes trace work room g n code offer) {q : Knowledge} where
+module _ (p outcomes trace work : List ℕ) (room : ℕ) (t : List (List ℕ)) (g : Count) (n code : ℕ) (offer : Pairing)
+    (known : Knowledge) {m : EntryResult}
+    {ts ws : List ℕ} (changed : afterEntry m ts ws ≡ namedEntryOp p outcomes trace work room g n code offer)
+    {q : Knowledge} where
   pub turn-full : m .state ≡ 2 → q ≡ nothingKnown
       → afterTurn (record { end = 3; lines = m .lines; used = m .used; known = q }) ts ws
       ≡ turnOp p outcomes trace work room t g n code offer known
   unfolding turnOp turnBy
-  turn-full h e = took _ _ _ refl (eq-eqb (m .state) 2 h) (ap (with-end m ts ws 3) e) ∙ ap (turnBy p t n code known) changed
+  turn-full h e =
+      took _ _ _ refl (eq-eqb (m .state) 2 h) (ap (with-end m ts ws 3) e) ∙ ap (turnBy p t n code known) changed
 
   module _ (room-left : m .state ≡ 2 → ⊥) where
     pub turn-moves : m .state ≡ 1 → q ≡ knownAfterEntry p ws n known code
@@ -46,7 +50,8 @@ module _ (p outcomes trace work : List ℕ) (room : ℕ) (t : List (List ℕ)) (
         ≡ turnOp p outcomes trace work room t g n code offer known
     unfolding turnOp turnBy
     turn-moves h e =
-        passed-by _ _ _ refl (ne-eqb (m .state) 2 room-left) (took _ _ _ refl (eq-eqb (m .state) 1 h) (ap (with-end m ts ws 0) e))
+        passed-by _ _ _ refl (ne-eqb (m .state) 2 room-left)
+        (took _ _ _ refl (eq-eqb (m .state) 1 h) (ap (with-end m ts ws 0) e))
         ∙ ap (turnBy p t n code known) changed
 
     pub turn-asks : {end : ℕ} → (m .state ≡ 1 → ⊥) → end ≡ endingOp p ws t 8 → q ≡ withIdle known n
@@ -54,5 +59,6 @@ module _ (p outcomes trace work : List ℕ) (room : ℕ) (t : List (List ℕ)) (
         ≡ turnOp p outcomes trace work room t g n code offer known
     unfolding turnOp turnBy
     turn-asks h e i =
-        passed-by _ _ _ refl (ne-eqb (m .state) 2 room-left) (passed-by _ _ _ refl (ne-eqb (m .state) 1 h) (ap₂ (with-end m ts ws) e i))
+        passed-by _ _ _ refl (ne-eqb (m .state) 2 room-left)
+        (passed-by _ _ _ refl (ne-eqb (m .state) 1 h) (ap₂ (with-end m ts ws) e i))
         ∙ ap (turnBy p t n code known) changed

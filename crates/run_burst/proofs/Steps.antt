@@ -30,7 +30,8 @@ module _ (p work : List ℕ) (n : ℕ) (known : Knowledge) where
   unfolding namedOp
   named-idle h e i = passed-by _ _ _ refl (lt-leb 8 n h) (took _ _ _ e i refl)
 
-  pub named-steps : {b : Bool} {d : AfterStep} → n < 8 → b ≡ isIdle known n → b ≡ false → d ≡ onPart work n (stepOp p (partOf work n))
+  pub named-steps : {b : Bool} {d : AfterStep} → n < 8 → b ≡ isIdle known n → b ≡ false
+      → d ≡ onPart work n (stepOp p (partOf work n))
       → d ≡ namedOp p work n known
   unfolding namedOp
   named-steps h e i q = passed-by _ _ _ refl (lt-leb 8 n h) (passed-by _ _ _ e i q)
@@ -62,7 +63,8 @@ module _ (p work schedule : List ℕ) (k : ℕ) (known : Knowledge) (m : Pairing
   unfolding stopsHere
   goes-known h e = took _ _ _ refl (eq-eqb (m .kind) 1 h) (took _ _ _ refl e refl)
 
-  pub goes-seen : m .kind ≡ 1 → known .some ≡ false → {n : ℕ} {b : Bool} → n ≡ namedBefore schedule k → b ≡ alone p work n
+  pub goes-seen : m .kind ≡ 1 → known .some ≡ false → {n : ℕ} {b : Bool} → n ≡ namedBefore schedule k
+      → b ≡ alone p work n
       → not b ≡ stopsHere p work schedule k known m
   unfolding stopsHere
   goes-seen h e f g = took _ _ _ refl (eq-eqb (m .kind) 1 h) (passed-by _ _ _ refl e (ap not (g ∙ ap (alone p work) f)))
@@ -78,12 +80,14 @@ done-so code known z h = go (eqb code 0) (eqb code 1) (known .some) refl refl h
     go false true c i j e = (eqb-true code 1 j, e)
     go false false c i j e = absurd (true≢false (sym e))
 
-pub stops-so : (p work schedule : List ℕ) (k : ℕ) (known : Knowledge) (m : Pairing) → stopsHere p work schedule k known m ≡ false
+pub stops-so : (p work schedule : List ℕ) (k : ℕ) (known : Knowledge) (m : Pairing)
+    → stopsHere p work schedule k known m ≡ false
     → (m .kind ≡ 1) × ((known .some ≡ true) ⊎ (alone p work (namedBefore schedule k) ≡ true))
 unfolding stopsHere
 stops-so p work schedule k known m h = go (eqb (m .kind) 1) (known .some) (alone p work (namedBefore schedule k)) refl h
   where
-    go : (a b c : Bool) → eqb (m .kind) 1 ≡ a → cond a (cond b false (not c)) true ≡ false → (m .kind ≡ 1) × ((b ≡ true) ⊎ (c ≡ true))
+    go : (a b c : Bool) → eqb (m .kind) 1 ≡ a → cond a (cond b false (not c)) true ≡ false
+        → (m .kind ≡ 1) × ((b ≡ true) ⊎ (c ≡ true))
     go true true c i e = (eqb-true (m .kind) 1 i, inl refl)
     go true false true i e = (eqb-true (m .kind) 1 i, inr refl)
     go true false false i e = absurd (true≢false e)
@@ -94,7 +98,8 @@ abbrev burstBy : List ℕ → List (List ℕ) → List ℕ → ℕ → Knowledge
 burstBy p t schedule k known left d =
     let n = getD schedule k 0 in
     let m = offerAt p (d .words) t n (d .code) in
-    cond (isDone (d .code) known) (burstOp p t schedule (d .words) (k + 1) (knownAfterStep p (d .words) n known (d .code)) left)
+    cond (isDone (d .code) known)
+    (burstOp p t schedule (d .words) (k + 1) (knownAfterStep p (d .words) n known (d .code)) left)
     (cond (stopsHere p (d .words) schedule k known m)
     (stopsAt (record { at = k; code = d .code; offer = m; known = known }) (d .words))
     (burstOp p t schedule (d .words) (k + 1) (withIdle known n) left))
@@ -102,7 +107,8 @@ burstBy p t schedule k known left d =
 module _ (p : List ℕ) (t : List (List ℕ)) (schedule work : List ℕ) (k : ℕ) (known : Knowledge) where
   -- the schedule is used up
   pub burst-ends : length schedule ≤ k → {m : Pairing} → m ≡ unpaired 0
-      → stopsAt (record { at = k; code = 0; offer = m; known = known }) work ≡ burstOp p t schedule work k known (length schedule - k)
+      → stopsAt (record { at = k; code = 0; offer = m; known = known }) work ≡ burstOp p t schedule work k known
+      (length schedule - k)
   unfolding burstOp
   burst-ends h e = ap ended e ∙ sym (ap (burstOp p t schedule work k known) none)
     where
@@ -113,7 +119,8 @@ module _ (p : List ℕ) (t : List (List ℕ)) (schedule work : List ℕ) (k : �
       none = omega (arith, h)
 
   module _ {code : ℕ} {words : List ℕ} (more : k < length schedule)
-      (changed : afterStep code words ≡ namedOp p work (getD schedule k 0) known) {done : Bool} (tested : done ≡ isDone code known) where
+      (changed : afterStep code words ≡ namedOp p work (getD schedule k 0) known) {done : Bool}
+      (tested : done ≡ isDone code known) where
     burst-turn : burstBy p t schedule k known (length schedule - (k + 1)) (afterStep code words)
         ≡ burstOp p t schedule work k known (length schedule - k)
     unfolding burstOp
@@ -126,9 +133,13 @@ module _ (p : List ℕ) (t : List (List ℕ)) (schedule work : List ℕ) (k : �
 
     -- the entry was over with the step
     pub burst-goes : done ≡ true → {next : Knowledge} → next ≡ knownAfterStep p words (getD schedule k 0) known code
-        → burstOp p t schedule work k known (length schedule - k) ≡ burstOp p t schedule words (k + 1) next (length schedule - (k + 1))
+        → burstOp p t schedule work k known (length schedule - k) ≡ burstOp p t schedule words (k + 1) next
+        (length schedule - (k + 1))
     burst-goes h q =
-        sym (took _ _ _ tested h (ap (λ (x : Knowledge). burstOp p t schedule words (k + 1) x (length schedule - (k + 1))) q) ∙ burst-turn)
+        sym
+        (took _ _ _ tested h
+        (ap (λ (x : Knowledge). burstOp p t schedule words (k + 1) x (length schedule - (k + 1))) q)
+        ∙ burst-turn)
 
     module _ (needs : done ≡ false) {m : Pairing} (comes : m ≡ offerAt p words t (getD schedule k 0) code)
         {stops : Bool} (asked : stops ≡ stopsHere p words schedule k known m) where
@@ -137,7 +148,8 @@ module _ (p : List ℕ) (t : List (List ℕ)) (schedule work : List ℕ) (k : �
 
       -- it needs more
       pub burst-stops : stops ≡ true
-          → stopsAt (record { at = k; code = code; offer = m; known = known }) words ≡ burstOp p t schedule work k known (length schedule - k)
+          → stopsAt (record { at = k; code = code; offer = m; known = known }) words ≡ burstOp p t schedule work k known
+          (length schedule - k)
       burst-stops h = passed-by _ _ _ tested needs (took _ _ _ asked-so h (ap here comes)) ∙ burst-turn
         where
           here : Pairing → Stop
@@ -145,7 +157,9 @@ module _ (p : List ℕ) (t : List (List ℕ)) (schedule work : List ℕ) (k : �
 
       -- the named process waits
       pub burst-waits : stops ≡ false → {next : Knowledge} → next ≡ withIdle known (getD schedule k 0)
-          → burstOp p t schedule work k known (length schedule - k) ≡ burstOp p t schedule words (k + 1) next (length schedule - (k + 1))
+          → burstOp p t schedule work k known (length schedule - k) ≡ burstOp p t schedule words (k + 1) next
+          (length schedule - (k + 1))
       burst-waits h q =
           sym (passed-by _ _ _ tested needs
-          (passed-by _ _ _ asked-so h (ap (λ (x : Knowledge). burstOp p t schedule words (k + 1) x (length schedule - (k + 1))) q)) ∙ burst-turn)
+          (passed-by _ _ _ asked-so h
+          (ap (λ (x : Knowledge). burstOp p t schedule words (k + 1) x (length schedule - (k + 1))) q)) ∙ burst-turn)

@@ -25,7 +25,8 @@ stopsAt b w = record { burst = b; words = w }
 -- one step of process n; 1 where no process can have that number, or where it is known not to be able to move
 unfoldable pub namedOp : List ℕ → List ℕ → ℕ → Knowledge → AfterStep
 namedOp p work n known =
-    cond (leb 8 n) (afterStep 1 work) (cond (isIdle known n) (afterStep 1 work) (onPart work n (stepOp p (partOf work n))))
+    cond (leb 8 n) (afterStep 1 work)
+    (cond (isIdle known n) (afterStep 1 work) (onPart work n (stepOp p (partOf work n))))
 
 -- the entry is over with the step: code 0, or 1 where it is known that some process is able to move
 unfoldable pub isDone : ℕ → Knowledge → Bool
@@ -46,7 +47,8 @@ burstOp p t schedule work k known (suc left) =
     let n = getD schedule k 0 in
     let d = namedOp p work n known in
     let m = offerAt p (d .words) t n (d .code) in
-    cond (isDone (d .code) known) (burstOp p t schedule (d .words) (k + 1) (knownAfterStep p (d .words) n known (d .code)) left)
+    cond (isDone (d .code) known)
+    (burstOp p t schedule (d .words) (k + 1) (knownAfterStep p (d .words) n known (d .code)) left)
     (cond (stopsHere p (d .words) schedule k known m)
     (stopsAt (record { at = k; code = d .code; offer = m; known = known }) (d .words))
     (burstOp p t schedule (d .words) (k + 1) (withIdle known n) left))

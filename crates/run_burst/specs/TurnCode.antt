@@ -35,8 +35,10 @@ turnBy p t n code known c =
     (afterTurn (record { end = 0; lines = c .result .lines; used = c .result .used; known = knownAfterEntry p (c .work) n known code }) (c .trace) (c .work))
     (afterTurn (record { end = endingOp p (c .work) t 8; lines = c .result .lines; used = c .result .used; known = withIdle known n }) (c .trace) (c .work)))
 
-unfoldable pub turnOp : List ℕ → List ℕ → List ℕ → List ℕ → ℕ → List (List ℕ) → Count → ℕ → ℕ → Pairing → Knowledge → AfterTurn
-turnOp p outcomes trace work room t g n code m known = turnBy p t n code known (namedEntryOp p outcomes trace work room g n code m)
+unfoldable pub turnOp : List ℕ → List ℕ → List ℕ → List ℕ → ℕ → List (List ℕ) → Count → ℕ → ℕ → Pairing → Knowledge
+    → AfterTurn
+turnOp p outcomes trace work room t g n code m known =
+    turnBy p t n code known (namedEntryOp p outcomes trace work room g n code m)
 
 -- the entry at which a burst has stopped
 unfoldable pub turnAt : List ℕ → List ℕ → List ℕ → List ℕ → List ℕ → ℕ → List (List ℕ) → ℕ → ℕ → Burst → AfterTurn

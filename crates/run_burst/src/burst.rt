@@ -1,5 +1,5 @@
-// The entries that write no line: plain steps, and idle entries while some process is known to be able to move. They touch
-// neither the trace nor the counts.
+// The entries that write no line: plain steps, and idle entries while some process is known to be able to move. They
+// touch neither the trace nor the counts.
 ghost use mathlib.Core.Path.{_≡_};
 ghost use Prim.Native.Nat.{_+_, _-_, _*_, _<_, _≤_};
 ghost use lib.ListN.{length};
@@ -15,8 +15,8 @@ use run_entry::entry::offer_at;
 use run_parts::part::step_process;
 use run_store::references::ProcessNo;
 
-// The first entry that needs more, with the code of its step, what its offer comes to, and what is known before it; code 0
-// where the schedule is used up.
+// The first entry that needs more, with the code of its step, what its offer comes to, and what is known before it;
+// code 0 where the schedule is used up.
 pub struct Burst {
     pub at: usize,
     pub code: u32,
@@ -93,8 +93,8 @@ fn named_before(schedule: &[u8], k: usize) -> u8
     schedule[k - 1]
 }
 
-// The entry needs more: the named process does not wait, or no other is known or seen to be able to move. Seen is the one
-// that the entry before names.
+// The entry needs more: the named process does not wait, or no other is known or seen to be able to move. Seen is the
+// one that the entry before names.
 fn stops_here(
     p: &[u16],
     start: usize,

@@ -60,7 +60,8 @@ fn named_entry(
     )
 }
 
-// An entry with one line may leave its process where others wait for it, like a step; after any other, nothing is known.
+// An entry with one line may leave its process where others wait for it, like a step; after any other, nothing is
+// known.
 fn known_after_entry(
     p: &[u16],
     start: usize,
@@ -78,8 +79,8 @@ fn known_after_entry(
     nothing_known()
 }
 
-// "none able to move .. end 2" is worked out only where the named process cannot move and no other is known or seen to be
-// able to.
+// "none able to move .. end 2" is worked out only where the named process cannot move and no other is known or seen to
+// be able to.
 fn take_turn(
     p: &[u16],
     start: usize,

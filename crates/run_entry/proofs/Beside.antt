@@ -23,7 +23,8 @@ unfolding countedWords
 part-counted w kind q = go (eqb kind 1) (eqb kind 2)
   where
     go : (a b : Bool)
-        → partOf (cond a (set w 1 ((getD w 1 0 + 1) % 4294967296)) (cond b (set w 2 ((getD w 2 0 + 1) % 4294967296)) w)) q ≡ partOf w q
+        → partOf (cond a (set w 1 ((getD w 1 0 + 1) % 4294967296)) (cond b (set w 2 ((getD w 2 0 + 1) % 4294967296)) w))
+        q ≡ partOf w q
     go true b = part-front w 1 ((getD w 1 0 + 1) % 4294967296) q (omega arith)
     go false true = part-front w 2 ((getD w 2 0 + 1) % 4294967296) q (omega arith)
     go false false = refl
@@ -32,17 +33,22 @@ length-counted : (w : List ℕ) (kind : ℕ) → length (countedWords w kind) �
 unfolding countedWords
 length-counted w kind = go (eqb kind 1) (eqb kind 2)
   where
-    go : (a b : Bool) → length (cond a (set w 1 ((getD w 1 0 + 1) % 4294967296)) (cond b (set w 2 ((getD w 2 0 + 1) % 4294967296)) w)) ≡ length w
+    go : (a b : Bool)
+        → length (cond a (set w 1 ((getD w 1 0 + 1) % 4294967296)) (cond b (set w 2 ((getD w 2 0 + 1) % 4294967296)) w))
+        ≡ length w
     go true b = length-set w 1 ((getD w 1 0 + 1) % 4294967296)
     go false true = length-set w 2 ((getD w 2 0 + 1) % 4294967296)
     go false false = refl
 
-module _ (p outcomes trace work : List ℕ) (room : ℕ) (g : Count) (n code : ℕ) (m : Pairing) (long : 8192 ≤ length work) (low : n < 8) where
-  single-is : oneLine code ≡ true → entryOp p outcomes trace work room g n code m ≡ singleOp p outcomes trace work room g n (code % 65536)
+module _ (p outcomes trace work : List ℕ) (room : ℕ) (g : Count) (n code : ℕ) (m : Pairing)
+    (long : 8192 ≤ length work) (low : n < 8) where
+  single-is : oneLine code ≡ true
+      → entryOp p outcomes trace work room g n code m ≡ singleOp p outcomes trace work room g n (code % 65536)
   unfolding oneLine entryOp isOffer
   single-is e = go (eqb code 1) (eqb code 114) (eqb code 115) (eqb code 116) _ _ _ e
     where
-      go : (a b c d : Bool) (u v x : AfterEntry) {y : AfterEntry} → (not a && (not b && (not c && not d))) ≡ true → cond a u (cond b v (cond (c || d) x y)) ≡ y
+      go : (a b c d : Bool) (u v x : AfterEntry) {y : AfterEntry} → (not a && (not b && (not c && not d))) ≡ true
+          → cond a u (cond b v (cond (c || d) x y)) ≡ y
       go true b c d u v x e = absurd (true≢false (sym e))
       go false true c d u v x e = absurd (true≢false (sym e))
       go false false true d u v x e = absurd (true≢false (sym e))
@@ -64,4 +70,5 @@ module _ (p outcomes trace work : List ℕ) (room : ℕ) (g : Count) (n code : �
       go true l = refl
       go false l =
           part-counted (done .words) (done .event .kind) q
-          ∙ part-other work long n q _ low h ne (part-kept work long n _ low (sym (length-counted (done .words) (done .event .kind)) ∙ l))
+          ∙ part-other work long n q _ low h ne
+          (part-kept work long n _ low (sym (length-counted (done .words) (done .event .kind)) ∙ l))

@@ -43,7 +43,8 @@ use Rattle.run_entry.specs.ForkCode.{forkDone, startOp, tryOp, forkOp}
 use Rattle.run_single.proofs.Here.{Here}
 use Rattle.run_single.proofs.Singly.{sound, laid, count, took, full, tried, part-now, fault-law}
 
-module _ {p outcomes : List ℕ} {s : State} {t0 : List ℕ} {room : ℕ} (here : Here p outcomes s t0 room) (rest : List ℕ) (k n : ℕ)
+module _ {p outcomes : List ℕ} {s : State} {t0 : List ℕ} {room : ℕ} (here : Here p outcomes s t0 room)
+    (rest : List ℕ) (k n : ℕ)
     {f : Frame} {fs : List Frame} (live : Running p (s .config) n f fs) where
   abbrev reached : Reached p outcomes s
   reached = here .reached
@@ -73,7 +74,8 @@ module _ {p outcomes : List ℕ} {s : State} {t0 : List ℕ} {room : ℕ} (here 
   given args = reverse (take args (f .pending))
 
   -- the child started, where its lines fit
-  module _ (method : m < methods p) (args : ℕ) (enough : args ≤ length (f .pending)) (few : args ≤ 8) (free : length (c .processes) < 8)
+  module _ (method : m < methods p) (args : ℕ) (enough : args ≤ length (f .pending)) (few : args ≤ 8)
+      (free : length (c .processes) < 8)
       (after : All (FrameSound p c) (passedBy args f ∷ fs)) where
     abbrev effect : Effect
     effect = forking p outcomes k s n m (given args) (passedBy args f ∷ fs)
@@ -97,12 +99,17 @@ module _ {p outcomes : List ℕ} {s : State} {t0 : List ℕ} {room : ℕ} (here 
 
     new-lines : effect .lines ≡ first ∷ giftLines k n (length (c .processes)) (given args)
     unfolding forkingIn first
-    new-lines = ap {B = List Line} (λ (i : ℕ). lineOf k n (forked (length (c .processes)) m i) ∷ giftLines k n (length (c .processes)) (given args)) given-count
+    new-lines =
+        ap {B = List Line}
+        (λ (i : ℕ). lineOf k n (forked (length (c .processes)) m i) ∷ giftLines k n (length (c .processes)) (given args))
+        given-count
 
     lines-long : length (effect .lines) ≡ suc (length (thingsOf (given args)))
     lines-long =
         ap length new-lines
-        ∙ ap suc (length-map (map (gave (length (c .processes))) (thingsOf (given args))) (lineOf k n) ∙ length-map (thingsOf (given args)) (gave (length (c .processes))))
+        ∙ ap suc
+        (length-map (map (gave (length (c .processes))) (thingsOf (given args))) (lineOf k n)
+        ∙ length-map (thingsOf (given args)) (gave (length (c .processes))))
 
     lines-written : length (s .lines) + suc (length (thingsOf (given args))) ≤ room
         → forkWritten lines store (length (s .lines)) k n (length (c .processes)) m args
@@ -116,7 +123,14 @@ module _ {p outcomes : List ℕ} {s : State} {t0 : List ℕ} {room : ℕ} (here 
         (sound here rest k n .qubitCount)
         (sound here rest k n .channelCount) args enough
         (s .lines ++ (first ∷ [])) t0 k (length (c .processes)) args (omega arith)
-        (omega (arith, here .holds, h, length-append (s .lines) (first ∷ []), ap (λ (l : List Value). length (thingsOf l)) given-all))
+        (omega (
+          arith,
+          here .holds,
+          h,
+          length-append (s .lines) (first ∷ []),
+          ap (λ (l : List Value). length (thingsOf l))
+              given-all,
+        ))
         ∙ ap (λ (l : List Line). gifts (length l) (traceAfter l t0))
         (ap (λ (l : List Value). (s .lines ++ (first ∷ [])) ++ giftLines k n (length (c .processes)) l) given-all
         ∙ append-assoc (s .lines) (first ∷ []) (giftLines k n (length (c .processes)) (given args))
@@ -135,7 +149,8 @@ module _ {p outcomes : List ℕ} {s : State} {t0 : List ℕ} {room : ℕ} (here 
       where
         done : AfterEntry
         done = forkDone p store (count here rest k n)
-            (forkWritten lines store (length (s .lines)) k n (length (c .processes)) m args) n (length (c .processes)) m args
+            (forkWritten lines store (length (s .lines)) k n (length (c .processes)) m args) n (length (c .processes)) m
+            args
 
         go : (b : Bool) → ltb room (length (s .lines) + 1 + length (thingsOf (given args))) ≡ b
             → cond b fullNow done ≡ cond (leb (length (s .lines) + length (effect .lines)) room) (takes effect) fullNow
@@ -145,8 +160,11 @@ module _ {p outcomes : List ℕ} {s : State} {t0 : List ℕ} {room : ℕ} (here 
             (omega (arith, ltb-true room (length (s .lines) + 1 + length (thingsOf (given args))) h, lines-long))))
         go false h =
             ap₂ (λ (g : Gifts) (w : List ℕ). afterEntry (takenTo (g .next) (s .used)) (g .words) w)
-            (lines-written (omega (arith, ltb-false room (length (s .lines) + 1 + length (thingsOf (given args))) h))) store-is
-            ∙ ap (λ (u : ℕ). afterEntry (takenTo (length (s .lines ++ effect .lines)) u) (traceAfter (s .lines ++ effect .lines) t0) (encode (effect .config) ++ rest))
+            (lines-written (omega (arith, ltb-false room (length (s .lines) + 1 + length (thingsOf (given args))) h)))
+            store-is
+            ∙ ap
+            (λ (u : ℕ). afterEntry (takenTo (length (s .lines ++ effect .lines)) u)
+            (traceAfter (s .lines ++ effect .lines) t0) (encode (effect .config) ++ rest))
             {x = s .used} {y = s .used + 0} (omega arith)
             ∙ sym (ap (λ (b : Bool). cond b (takes effect) fullNow)
             (le-leb (length (s .lines) + length (effect .lines)) room
@@ -190,14 +208,20 @@ module _ {p outcomes : List ℕ} {s : State} {t0 : List ℕ} {room : ℕ} (here 
       ∙ empty-args outcomes s (live .busy) params h
 
   -- the frames that go on are sound
-  goes-sound : actOf p outcomes s n ≡ forks m (given params) (passedBy params f ∷ fs) → All (FrameSound p c) (passedBy params f ∷ fs)
+  goes-sound : actOf p outcomes s n ≡ forks m (given params) (passedBy params f ∷ fs)
+      → All (FrameSound p c) (passedBy params f ∷ fs)
   goes-sound e =
-      let typed-after : Frames p (Fits (reached .kinds) (c .qubits)) [] (passedBy params f ∷ fs) = (rw e at (act-typed p (reached .kept) outcomes (reached .bytes) s (reached .kinds) (reached .typed) n)) .3 in
-      (frame-sound p (reached .kept) (reached .kinds) c (reached .typed) [] (passedBy params f) (typed-after .stack .0), callers-sound p (reached .kept) (reached .kinds) c (reached .typed) (passedBy params f .method) fs (typed-after .stack .1))
+      let typed-after : Frames p (Fits (reached .kinds) (c .qubits)) [] (passedBy params f ∷ fs) =
+      (rw e at (act-typed p (reached .kept) outcomes (reached .bytes) s (reached .kinds) (reached .typed) n)) .3 in (
+        frame-sound p (reached .kept) (reached .kinds) c (reached .typed) [] (passedBy params f) (typed-after .stack .0),
+        callers-sound p (reached .kept) (reached .kinds) c (reached .typed) (passedBy params f .method) fs
+            (typed-after .stack .1),
+      )
 
   -- what an entry at FORK leaves
   pub fork-law : opAt p (f .place) ≡ 14 → actOf p outcomes s n ≢ stuck
-      → forkOp p outcomes lines store room (count here rest k n) n ≡ tries (applied p outcomes k s n (actOf p outcomes s n))
+      → forkOp p outcomes lines store room (count here rest k n) n ≡ tries
+      (applied p outcomes k s n (actOf p outcomes s n))
   unfolding forkOp tryOp appliedIn
   fork-law e going =
       ap (λ (i : ℕ). tryOp p outcomes lines store room (count here rest k n) n i (paramsOf p i)) reads-method
@@ -206,19 +230,24 @@ module _ {p outcomes : List ℕ} {s : State} {t0 : List ℕ} {room : ℕ} (here 
       left : AfterEntry
       left = tryOp p outcomes lines store room (count here rest k n) n m params
 
-      doing : (b x y : Bool) → leb params (length (f .pending)) ≡ b → any isEmpty (take params (f .pending)) ≡ x → ltb (length (c .processes)) 8 ≡ y
-          → actOf p outcomes s n ≡ cond b (cond x (faults 20) (cond y (forks m (given params) (passedBy params f ∷ fs)) (faults 23))) stuck
+      doing : (b x y : Bool) → leb params (length (f .pending)) ≡ b → any isEmpty (take params (f .pending)) ≡ x
+          → ltb (length (c .processes)) 8 ≡ y
+          → actOf p outcomes s n ≡ cond b
+          (cond x (faults 20) (cond y (forks m (given params) (passedBy params f ∷ fs)) (faults 23))) stuck
       doing b x y i j l =
           forking-act e
-          ∙ (λ t. cond (i t) (cond (j t) (faults 20) (cond (l t) (forks m (given params) (passedBy params f ∷ fs)) (faults 23))) stuck)
+          ∙ (λ t. cond (i t)
+          (cond (j t) (faults 20) (cond (l t) (forks m (given params) (passedBy params f ∷ fs)) (faults 23))) stuck)
 
       stopped-by : (x : ℕ) → IsFault x → actOf p outcomes s n ≡ faults x
-          → singleOp p outcomes lines store room (count here rest k n) n x ≡ tries (applied p outcomes k s n (actOf p outcomes s n))
+          → singleOp p outcomes lines store room (count here rest k n) n x ≡ tries
+          (applied p outcomes k s n (actOf p outcomes s n))
       stopped-by x listed i =
           fault-law here rest k n live x listed
           ∙ ap (λ (a : Act). tries (applied p outcomes k s n a)) (sym i)
 
-      free : (x y : Bool) → leb params (length (f .pending)) ≡ true → any isEmpty (take params (f .pending)) ≡ x → ltb (length (c .processes)) 8 ≡ y
+      free : (x y : Bool) → leb params (length (f .pending)) ≡ true → any isEmpty (take params (f .pending)) ≡ x
+          → ltb (length (c .processes)) 8 ≡ y
           → cond x (singleOp p outcomes lines store room (count here rest k n) n 20)
           (cond (not y) (singleOp p outcomes lines store room (count here rest k n) n 23)
           (startOp p lines store room (count here rest k n) n (length (c .processes)) m params))
@@ -226,15 +255,19 @@ module _ {p outcomes : List ℕ} {s : State} {t0 : List ℕ} {room : ℕ} (here 
       free true y i j l = stopped-by 20 (inl (omega arith, omega arith)) (doing true true y i j l)
       free false false i j l = stopped-by 23 (inl (omega arith, omega arith)) (doing true false false i j l)
       free false true i j l =
-          start-law (method-there e) params (leb-true params (length (f .pending)) i) (reached .kept .rows m (method-there e) .params) (ltb-true (length (c .processes)) 8 l)
+          start-law (method-there e) params (leb-true params (length (f .pending)) i)
+          (reached .kept .rows m (method-there e) .params) (ltb-true (length (c .processes)) 8 l)
           (goes-sound (doing true false true i j l))
           ∙ ap (λ (a : Act). tries (applied p outcomes k s n a)) (sym (doing true false true i j l))
 
       full-house : (y : Bool) → ltb (length (c .processes)) 8 ≡ y → leb 8 (getD store 0 0) ≡ not y
-      full-house true l = ap (leb 8) (processes-word c rest) ∙ lt-leb 8 (length (c .processes)) (ltb-true (length (c .processes)) 8 l)
-      full-house false l = ap (leb 8) (processes-word c rest) ∙ le-leb 8 (length (c .processes)) (ltb-false (length (c .processes)) 8 l)
+      full-house true l =
+          ap (leb 8) (processes-word c rest) ∙ lt-leb 8 (length (c .processes)) (ltb-true (length (c .processes)) 8 l)
+      full-house false l =
+          ap (leb 8) (processes-word c rest) ∙ le-leb 8 (length (c .processes)) (ltb-false (length (c .processes)) 8 l)
 
-      enough : (b : Bool) → leb params (length (f .pending)) ≡ b → left ≡ tries (applied p outcomes k s n (actOf p outcomes s n))
+      enough : (b : Bool) → leb params (length (f .pending)) ≡ b
+          → left ≡ tries (applied p outcomes k s n (actOf p outcomes s n))
       enough true i =
           (λ t. cond (reads-empty (leb-true params (length (f .pending)) i) t)
           (singleOp p outcomes lines store room (count here rest k n) n 20)
@@ -242,4 +275,6 @@ module _ {p outcomes : List ℕ} {s : State} {t0 : List ℕ} {room : ℕ} (here 
           (singleOp p outcomes lines store room (count here rest k n) n 23)
           (startOp p lines store room (count here rest k n) n (processes-word c rest t) m params)))
           ∙ free (any isEmpty (take params (f .pending))) (ltb (length (c .processes)) 8) i refl refl
-      enough false i = absurd (going (doing false (any isEmpty (take params (f .pending))) (ltb (length (c .processes)) 8) i refl refl))
+      enough false i =
+          absurd
+          (going (doing false (any isEmpty (take params (f .pending))) (ltb (length (c .processes)) 8) i refl refl))

@@ -50,7 +50,8 @@ use Rattle.run_single.proofs.Singly.{sound, count, tried, part-now, fault-law}
 use Rattle.run_entry.proofs.Exchanged.{exchange-law}
 use Rattle.run_entry.proofs.Paired.{pairBy, pairOp, joinOp, offerOp, standsOp, meetOp, meet-same}
 
-module _ {p outcomes : List ℕ} {s : State} {t0 : List ℕ} {room : ℕ} (here : Here p outcomes s t0 room) (rest : List ℕ) (k n : ℕ) where
+module _ {p outcomes : List ℕ} {s : State} {t0 : List ℕ} {room : ℕ} (here : Here p outcomes s t0 room)
+    (rest : List ℕ) (k n : ℕ) where
   abbrev reached : Reached p outcomes s
   reached = here .reached
 
@@ -104,7 +105,8 @@ module _ {p outcomes : List ℕ} {s : State} {t0 : List ℕ} {room : ℕ} (here 
           (λ t. absurd (idle-offers o (sym (unmade-idle p outcomes s q (ltb-false q (length (c .processes)) t)) ∙ e)))
           (decide (ltb q (length (c .processes))))
 
-      go : (st : Status) (fs : List Frame) → processAt c q ≡ record { status = st; frames = fs } → ProcessSound p c (record { status = st; frames = fs })
+      go : (st : Status) (fs : List Frame) → processAt c q ≡ record { status = st; frames = fs }
+          → ProcessSound p c (record { status = st; frames = fs })
           → byStatus st (atFrames p outcomes s fs) ≡ offers o → Offerer q o
       go running [] i h e = absurd (omega (arith, h .status))
       go running (f ∷ fs) i h e =
@@ -118,8 +120,10 @@ module _ {p outcomes : List ℕ} {s : State} {t0 : List ℕ} {room : ℕ} (here 
       go (stopped m) fs i h e = absurd (idle-offers o e)
 
   -- the meeting of process n, which offers o, with process q, which offers r
-  pair-law : (q : ℕ) (o r : Offer) (e : Meeting) (st : Readiness) → Offerer n o → Offerer q r → q < 8 → q ≢ n → Stands (offers o) st
-      → Stands (offers r) (readinessOp p (partOf store q)) → joins n o q r ≡ some e → Typed p (meetIn (tableMachine p outcomes) k s e .config)
+  pair-law : (q : ℕ) (o r : Offer) (e : Meeting) (st : Readiness) → Offerer n o → Offerer q r → q < 8 → q ≢ n
+      → Stands (offers o) st
+      → Stands (offers r) (readinessOp p (partOf store q)) → joins n o q r ≡ some e
+      → Typed p (meetIn (tableMachine p outcomes) k s e .config)
       → pairOp p lines store room (count here rest k n) n st q ≡ tries (meetIn (tableMachine p outcomes) k s e)
   unfolding joins pairOp pairBy
   pair-law q (sends i d v hs) (sends i′ d′ v′ hs′) e st x y near two h h′ j after = absurd (Option·none-ne-some e j)
@@ -131,7 +135,8 @@ module _ {p outcomes : List ℕ} {s : State} {t0 : List ℕ} {room : ℕ} (here 
       ∙ ap (λ (m : Meeting). tries (meetIn (tableMachine p outcomes) k s m)) (w .1)
   pair-law q (receives i d hs) (sends i′ d′ v hs′) e st x y near two h h′ j after =
       let w = cond-some (eqb i i′ && Bool·beq d (not d′)) _ e j in
-      ap₂ (λ (a b : Readiness). cond (eqb (a .kind) 2) (exchangeOp lines store room (count here rest k n) n q (a .end) (a .value))
+      ap₂ (λ (a b : Readiness). cond (eqb (a .kind) 2)
+      (exchangeOp lines store room (count here rest k n) n q (a .end) (a .value))
       (exchangeOp lines store room (count here rest k n) q n (b .end) (b .value))) h h′
       ∙ exchange-law here rest k n (y .live) (x .live) two i′ i d′ d v hs′ hs (y .offer) (x .offer)
       (subst (λ (m : Meeting). Typed p (meetIn (tableMachine p outcomes) k s m .config)) (sym (w .1)) after)
@@ -143,9 +148,11 @@ module _ {p outcomes : List ℕ} {s : State} {t0 : List ℕ} {room : ℕ} (here 
     partner = found reached rest owned t holding
 
     within : (o : Offer) → actOf p outcomes s n ≡ offers o → OfferWithin (valuesOf (processAt c n .frames)) o
-    within o e = subst (ActWithin (valuesOf (processAt c n .frames)) (c .qubits) (c .channels)) e (act-within p outcomes s n)
+    within o e =
+        subst (ActWithin (valuesOf (processAt c n .frames)) (c .qubits) (c .channels)) e (act-within p outcomes s n)
 
-    offer-law : {f : Frame} {fs : List Frame} → Running p c n f fs → (o : Offer) (st : Readiness) → actOf p outcomes s n ≡ offers o → Stands (offers o) st
+    offer-law : {f : Frame} {fs : List Frame} → Running p c n f fs → (o : Offer) (st : Readiness)
+        → actOf p outcomes s n ≡ offers o → Stands (offers o) st
         → offerOp p outcomes lines store room t (count here rest k n) n st ≡ went (offers o)
     unfolding offerOp joinOp movesIn appliedIn effectIn isMeeting meetIfIn judged
     offer-law live o st does h =
@@ -153,22 +160,29 @@ module _ {p outcomes : List ℕ} {s : State} {t0 : List ℕ} {room : ℕ} (here 
         (partner-law reached rest owned t holding n o st (within o does) h)
         ∙ by-gone (gone s n o) refl
       where
-        after : gone s n o ≡ false → Typed p (meetIfIn (tableMachine p outcomes) k s (meetingOf p outcomes s n o) .config)
+        after : gone s n o ≡ false
+            → Typed p (meetIfIn (tableMachine p outcomes) k s (meetingOf p outcomes s n o) .config)
         after g =
             subst (λ (b : Bool). Typed p (applied p outcomes k s n (cond b (faults 33) (offers o)) .config)) g
-            (subst (λ (a : Act). Typed p (applied p outcomes k s n (judged s n a) .config)) does (effect-typed p (reached .kept) outcomes (reached .bytes) s (reached .kinds) (reached .typed) k n))
+            (subst (λ (a : Act). Typed p (applied p outcomes k s n (judged s n a) .config)) does
+            (effect-typed p (reached .kept) outcomes (reached .bytes) s (reached .kinds) (reached .typed) k n))
 
-        paired : (m : Option Meeting) → meetingOf p outcomes s n o ≡ m → isMeeting m ≡ true → Typed p (meetIfIn (tableMachine p outcomes) k s m .config)
-            → pairOp p lines store room (count here rest k n) n st (partner o) ≡ tries (meetIfIn (tableMachine p outcomes) k s m)
+        paired : (m : Option Meeting) → meetingOf p outcomes s n o ≡ m → isMeeting m ≡ true
+            → Typed p (meetIfIn (tableMachine p outcomes) k s m .config)
+            → pairOp p lines store room (count here rest k n) n st (partner o) ≡ tries
+            (meetIfIn (tableMachine p outcomes) k s m)
         paired none i b u = absurd (true≢false (sym b))
         paired (some e) i b u =
             let q = found-partner reached rest owned t holding n o (within o does) (ap isMeeting i) in
             let near : partner o < 8 = omega (arith, q .0, sound here rest k n .processCount) in
             let w = meets-offer n (partner o) o (actOf p outcomes s (partner o)) e
-            (sym (ap (λ (z : Bool). cond z none (meetsWith n o (partner o) (offered (actOf p outcomes s (partner o))))) (ne-eqb (partner o) n (q .1)))
+            (sym (ap (λ (z : Bool). cond z none (meetsWith n o (partner o) (offered (actOf p outcomes s (partner o)))))
+            (ne-eqb (partner o) n (q .1)))
             ∙ sym (met-with reached rest owned t holding n o (within o does)) ∙ i) in
-            pair-law (partner o) o (w .0) e st (running-at n o does) (running-at (partner o) (w .0) (w .1)) near (q .1) h
-            (subst (λ (a : Act). Stands a (readinessOp p (partOf store (partner o)))) (w .1) (stand-at reached rest (partner o) near)) (w .2) u
+            pair-law (partner o) o (w .0) e st (running-at n o does) (running-at (partner o) (w .0) (w .1)) near (q .1)
+            h
+            (subst (λ (a : Act). Stands a (readinessOp p (partOf store (partner o)))) (w .1)
+            (stand-at reached rest (partner o) near)) (w .2) u
 
         by-meeting : gone s n o ≡ false → (b : Bool) → isMeeting (meetingOf p outcomes s n o) ≡ b
             → joinOp p outcomes lines store room (count here rest k n) n st (cond b (ready (partner o)) waits)
@@ -179,7 +193,8 @@ module _ {p outcomes : List ℕ} {s : State} {t0 : List ℕ} {room : ℕ} (here 
         by-gone : (g : Bool) → gone s n o ≡ g
             → joinOp p outcomes lines store room (count here rest k n) n st
             (cond g code.gone (cond (isMeeting (meetingOf p outcomes s n o)) (ready (partner o)) waits))
-            ≡ cond (moves p outcomes s n (cond g (faults 33) (offers o))) (tries (applied p outcomes k s n (cond g (faults 33) (offers o)))) stay
+            ≡ cond (moves p outcomes s n (cond g (faults 33) (offers o)))
+            (tries (applied p outcomes k s n (cond g (faults 33) (offers o)))) stay
         by-gone true e = fault-law here rest k n live 33 (inr refl)
         by-gone false e = by-meeting e (isMeeting (meetingOf p outcomes s n o)) refl
 
@@ -210,11 +225,13 @@ module _ {p outcomes : List ℕ} {s : State} {t0 : List ℕ} {room : ℕ} (here 
       stands-law (forks m args gs) st does o going h = absurd o
       stands-law (offers (sends i d v hs)) st does o going h =
           ap (λ (b : Bool). cond b (singleOp p outcomes lines store room (count here rest k n) n 20)
-          (offerOp p outcomes lines store room t (count here rest k n) n st)) (ap (λ (x : Readiness). ltb (x .kind) 2) h)
+          (offerOp p outcomes lines store room t (count here rest k n) n st))
+          (ap (λ (x : Readiness). ltb (x .kind) 2) h)
           ∙ offer-law live (sends i d v hs) st does h
       stands-law (offers (receives i d hs)) st does o going h =
           ap (λ (b : Bool). cond b (singleOp p outcomes lines store room (count here rest k n) n 20)
-          (offerOp p outcomes lines store room t (count here rest k n) n st)) (ap (λ (x : Readiness). ltb (x .kind) 2) h)
+          (offerOp p outcomes lines store room t (count here rest k n) n st))
+          (ap (λ (x : Readiness). ltb (x .kind) 2) h)
           ∙ offer-law live (receives i d hs) st does h
 
       offering : (b : Bool) (a : Act) → Offering a → Offering (cond b (faults 20) a)
@@ -230,7 +247,9 @@ module _ {p outcomes : List ℕ} {s : State} {t0 : List ℕ} {room : ℕ} (here 
 
           short : (vs : List Value) → f .pending ≡ vs → length vs < 2 → Offering (atFrame p outcomes s f fs)
           short vs q h =
-              subst Offering (sym (act-short outcomes s (live .busy) 15 2 e taken (subst (λ (l : List Value). length l < 2) (sym q) h))) tt
+              subst Offering
+              (sym (act-short outcomes s (live .busy) 15 2 e taken (subst (λ (l : List Value). length l < 2) (sym q) h)))
+              tt
 
           ended : (y x : Value) (us : List Value) → Offering (doSend (scene outcomes s (live .busy) 2 (y ∷ x ∷ us)))
           ended y empty us = tt
@@ -245,7 +264,8 @@ module _ {p outcomes : List ℕ} {s : State} {t0 : List ℕ} {room : ℕ} (here 
           go (u ∷ []) q = short (u ∷ []) q (omega arith)
           go (y ∷ x ∷ us) q =
               subst Offering (sym (act-two outcomes s (live .busy) 15 y x us e taken q))
-              (offering (isEmpty y || (isEmpty x || false)) (doSend (scene outcomes s (live .busy) 2 (y ∷ x ∷ us))) (ended y x us))
+              (offering (isEmpty y || (isEmpty x || false)) (doSend (scene outcomes s (live .busy) 2 (y ∷ x ∷ us)))
+              (ended y x us))
 
       receive-offering : opAt p (f .place) ≡ 16 → Offering (atFrame p outcomes s f fs)
       unfolding doingOf doings doRecv opOf ops opRecv
@@ -263,7 +283,11 @@ module _ {p outcomes : List ℕ} {s : State} {t0 : List ℕ} {room : ℕ} (here 
           ended (ref (end z d)) us = tt
 
           go : (vs : List Value) → f .pending ≡ vs → Offering (atFrame p outcomes s f fs)
-          go [] q = subst Offering (sym (act-short outcomes s (live .busy) 16 1 e taken (subst (λ (l : List Value). length l < 1) (sym q) (omega arith)))) tt
+          go [] q =
+              subst Offering
+              (sym
+              (act-short outcomes s (live .busy) 16 1 e taken
+              (subst (λ (l : List Value). length l < 1) (sym q) (omega arith)))) tt
           go (x ∷ us) q =
               subst Offering (sym (act-one outcomes s (live .busy) 16 x us e taken q))
               (offering (isEmpty x || false) (doRecv (scene outcomes s (live .busy) 1 (x ∷ us))) (ended x us))
@@ -272,12 +296,15 @@ module _ {p outcomes : List ℕ} {s : State} {t0 : List ℕ} {room : ℕ} (here 
       unfolding actOf byStatus atFrames
       act-here = ap (λ (pr : Process). byStatus (pr .status) (atFrames p outcomes s (pr .frames))) (live .stands)
 
-      pub meet-law : (code : ℕ) → Offering (atFrame p outcomes s f fs) → actOf p outcomes s n ≢ stuck → n < 8 → offerOf (partOf store n) code ≡ readinessOp p (partOf store n)
-          → meetBy p outcomes lines store room (count here rest k n) n (pairingOp p store t n code) ≡ went (actOf p outcomes s n)
+      pub meet-law : (code : ℕ) → Offering (atFrame p outcomes s f fs) → actOf p outcomes s n ≢ stuck → n < 8
+          → offerOf (partOf store n) code ≡ readinessOp p (partOf store n)
+          → meetBy p outcomes lines store room (count here rest k n) n (pairingOp p store t n code) ≡ went
+          (actOf p outcomes s n)
       unfolding pairingOp meetOp
       meet-law code o going near e =
           meet-same p outcomes lines store room t (count here rest k n) n e
-          ∙ stands-law (actOf p outcomes s n) (readinessOp p (partOf store n)) refl (subst Offering (sym act-here) o) going
+          ∙ stands-law (actOf p outcomes s n) (readinessOp p (partOf store n)) refl (subst Offering (sym act-here) o)
+          going
           (stand-at reached rest n near)
 
       head-here : headOf (partOf store n) ≡ headIn f fs
@@ -292,9 +319,13 @@ module _ {p outcomes : List ℕ} {s : State} {t0 : List ℕ} {room : ℕ} (here 
       op-here e = ap (λ (h : Head). opAt p (h .place)) head-here ∙ e
 
       pub send-law : opAt p (f .place) ≡ 15 → actOf p outcomes s n ≢ stuck → n < 8
-          → meetBy p outcomes lines store room (count here rest k n) n (pairingOp p store t n 115) ≡ went (actOf p outcomes s n)
-      send-law e going near = meet-law 115 (send-offering e) going near (offers-send p (partOf store n) runs-here (op-here e))
+          → meetBy p outcomes lines store room (count here rest k n) n (pairingOp p store t n 115) ≡ went
+          (actOf p outcomes s n)
+      send-law e going near =
+          meet-law 115 (send-offering e) going near (offers-send p (partOf store n) runs-here (op-here e))
 
       pub receive-law : opAt p (f .place) ≡ 16 → actOf p outcomes s n ≢ stuck → n < 8
-          → meetBy p outcomes lines store room (count here rest k n) n (pairingOp p store t n 116) ≡ went (actOf p outcomes s n)
-      receive-law e going near = meet-law 116 (receive-offering e) going near (offers-receive p (partOf store n) runs-here (op-here e))
+          → meetBy p outcomes lines store room (count here rest k n) n (pairingOp p store t n 116) ≡ went
+          (actOf p outcomes s n)
+      receive-law e going near =
+          meet-law 116 (receive-offering e) going near (offers-receive p (partOf store n) runs-here (op-here e))

@@ -53,16 +53,21 @@ module _ (p outcomes trace work : List ℕ) (room : ℕ) (t : List (List ℕ)) (
   paired-same a q b = go (eqb (a .kind) 2)
     where
       go : (u : Bool) → meets (cond u (meetingOf n q (a .end) (a .value)) (meetingOf q n (b .end) (b .value)))
-          ≡ cond u (exchangeOp trace work room g n q (a .end) (a .value)) (exchangeOp trace work room g q n (b .end) (b .value))
+          ≡ cond u (exchangeOp trace work room g n q (a .end) (a .value))
+          (exchangeOp trace work room g q n (b .end) (b .value))
       go true = refl
       go false = refl
 
-  with-holder : (a : Readiness) (q : ℕ) → meets (pairWith p work n a q) ≡ joinOp p outcomes trace work room g n a (readyOp p work n a q)
+  with-holder : (a : Readiness) (q : ℕ)
+      → meets (pairWith p work n a q) ≡ joinOp p outcomes trace work room g n a (readyOp p work n a q)
   unfolding meetBy pairWith unpaired joinOp pairOp readyOp
-  with-holder a q = go (isNoOther n q) (eqb (readinessOp p (partOf work q) .kind) 0) (meetsOp a (readinessOp p (partOf work q)))
+  with-holder a q =
+      go (isNoOther n q) (eqb (readinessOp p (partOf work q) .kind) 0) (meetsOp a (readinessOp p (partOf work q)))
     where
       go : (x y z : Bool)
-          → meets (cond x (unpaired 3) (cond y (unpaired 3) (cond z (pairedOf n a q (readinessOp p (partOf work q))) (unpaired 1))))
+          → meets
+          (cond x (unpaired 3)
+          (cond y (unpaired 3) (cond z (pairedOf n a q (readinessOp p (partOf work q))) (unpaired 1))))
           ≡ joinOp p outcomes trace work room g n a (cond x gone (cond y gone (cond z (ready q) waits)))
       go true y z = refl
       go false true z = refl
@@ -77,11 +82,13 @@ module _ (p outcomes trace work : List ℕ) (room : ℕ) (t : List (List ℕ)) (
       q = holderIn t (a .end .number % 65536) (oppositeOf (a .end .tag))
 
       go : (x : Bool) → meets (cond x (unpaired 0) (pairWith p work n a q))
-          ≡ cond x (singleOp p outcomes trace work room g n 20) (joinOp p outcomes trace work room g n a (readyOp p work n a q))
+          ≡ cond x (singleOp p outcomes trace work room g n 20)
+          (joinOp p outcomes trace work room g n a (readyOp p work n a q))
       go true = refl
       go false = with-holder a q
 
-  pub meet-same : {a : Readiness} → a ≡ readinessOp p (partOf work n) → meets (pairingOf p work t n a) ≡ meetOp p outcomes trace work room t g n
+  pub meet-same : {a : Readiness} → a ≡ readinessOp p (partOf work n)
+      → meets (pairingOf p work t n a) ≡ meetOp p outcomes trace work room t g n
   unfolding meetOp
   meet-same e = ap (λ (x : Readiness). meets (pairingOf p work t n x)) e ∙ stands-same (readinessOp p (partOf work n))
 
@@ -90,7 +97,8 @@ unfolding isOffer
 no-fork code o i = true≢false (sym o ∙ ap isOffer (eqb-true code 114 i))
 
 -- a process whose offer comes to waiting stays, whatever the code
-pub waiting-stays : (p outcomes trace work : List ℕ) (room : ℕ) (t : List (List ℕ)) (g : Count) (n code : ℕ) → offerAt p work t n code .kind ≡ 1
+pub waiting-stays : (p outcomes trace work : List ℕ) (room : ℕ) (t : List (List ℕ)) (g : Count) (n code : ℕ)
+    → offerAt p work t n code .kind ≡ 1
     → entryOp p outcomes trace work room g n code (offerAt p work t n code) ≡ afterEntry (idleAt g) trace work
 unfolding offerAt entryOp meetBy unpaired
 waiting-stays p outcomes trace work room t g n code h = go (eqb code 1) (isOffer code) (ltb n 8) refl h
@@ -107,9 +115,11 @@ waiting-stays p outcomes trace work room t g n code h = go (eqb code 1) (isOffer
         (cond (eqb j 3) (singleOp p outcomes trace work room g n 33)
         (exchangeOp trace work room g (m .sender .0) (m .receiver .0) (m .end) (m .value))))) e
 
-    go : (x o l : Bool) → isOffer code ≡ o → cond x (unpaired 1) (cond (o && l) (pairingOp p work t n code) (unpaired 0)) .kind ≡ 1
+    go : (x o l : Bool) → isOffer code ≡ o
+        → cond x (unpaired 1) (cond (o && l) (pairingOp p work t n code) (unpaired 0)) .kind ≡ 1
         → cond x stay (cond (eqb code 114) (forkOp p outcomes trace work room g n)
-        (cond o (meetBy p outcomes trace work room g n (cond x (unpaired 1) (cond (o && l) (pairingOp p work t n code) (unpaired 0))))
+        (cond o (meetBy p outcomes trace work room g n
+        (cond x (unpaired 1) (cond (o && l) (pairingOp p work t n code) (unpaired 0))))
         (singleOp p outcomes trace work room g n (code % 65536)))) ≡ stay
     go true o l i e = refl
     go false true true i e = offers (pairingOp p work t n code) e i (eqb code 114) refl
@@ -139,7 +149,9 @@ pairs-near p work t n a h = cond-both Near (ltb (a .kind) 2) none (other (eqb q 
     b = readinessOp p (partOf work q)
 
     other : (x y : Bool) → leb 8 q ≡ y
-        → Near (cond (x || y) (unpaired 3) (cond (eqb (b .kind) 0) (unpaired 3) (cond (meetsOp a b) (pairedOf n a q b) (unpaired 1))))
+        → Near
+        (cond (x || y) (unpaired 3)
+        (cond (eqb (b .kind) 0) (unpaired 3) (cond (meetsOp a b) (pairedOf n a q b) (unpaired 1))))
     other true y i = none
     other false true i = none
     other false false i =
@@ -147,7 +159,8 @@ pairs-near p work t n a h = cond-both Near (ltb (a .kind) 2) none (other (eqb q 
         (cond-both Near (meetsOp a b)
         (cond-both Near (eqb (a .kind) 2) (h, leb-false 8 q i) (leb-false 8 q i, h)) none)
 
-pub offer-near : (p work : List ℕ) (t : List (List ℕ)) (n code : ℕ) → (offerAt p work t n code .sender .0 < 8) × (offerAt p work t n code .receiver .0 < 8)
+pub offer-near : (p work : List ℕ) (t : List (List ℕ)) (n code : ℕ)
+    → (offerAt p work t n code .sender .0 < 8) × (offerAt p work t n code .receiver .0 < 8)
 unfolding offerAt pairingOp unpaired Near
 offer-near p work t n code = cond-both Near (eqb code 1) none (paired (ltb n 8) refl)
   where
@@ -155,7 +168,9 @@ offer-near p work t n code = cond-both Near (eqb code 1) none (paired (ltb n 8) 
     none = (omega arith, omega arith)
 
     paired : (x : Bool) → ltb n 8 ≡ x → Near (cond (isOffer code && x) (pairingOp p work t n code) (unpaired 0))
-    paired true i = cond-both Near (isOffer code && true) (pairs-near p work t n (offerOf (partOf work n) code) (ltb-true n 8 i)) none
+    paired true i =
+        cond-both Near (isOffer code && true) (pairs-near p work t n (offerOf (partOf work n) code) (ltb-true n 8 i))
+        none
     paired false i = cond-each Near (isOffer code && false) (λ z. absurd (never (isOffer code) z)) (λ z. none)
       where
         never : (y : Bool) → (y && false) ≡ true → ⊥

@@ -92,18 +92,22 @@ module _ (trace work : List ℕ) (room : ℕ) (g : Count) (sender receiver : ℕ
       passed-by _ _ _ refl (le-ltb room (g .lines + 2) h) (came-to moved written met)
 
 module _ (p outcomes trace work : List ℕ) (room : ℕ) (g : Count) (n : ℕ) (m : Pairing) where
-  pub meet-faults : {x : EntryResult} {ts ws : List ℕ} → m .kind ≡ 0 → afterEntry x ts ws ≡ singleOp p outcomes trace work room g n 20
+  pub meet-faults : {x : EntryResult} {ts ws : List ℕ} → m .kind ≡ 0
+      → afterEntry x ts ws ≡ singleOp p outcomes trace work room g n 20
       → afterEntry x ts ws ≡ meetBy p outcomes trace work room g n m
   unfolding meetBy
   meet-faults h q = took _ _ _ refl (eq-eqb (m .kind) 0 h) q
 
   module _ (offers : m .kind ≡ 0 → ⊥) where
-    pub meet-waits : {x : EntryResult} → m .kind ≡ 1 → x ≡ idleAt g → afterEntry x trace work ≡ meetBy p outcomes trace work room g n m
+    pub meet-waits : {x : EntryResult} → m .kind ≡ 1 → x ≡ idleAt g
+        → afterEntry x trace work ≡ meetBy p outcomes trace work room g n m
     unfolding meetBy
-    meet-waits h q = passed-by _ _ _ refl (ne-eqb (m .kind) 0 offers) (took _ _ _ refl (eq-eqb (m .kind) 1 h) (came-to q refl refl))
+    meet-waits h q =
+        passed-by _ _ _ refl (ne-eqb (m .kind) 0 offers) (took _ _ _ refl (eq-eqb (m .kind) 1 h) (came-to q refl refl))
 
     pub meet-gone : {x : EntryResult} {ts ws : List ℕ} → (m .kind ≡ 1 → ⊥) → m .kind ≡ 3
-        → afterEntry x ts ws ≡ singleOp p outcomes trace work room g n 33 → afterEntry x ts ws ≡ meetBy p outcomes trace work room g n m
+        → afterEntry x ts ws ≡ singleOp p outcomes trace work room g n 33
+        → afterEntry x ts ws ≡ meetBy p outcomes trace work room g n m
     unfolding meetBy
     meet-gone h k q =
         passed-by _ _ _ refl (ne-eqb (m .kind) 0 offers)
@@ -145,7 +149,8 @@ module _ (p work : List ℕ) (t : List (List ℕ)) (n code : ℕ) {m : Pairing} 
         passed-by _ _ _ refl (ne-eqb code 1 other) (passed-by _ _ _ (ap (λ (x : Bool). x && ltb n 8) told) h e)
 
 module _ (p outcomes trace work : List ℕ) (room : ℕ) (g : Count) (n code : ℕ) (m : Pairing) where
-  pub entry-stays : {x : EntryResult} → code ≡ 1 → x ≡ idleAt g → afterEntry x trace work ≡ entryOp p outcomes trace work room g n code m
+  pub entry-stays : {x : EntryResult} → code ≡ 1 → x ≡ idleAt g
+      → afterEntry x trace work ≡ entryOp p outcomes trace work room g n code m
   unfolding entryOp
   entry-stays k e = rw (eq-eqb code 1 k) (came-to e refl refl)
 
@@ -159,9 +164,11 @@ module _ (p outcomes trace work : List ℕ) (room : ℕ) (g : Count) (n code : �
       pub entry-offers : o ≡ true → afterEntry x ts ws ≡ meetBy p outcomes trace work room g n m
           → afterEntry x ts ws ≡ entryOp p outcomes trace work room g n code m
       unfolding entryOp
-      entry-offers h q = passed-by _ _ _ refl (ne-eqb code 1 a) (passed-by _ _ _ refl (ne-eqb code 114 b) (took _ _ _ told h q))
+      entry-offers h q =
+          passed-by _ _ _ refl (ne-eqb code 1 a) (passed-by _ _ _ refl (ne-eqb code 114 b) (took _ _ _ told h q))
 
       pub entry-single : o ≡ false → afterEntry x ts ws ≡ singleOp p outcomes trace work room g n (code % 65536)
           → afterEntry x ts ws ≡ entryOp p outcomes trace work room g n code m
       unfolding entryOp
-      entry-single h q = passed-by _ _ _ refl (ne-eqb code 1 a) (passed-by _ _ _ refl (ne-eqb code 114 b) (passed-by _ _ _ told h q))
+      entry-single h q =
+          passed-by _ _ _ refl (ne-eqb code 1 a) (passed-by _ _ _ refl (ne-eqb code 114 b) (passed-by _ _ _ told h q))

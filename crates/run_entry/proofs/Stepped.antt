@@ -1,5 +1,5 @@
--- One entry of any process: what the step and, where it is no plain step, the rest of the entry leave in trace and store
--- is what the definitions say.
+-- One entry of any process: what the step and, where it is no plain step, the rest of the entry leave in trace and
+-- store is what the definitions say.
 use Prim.Native.Nat.{ℕ, zero, suc, _+_, _≤_, _<_}
 use mathlib.Core.Path.{_≡_, refl, sym, _∙_, ap, subst}
 use mathlib.Core.Logic.{_≢_, _⊎_, inl, inr, ⊎-elim}
@@ -60,7 +60,13 @@ use Rattle.run_entry.proofs.Meets.{went, send-law, receive-law}
 module _ (p : List ℕ) (kept : Kept p) where
   frame-height : {R : Value → ℕ → Type 0} (owed : List ℕ) (f : Frame) → FrameTyped p R owed f → length (f .pending) ≤ 8
   frame-height owed f h =
-      omega (arith, both-length (h .pending), simp length-append at (ap length (h .stands)), before-height p kept (f .place) (inside-bound p kept (h .place)))
+      omega (
+        arith,
+        both-length (h .pending),
+        simp length-append at (ap length (h .stands)),
+        before-height p kept (f .place)
+            (inside-bound p kept (h .place)),
+      )
 
   height-of : (ks : List ℕ) (q n : ℕ) (a : Act) → ActTyped p ks q n a → Height a
   height-of ks q n idle h = tt
@@ -90,15 +96,21 @@ left-tells (suc (suc (suc (suc (suc (suc (suc (suc zero)))))))) t a b c = refl
 left-tells (suc (suc (suc (suc (suc (suc (suc (suc (suc zero))))))))) t a b c = absurd (true≢false (sym t))
 left-tells (suc (suc (suc (suc (suc (suc (suc (suc (suc (suc zero)))))))))) t a b c = refl
 left-tells (suc (suc (suc (suc (suc (suc (suc (suc (suc (suc (suc zero))))))))))) t a b c = refl
-left-tells (suc (suc (suc (suc (suc (suc (suc (suc (suc (suc (suc (suc zero)))))))))))) t a b c = absurd (true≢false (sym t))
-left-tells (suc (suc (suc (suc (suc (suc (suc (suc (suc (suc (suc (suc (suc zero))))))))))))) t a b c = absurd (true≢false (sym t))
-left-tells (suc (suc (suc (suc (suc (suc (suc (suc (suc (suc (suc (suc (suc (suc zero)))))))))))))) t a b c = absurd (a refl)
-left-tells (suc (suc (suc (suc (suc (suc (suc (suc (suc (suc (suc (suc (suc (suc (suc zero))))))))))))))) t a b c = absurd (b refl)
+left-tells (suc (suc (suc (suc (suc (suc (suc (suc (suc (suc (suc (suc zero)))))))))))) t a b c =
+    absurd (true≢false (sym t))
+left-tells (suc (suc (suc (suc (suc (suc (suc (suc (suc (suc (suc (suc (suc zero))))))))))))) t a b c =
+    absurd (true≢false (sym t))
+left-tells (suc (suc (suc (suc (suc (suc (suc (suc (suc (suc (suc (suc (suc (suc zero)))))))))))))) t a b c =
+    absurd (a refl)
+left-tells (suc (suc (suc (suc (suc (suc (suc (suc (suc (suc (suc (suc (suc (suc (suc zero))))))))))))))) t a b c =
+    absurd (b refl)
 left-tells (suc (suc (suc (suc (suc (suc (suc (suc (suc (suc (suc (suc (suc (suc (suc (suc zero)))))))))))))))) t a b c = absurd (c refl)
 left-tells (suc (suc (suc (suc (suc (suc (suc (suc (suc (suc (suc (suc (suc (suc (suc (suc (suc op))))))))))))))))) t a b c = absurd (true≢false (sym t))
 
 telling-small : (op : ℕ) → isTelling op ≡ true → op < 12
-telling-small op t = ⊎-elim (λ h. ltb-true op 12 h) (λ h. absurd (true≢false (sym t ∙ beyond op (ltb-false op 12 h)))) (decide (ltb op 12))
+telling-small op t =
+    ⊎-elim (λ h. ltb-true op 12 h) (λ h. absurd (true≢false (sym t ∙ beyond op (ltb-false op 12 h))))
+    (decide (ltb op 12))
   where
     beyond : (op : ℕ) → 12 ≤ op → isTelling op ≡ false
     beyond zero h = absurd (omega (arith, h))
@@ -121,13 +133,17 @@ unfolding headOf
 no-status = refl
 
 -- a code that is none of the five goes to the entry with one line
-entry-single : (p outcomes trace work : List ℕ) (room : ℕ) (g : Count) (n code : ℕ) (m : Pairing) → code ≢ 1 → code ≢ 114 → code ≢ 115 → code ≢ 116
+entry-single : (p outcomes trace work : List ℕ) (room : ℕ) (g : Count) (n code : ℕ) (m : Pairing) → code ≢ 1
+    → code ≢ 114 → code ≢ 115 → code ≢ 116
     → code < 65536 → entryOp p outcomes trace work room g n code m ≡ singleOp p outcomes trace work room g n code
 unfolding entryOp isOffer
 entry-single p outcomes trace work room g n code m a b c d small =
-    rw (ne-eqb code 1 a, ne-eqb code 114 b, ne-eqb code 115 c, ne-eqb code 116 d) (ap (singleOp p outcomes trace work room g n) (mod-eq-of-lt small))
+    rw (ne-eqb code 1 a, ne-eqb code 114 b, ne-eqb code 115 c, ne-eqb code 116 d)
+    (ap (singleOp p outcomes trace work room g n) (mod-eq-of-lt small))
 
-module _ {p outcomes : List ℕ} {s : State} {t0 : List ℕ} {room : ℕ} (here : Here p outcomes s t0 room) (rest : List ℕ) (k n : ℕ) (owned : own.Kept (s .config) (s .lines)) (t : List (List ℕ)) (holding : Holding t (s .lines))
+module _ {p outcomes : List ℕ} {s : State} {t0 : List ℕ} {room : ℕ} (here : Here p outcomes s t0 room)
+    (rest : List ℕ) (k n : ℕ) (owned : own.Kept (s .config) (s .lines)) (t : List (List ℕ))
+    (holding : Holding t (s .lines))
     (near : n < 8) where
   abbrev reached : Reached p outcomes s
   reached = here .reached
@@ -162,7 +178,9 @@ module _ {p outcomes : List ℕ} {s : State} {t0 : List ℕ} {room : ℕ} (here 
   pub record Other (d : AfterStep) : Type 0 where
     pub code : d .code ≢ 0
     pub words : d .words ≡ partOf store n
-    pub entry : entryOp p outcomes lines store room counted n (d .code) (offerAt p store t n (d .code)) ≡ comes (actOf p outcomes s n)
+    pub entry :
+        entryOp p outcomes lines store room counted n (d .code) (offerAt p store t n (d .code)) ≡ comes
+        (actOf p outcomes s n)
 
   abbrev pub Law : Type 0
   Law = Plain (stepOp p (partOf store n)) ⊎ Other (stepOp p (partOf store n))
@@ -171,12 +189,17 @@ module _ {p outcomes : List ℕ} {s : State} {t0 : List ℕ} {room : ℕ} (here 
   going = not-stuck reached rest n
 
   other : (code : ℕ) → stepOp p (partOf store n) ≡ afterStep code (partOf store n) → code ≢ 0
-      → entryOp p outcomes lines store room counted n code (offerAt p store t n code) ≡ comes (actOf p outcomes s n) → Law
+      → entryOp p outcomes lines store room counted n code (offerAt p store t n code) ≡ comes (actOf p outcomes s n)
+      → Law
   other code e z h =
       inr (record {
         code = λ i. z (sym (ap (λ (d : AfterStep). d .code) e) ∙ i);
         words = ap (λ (d : AfterStep). d .words) e;
-        entry = ap (λ (d : AfterStep). entryOp p outcomes lines store room counted n (d .code) (offerAt p store t n (d .code))) e ∙ h;
+        entry =
+            ap
+            (λ (d : AfterStep). entryOp p outcomes lines store room counted n (d .code) (offerAt p store t n (d .code)))
+            e
+            ∙ h;
       })
 
   -- an act of an op other than SEND and RECV moves its process, and is not judged
@@ -196,7 +219,9 @@ module _ {p outcomes : List ℕ} {s : State} {t0 : List ℕ} {room : ℕ} (here 
   unfolding stepOp entryOp movesIn judged
   over w e h i =
       other 1
-      (ap (λ (b : Bool). cond b (actOp p (partOf store n) (headOf (partOf store n)) (opAt p (headOf (partOf store n) .place)) (argAt p (headOf (partOf store n) .place))) (afterStep 1 (partOf store n)))
+      (ap (λ (b : Bool). cond b
+      (actOp p (partOf store n) (headOf (partOf store n)) (opAt p (headOf (partOf store n) .place))
+      (argAt p (headOf (partOf store n) .place))) (afterStep 1 (partOf store n)))
       (ap (λ (l : List ℕ). eqb (headOf l .status) 1) e ∙ h))
       (λ z. absurd (omega (arith, z)))
       (sym (ap comes i))
@@ -213,30 +238,41 @@ module _ {p outcomes : List ℕ} {s : State} {t0 : List ℕ} {room : ℕ} (here 
     act-here = ap (λ (pr : Process). byStatus (pr .status) (atFrames p outcomes s (pr .frames))) (live .stands)
 
     typed-act : ActTyped p (reached .kinds) (c .qubits) (length (c .processes)) (atFrame p outcomes s f fs)
-    typed-act = subst (ActTyped p (reached .kinds) (c .qubits) (length (c .processes))) act-here (act-typed p (reached .kept) outcomes (reached .bytes) s (reached .kinds) (reached .typed) n)
+    typed-act =
+        subst (ActTyped p (reached .kinds) (c .qubits) (length (c .processes))) act-here
+        (act-typed p (reached .kept) outcomes (reached .bytes) s (reached .kinds) (reached .typed) n)
 
     within-act : ActWithin (valuesOf (processAt c n .frames)) (c .qubits) (c .channels) (atFrame p outcomes s f fs)
-    within-act = subst (ActWithin (valuesOf (processAt c n .frames)) (c .qubits) (c .channels)) act-here (act-within p outcomes s n)
+    within-act =
+        subst (ActWithin (valuesOf (processAt c n .frames)) (c .qubits) (c .channels)) act-here
+        (act-within p outcomes s n)
 
     high : Height (atFrame p outcomes s f fs)
-    high = height-of p (reached .kept) (reached .kinds) (c .qubits) (length (c .processes)) (atFrame p outcomes s f fs) typed-act
+    high =
+        height-of p (reached .kept) (reached .kinds) (c .qubits) (length (c .processes)) (atFrame p outcomes s f fs)
+        typed-act
 
     -- the step's answer with the words as they were
-    left-at : (code : ℕ) → stepOp p words ≡ afterStep code words → stepOp p (partOf store n) ≡ afterStep code (partOf store n)
+    left-at : (code : ℕ) → stepOp p words ≡ afterStep code words
+        → stepOp p (partOf store n) ≡ afterStep code (partOf store n)
     left-at code e = ap (stepOp p) part ∙ e ∙ ap (afterStep code) (sym part)
 
-    single-other : (code : ℕ) → stepOp p words ≡ afterStep code words → code ≢ 0 → code ≢ 1 → code ≢ 114 → code ≢ 115 → code ≢ 116 → code < 65536
+    single-other : (code : ℕ) → stepOp p words ≡ afterStep code words → code ≢ 0 → code ≢ 1 → code ≢ 114 → code ≢ 115
+        → code ≢ 116 → code < 65536
         → singleOp p outcomes lines store room counted n code ≡ comes (actOf p outcomes s n) → Law
     single-other code e z a b d x less h =
-        other code (left-at code e) z (entry-single p outcomes lines store room counted n code (offerAt p store t n code) a b d x less ∙ h)
+        other code (left-at code e) z
+        (entry-single p outcomes lines store room counted n code (offerAt p store t n code) a b d x less ∙ h)
 
     -- an op that stays within the process and writes no line
-    quiet : (a : Act) → atFrame p outcomes s f fs ≡ a → ActTyped p (reached .kinds) (c .qubits) (length (c .processes)) a → Agrees a words (stepOp p words) → Law
+    quiet : (a : Act) → atFrame p outcomes s f fs ≡ a
+        → ActTyped p (reached .kinds) (c .qubits) (length (c .processes)) a → Agrees a words (stepOp p words) → Law
     unfolding movesIn appliedIn effectIn ableIn judged
     quiet idle i ty g = absurd g
     quiet stuck i ty g = absurd ty
     quiet (faults m) i ty g =
-        single-other m g (λ z. absurd (omega (arith, z, ty .0))) (λ z. absurd (omega (arith, z, ty .0))) (λ z. absurd (omega (arith, z, ty .1)))
+        single-other m g (λ z. absurd (omega (arith, z, ty .0))) (λ z. absurd (omega (arith, z, ty .0)))
+        (λ z. absurd (omega (arith, z, ty .1)))
         (λ z. absurd (omega (arith, z, ty .1))) (λ z. absurd (omega (arith, z, ty .1))) (omega (arith, ty .1))
         (fault-law here rest k n live m (inl ty)
         ∙ ap comes (sym (act-here ∙ i)))
@@ -261,7 +297,8 @@ module _ {p outcomes : List ℕ} {s : State} {t0 : List ℕ} {room : ℕ} (here 
     quiet (goes gs [] (suc u)) i ty g = absurd g
     quiet (goes gs (e ∷ es) u) i ty g = absurd g
     quiet ends i ty g =
-        single-other 113 g (λ z. absurd (omega (arith, z))) (λ z. absurd (omega (arith, z))) (λ z. absurd (omega (arith, z)))
+        single-other 113 g (λ z. absurd (omega (arith, z))) (λ z. absurd (omega (arith, z)))
+        (λ z. absurd (omega (arith, z)))
         (λ z. absurd (omega (arith, z))) (λ z. absurd (omega (arith, z))) (omega arith)
         (ends-law here rest k n live ∙ ap comes (sym (act-here ∙ i)))
     quiet (makes x gs) i ty g = absurd g
@@ -269,7 +306,8 @@ module _ {p outcomes : List ℕ} {s : State} {t0 : List ℕ} {room : ℕ} (here 
     quiet (offers o) i ty g = absurd g
 
     -- an op with one line
-    loud : (code : ℕ) (a : Act) → atFrame p outcomes s f fs ≡ a → ActTyped p (reached .kinds) (c .qubits) (length (c .processes)) a
+    loud : (code : ℕ) (a : Act) → atFrame p outcomes s f fs ≡ a
+        → ActTyped p (reached .kinds) (c .qubits) (length (c .processes)) a
         → ActWithin (valuesOf (processAt c n .frames)) (c .qubits) (c .channels) a → Alone a
         → Concluded outcomes s (live .busy) (sound here rest k n .qubitCount) a
         (concludeOp p words code (c .qubits) (c .channels) outcomes (s .used))
@@ -312,21 +350,27 @@ module _ {p outcomes : List ℕ} {s : State} {t0 : List ℕ} {room : ℕ} (here 
     tells : (op : ℕ) → opAt p (f .place) ≡ op → isTelling op ≡ true → stepOp p words ≡ afterStep (100 + op) words → Law
     tells op e h g =
         let less = telling-small op h in
-        single-other (100 + op) g (λ z. absurd (omega (arith, z))) (λ z. absurd (omega (arith, z))) (λ z. absurd (omega (arith, z, less)))
+        single-other (100 + op) g (λ z. absurd (omega (arith, z))) (λ z. absurd (omega (arith, z)))
+        (λ z. absurd (omega (arith, z, less)))
         (λ z. absurd (omega (arith, z, less))) (λ z. absurd (omega (arith, z, less))) (omega (arith, less))
         (loud (100 + op) (atFrame p outcomes s f fs) refl typed-act within-act
-        (frame-alone p outcomes s f fs (λ z. absurd (omega (arith, z, e, less))) (λ z. absurd (omega (arith, z, e, less))))
+        (frame-alone p outcomes s f fs (λ z. absurd (omega (arith, z, e, less)))
+        (λ z. absurd (omega (arith, z, e, less))))
         (concluded-op outcomes s (live .busy) (sound here rest k n .qubitCount) (here .reached .bytes) op e h high)
         ∙ ap comes (sym act-here))
 
     at-work : Law
     unfolding entryOp isOffer offerAt
-    at-work = ⊎-elim left-to (λ h. quiet (atFrame p outcomes s f fs) refl typed-act (step-agrees outcomes s (live .busy) h high)) (decide (isLeft (opAt p (f .place))))
+    at-work =
+        ⊎-elim left-to
+        (λ h. quiet (atFrame p outcomes s f fs) refl typed-act (step-agrees outcomes s (live .busy) h high))
+        (decide (isLeft (opAt p (f .place))))
       where
         stepped : isLeft (opAt p (f .place)) ≡ true → stepOp p words ≡ afterStep (100 + opAt p (f .place)) words
         stepped h = step-left outcomes s (live .busy) h
 
-        at-op : (op : ℕ) → isLeft (opAt p (f .place)) ≡ true → opAt p (f .place) ≡ op → stepOp p (partOf store n) ≡ afterStep (100 + op) (partOf store n)
+        at-op : (op : ℕ) → isLeft (opAt p (f .place)) ≡ true → opAt p (f .place) ≡ op
+            → stepOp p (partOf store n) ≡ afterStep (100 + op) (partOf store n)
         at-op op h e = left-at (100 + op) (stepped h ∙ ap (λ (i : ℕ). afterStep (100 + i) words) e)
 
         fork-at : isLeft (opAt p (f .place)) ≡ true → opAt p (f .place) ≡ 14 → Law
@@ -335,13 +379,22 @@ module _ {p outcomes : List ℕ} {s : State} {t0 : List ℕ} {room : ℕ} (here 
             (fork-law here rest k n live e going
             ∙ forks-come)
           where
-            forks-come : tried here rest k n (applied p outcomes k s n (actOf p outcomes s n)) ≡ comes (actOf p outcomes s n)
-            forks-come = alone-comes (actOf p outcomes s n) (subst Alone (sym act-here) (frame-alone p outcomes s f fs (λ z. absurd (omega (arith, z, e))) (λ z. absurd (omega (arith, z, e))))) going
+            forks-come :
+                tried here rest k n (applied p outcomes k s n (actOf p outcomes s n)) ≡ comes (actOf p outcomes s n)
+            forks-come =
+                alone-comes (actOf p outcomes s n)
+                (subst Alone (sym act-here)
+                (frame-alone p outcomes s f fs (λ z. absurd (omega (arith, z, e))) (λ z. absurd (omega (arith, z, e)))))
+                going
 
         -- what the offer comes to was worked out
-        paired : (code : ℕ) → meetBy p outcomes lines store room counted n (cond (ltb n 8) (pairingOp p store t n code) (unpaired 0))
+        paired : (code : ℕ)
+            → meetBy p outcomes lines store room counted n (cond (ltb n 8) (pairingOp p store t n code) (unpaired 0))
             ≡ meetBy p outcomes lines store room counted n (pairingOp p store t n code)
-        paired code = ap (λ (b : Bool). meetBy p outcomes lines store room counted n (cond b (pairingOp p store t n code) (unpaired 0))) (lt-ltb n 8 near)
+        paired code =
+            ap
+            (λ (b : Bool). meetBy p outcomes lines store room counted n
+            (cond b (pairingOp p store t n code) (unpaired 0))) (lt-ltb n 8 near)
 
         elsewhere : isLeft (opAt p (f .place)) ≡ true → opAt p (f .place) ≢ 14 → Law
         elsewhere h x =
@@ -355,14 +408,20 @@ module _ {p outcomes : List ℕ} {s : State} {t0 : List ℕ} {room : ℕ} (here 
             other 116 (at-op 16 h e) (λ z. absurd (omega (arith, z)))
             (paired 116
             ∙ receive-law here rest k n owned t holding live e going near))
-            (λ j. tells (opAt p (f .place)) refl (left-tells (opAt p (f .place)) h x (eqb-false (opAt p (f .place)) 15 i) (eqb-false (opAt p (f .place)) 16 j)) (stepped h))
+            (λ j. tells (opAt p (f .place)) refl
+            (left-tells (opAt p (f .place)) h x (eqb-false (opAt p (f .place)) 15 i)
+            (eqb-false (opAt p (f .place)) 16 j)) (stepped h))
             (decide (eqb (opAt p (f .place)) 16)))
             (decide (eqb (opAt p (f .place)) 15))
 
         left-to : isLeft (opAt p (f .place)) ≡ true → Law
-        left-to h = ⊎-elim (λ i. fork-at h (eqb-true (opAt p (f .place)) 14 i)) (λ i. elsewhere h (eqb-false (opAt p (f .place)) 14 i)) (decide (eqb (opAt p (f .place)) 14))
+        left-to h =
+            ⊎-elim (λ i. fork-at h (eqb-true (opAt p (f .place)) 14 i))
+            (λ i. elsewhere h (eqb-false (opAt p (f .place)) 14 i)) (decide (eqb (opAt p (f .place)) 14))
 
-  by-process : n < length (c .processes) → (st : Status) (fs : List Frame) → processAt c n ≡ record { status = st; frames = fs } → ProcessSound p c (record { status = st; frames = fs }) → Law
+  by-process : n < length (c .processes) → (st : Status) (fs : List Frame)
+      → processAt c n ≡ record { status = st; frames = fs } → ProcessSound p c (record { status = st; frames = fs })
+      → Law
   unfolding headOf processWords statusWords padded actOf byStatus
   by-process made running [] i h = absurd (omega (arith, h .status))
   by-process made running (f ∷ fs) i h = at-work (record { made = made; busy = busy-at reached (h .frames) (omega (arith, h .depth)); stands = i })
@@ -377,7 +436,8 @@ module _ {p outcomes : List ℕ} {s : State} {t0 : List ℕ} {room : ℕ} (here 
   pub entry-law : Law
   entry-law =
       ⊎-elim
-      (λ h. by-process (ltb-true n (length (c .processes)) h) (processAt c n .status) (processAt c n .frames) refl (process-sound reached rest n))
+      (λ h. by-process (ltb-true n (length (c .processes)) h) (processAt c n .status) (processAt c n .frames) refl
+      (process-sound reached rest n))
       (λ h. unmade (ltb-false n (length (c .processes)) h))
       (decide (ltb n (length (c .processes))))
     where

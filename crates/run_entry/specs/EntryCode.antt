@@ -18,13 +18,15 @@ isOffer code = eqb code 115 || eqb code 116
 
 -- what the offer of the process comes to; one that does not run waits
 unfoldable pub offerAt : List ℕ → List ℕ → List (List ℕ) → ℕ → ℕ → Pairing
-offerAt p work t n code = cond (eqb code 1) (unpaired 1) (cond (isOffer code && ltb n 8) (pairingOp p work t n code) (unpaired 0))
+offerAt p work t n code =
+    cond (eqb code 1) (unpaired 1) (cond (isOffer code && ltb n 8) (pairingOp p work t n code) (unpaired 0))
 
 unfoldable pub entryOp : List ℕ → List ℕ → List ℕ → List ℕ → ℕ → Count → ℕ → ℕ → Pairing → AfterEntry
 entryOp p outcomes trace work room g n code m =
     cond (eqb code 1) (afterEntry (idleAt g) trace work)
     (cond (eqb code 114) (forkOp p outcomes trace work room g n)
-    (cond (isOffer code) (meetBy p outcomes trace work room g n m) (singleOp p outcomes trace work room g n (code % 65536))))
+    (cond (isOffer code) (meetBy p outcomes trace work room g n m)
+    (singleOp p outcomes trace work room g n (code % 65536))))
 
 -- the entry of this code has one line, and changes its process's part alone
 unfoldable pub oneLine : ℕ → Bool

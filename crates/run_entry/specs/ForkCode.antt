@@ -16,7 +16,8 @@ use Rattle.run_single.specs.SingleCode.{singleOp}
 use Rattle.run_transfer.specs.ForkLinesCode.{forkWritten}
 
 unfoldable pub forkDone : List ℕ → List ℕ → Count → Gifts → ℕ → ℕ → ℕ → ℕ → AfterEntry
-forkDone p work g ls n child m args = afterEntry (takenTo (ls .next) (g .used)) (ls .words) (forkedWords p work n child m args)
+forkDone p work g ls n child m args =
+    afterEntry (takenTo (ls .next) (g .used)) (ls .words) (forkedWords p work n child m args)
 
 unfoldable pub startOp : List ℕ → List ℕ → List ℕ → ℕ → Count → ℕ → ℕ → ℕ → ℕ → AfterEntry
 startOp p trace work room g n child m args =

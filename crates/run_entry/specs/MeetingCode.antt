@@ -15,9 +15,11 @@ use Rattle.run_ability.specs.declared.pairing.Pairing.{Pairing}
 unfoldable pub exchangeOp : List ℕ → List ℕ → ℕ → Count → ℕ → ℕ → Val → Val → AfterEntry
 exchangeOp trace work room g sender receiver e v =
     cond (ltb room (g .lines + 2)) (afterEntry (fullAt g) trace work)
-    (afterEntry (takenTo (g .lines + 2) (g .used)) (metWritten trace (g .lines) (g .entry) sender receiver e v) (metWords work sender receiver v))
+    (afterEntry (takenTo (g .lines + 2) (g .used)) (metWritten trace (g .lines) (g .entry) sender receiver e v)
+    (metWords work sender receiver v))
 
--- by what the offer of process n comes to: "20 .. before all others, and before waiting"; Paper 6: 33 where its partner has gone
+-- by what the offer of process n comes to: "20 .. before all others, and before waiting"; Paper 6: 33 where its partner
+-- has gone
 unfoldable pub meetBy : List ℕ → List ℕ → List ℕ → List ℕ → ℕ → Count → ℕ → Pairing → AfterEntry
 meetBy p outcomes trace work room g n m =
     cond (eqb (m .kind) 0) (singleOp p outcomes trace work room g n 20)

@@ -44,8 +44,8 @@ pub fn offer_at(
     no_meeting(0)
 }
 
-// Code 1 is a process that does not run, 114 FORK, 115 SEND, 116 RECV; any other writes one line. `m` is what the offer of the
-// process comes to, and counts only where it offers.
+// Code 1 is a process that does not run, 114 FORK, 115 SEND, 116 RECV; any other writes one line. `m` is what the offer
+// of the process comes to, and counts only where it offers.
 pub fn entry(
     p: &[u16],
     start: usize,

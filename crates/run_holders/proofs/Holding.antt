@@ -96,12 +96,14 @@ says-channel {t} s {c} d {h} w x n p =
     subst (Says (endGiven (endGiven t n 0 p) n 1 p) c d) (both (eqb n c) d)
     (says-end (end-shape n 0 p s) d w (says-end s d w x n false p) n true p)
   where
-    both : (b f : Bool) → cond (b && Bool·beq true f) (some p) (cond (b && Bool·beq false f) (some p) h) ≡ cond b (some p) h
+    both : (b f : Bool)
+        → cond (b && Bool·beq true f) (some p) (cond (b && Bool·beq false f) (some p) h) ≡ cond b (some p) h
     both true true = refl
     both true false = refl
     both false f = refl
 
--- the holder of an end after a line, test by test as the table is changed: no line is of two kinds, nothing of two things
+-- the holder of an end after a line, test by test as the table is changed: no line is of two kinds, nothing of two
+-- things
 holderAfter-end : (c : ℕ) (d : Bool) (h : Option ℕ) (l : Line)
     → holderAfter (end c d) h l
     ≡ cond (eqb (l .kind) 2) (cond (eqb (l .a) c) (some (l .process)) h)
@@ -115,7 +117,8 @@ holderAfter-end c d h l =
     kinds (eqb kind 1) (eqb kind 2) (eqb kind 6) (given (thing (eqb b 3) (eqb b 4) (eqb b 5) (eqb b 6)))
     (one kind 1 2 (omega arith)) (one kind 1 6 (omega arith))
     ∙ ap (λ (o : Option ℕ). cond (eqb kind 2) made (cond (eqb kind 6) o h))
-    (things (eqb b 3) (eqb b 4) (eqb b 5) (eqb b 6) (one b 3 4 (omega arith)) (one b 3 5 (omega arith)) (one b 3 6 (omega arith)))
+    (things (eqb b 3) (eqb b 4) (eqb b 5) (eqb b 6) (one b 3 4 (omega arith)) (one b 3 5 (omega arith))
+    (one b 3 6 (omega arith)))
   where
     kind : ℕ
     kind = l .kind
@@ -149,7 +152,8 @@ holderAfter-end c d h l =
 
     things : (b3 b4 b5 b6 : Bool) → (b3 ≡ true → b4 ≡ false) → (b3 ≡ true → b5 ≡ false) → (b3 ≡ true → b6 ≡ false)
         → given (thing b3 b4 b5 b6)
-        ≡ cond b4 (given whole) (cond b5 (given (whole && Bool·beq false d)) (cond b6 (given (whole && Bool·beq true d)) h))
+        ≡ cond b4 (given whole)
+        (cond b5 (given (whole && Bool·beq false d)) (cond b6 (given (whole && Bool·beq true d)) h))
     things true true b5 b6 x y z = absurd (true≢false (x refl))
     things true false true b6 x y z = absurd (true≢false (y refl))
     things true false false true x y z = absurd (true≢false (z refl))
@@ -172,7 +176,8 @@ says-noted {t} s {c} d {h} w x l =
     (says-cond (eqb (l .b) 6) (says-end s d w x (l .c) true (l .a)) x)))
     x))
 
-pub holding-more : (t : List (List ℕ)) (ls : List Line) (l : Line) → Holding t ls → Holding (holdersAfter t l) (ls ++ (l ∷ []))
+pub holding-more : (t : List (List ℕ)) (ls : List Line) (l : Line) → Holding t ls
+    → Holding (holdersAfter t l) (ls ++ (l ∷ []))
 holding-more t ls l h = record {
   shape = noted-shape l (h .shape);
   says = λ c d q w e.
@@ -204,7 +209,8 @@ pub holding-lines : (t : List (List ℕ)) (ls ms : List Line) (trace0 : List ℕ
     → Holding (holdersAfterLines t (traceAfter (ls ++ ms) trace0) (length ls) (length ms)) (ls ++ ms)
 unfolding holdersAfterLines
 holding-lines t ls ms trace0 h =
-    subst (λ (ns : List Line). Holding (holdersAfterLines t trace (length ls) (length ms)) (ls ++ ns)) (take-all (length ms) ms (omega arith))
+    subst (λ (ns : List Line). Holding (holdersAfterLines t trace (length ls) (length ms)) (ls ++ ns))
+    (take-all (length ms) ms (omega arith))
     (go (length ms) (omega arith))
   where
     trace : List ℕ
@@ -212,7 +218,8 @@ holding-lines t ls ms trace0 h =
 
     line : (j : ℕ) → j < length ms → lineFrom trace (6 * (length ls + j)) ≡ getD ms j noLine
     line j k =
-        trace-line (ls ++ ms) trace0 (length ls + j) (omega (arith, length-append ls ms)) ∙ getD-append-add ls ms j noLine
+        trace-line (ls ++ ms) trace0 (length ls + j) (omega (arith, length-append ls ms))
+        ∙ getD-append-add ls ms j noLine
 
     joined : (j : ℕ) → j < length ms → (ls ++ take j ms) ++ (getD ms j noLine ∷ []) ≡ ls ++ take (suc j) ms
     joined j k =
@@ -223,5 +230,7 @@ holding-lines t ls ms trace0 h =
     go zero k = subst (Holding t) (sym (append-nil ls)) h
     go (suc j) k =
         subst (Holding (holdersAfterLines t trace (length ls) (suc j))) (joined j k)
-        (subst (λ (l : Line). Holding (holdersAfter (holdersAfterLines t trace (length ls) j) l) ((ls ++ take j ms) ++ (getD ms j noLine ∷ []))) (sym (line j k))
-        (holding-more (holdersAfterLines t trace (length ls) j) (ls ++ take j ms) (getD ms j noLine) (go j (omega arith))))
+        (subst (λ (l : Line). Holding (holdersAfter (holdersAfterLines t trace (length ls) j) l)
+        ((ls ++ take j ms) ++ (getD ms j noLine ∷ []))) (sym (line j k))
+        (holding-more (holdersAfterLines t trace (length ls) j) (ls ++ take j ms) (getD ms j noLine)
+        (go j (omega arith))))

@@ -15,7 +15,8 @@ unfolding holdersAfterLines
 noted-begins t trace from = ap (holdersAfterLines t trace from) {x = 0} {y = from - from} (omega arith)
 
 pub noted-next : (t : List (List ℕ)) (trace : List ℕ) (from i : ℕ) {u : List (List ℕ)} {l : Line} → from ≤ i
-    → u ≡ holdersAfterLines t trace from (i - from) → l ≡ lineFrom trace (6 * i) → holdersAfter u l ≡ holdersAfterLines t trace from (i + 1 - from)
+    → u ≡ holdersAfterLines t trace from (i - from) → l ≡ lineFrom trace (6 * i)
+    → holdersAfter u l ≡ holdersAfterLines t trace from (i + 1 - from)
 unfolding holdersAfterLines
 noted-next t trace from i h e p =
     ap₂ holdersAfter e (p ∙ ap (λ (k : ℕ). lineFrom trace (6 * k)) {x = i} {y = from + (i - from)} (omega arith))
@@ -56,7 +57,9 @@ nothing-changed {t} l e h = go (eqb (l .kind) 2) (eqb (l .kind) 6) refl refl (sy
 
     go : (x y : Bool) → eqb (l .kind) 2 ≡ x → eqb (l .kind) 6 ≡ y → cond y (leb 4 (l .b)) x ≡ false
         → t ≡ cond x (channelGiven t (l .a) (l .process))
-        (cond y (cond (eqb (l .b) 4) (channelGiven t (l .c) (l .a)) (cond (eqb (l .b) 5) (endGiven t (l .c) 0 (l .a)) (cond (eqb (l .b) 6) (endGiven t (l .c) 1 (l .a)) t))) t)
+        (cond y
+        (cond (eqb (l .b) 4) (channelGiven t (l .c) (l .a))
+        (cond (eqb (l .b) 5) (endGiven t (l .c) 0 (l .a)) (cond (eqb (l .b) 6) (endGiven t (l .c) 1 (l .a)) t))) t)
     go true true i j q = absurd (true≢false (other true true i j refl))
     go true false i j q = absurd (true≢false q)
     go false true i j q = rw (given q 4 (omega arith), given q 5 (omega arith), given q 6 (omega arith)) refl
@@ -68,11 +71,13 @@ pub changed-begins : (trace : List ℕ) (from : ℕ) → false ≡ changedFrom t
 unfolding changedFrom
 changed-begins trace from = ap (changedFrom trace from) {x = 0} {y = from - from} (omega arith)
 
-pub changed-next : (trace : List ℕ) (from i : ℕ) {b x : Bool} {l : Line} → from ≤ i → b ≡ changedFrom trace from (i - from) → x ≡ changesHolder l
+pub changed-next : (trace : List ℕ) (from i : ℕ) {b x : Bool} {l : Line} → from ≤ i
+    → b ≡ changedFrom trace from (i - from) → x ≡ changesHolder l
     → l ≡ lineFrom trace (6 * i) → (b || x) ≡ changedFrom trace from (i + 1 - from)
 unfolding changedFrom
 changed-next trace from i h e q p =
-    ap₂ _||_ e (q ∙ ap changesHolder (p ∙ ap (λ (k : ℕ). lineFrom trace (6 * k)) {x = i} {y = from + (i - from)} (omega arith)))
+    ap₂ _||_ e
+    (q ∙ ap changesHolder (p ∙ ap (λ (k : ℕ). lineFrom trace (6 * k)) {x = i} {y = from + (i - from)} (omega arith)))
     ∙ ap (changedFrom trace from) {x = suc (i - from)} {y = i + 1 - from} (omega arith)
 
 pub changed-so : (b : Bool) {x : Bool} → x ≡ true → true ≡ (b || x)
@@ -84,11 +89,14 @@ changed-not true e = refl
 changed-not false e = sym e
 
 -- where none does, the table is as it was
-pub unchanged : (t : List (List ℕ)) (trace : List ℕ) (from j : ℕ) → changedFrom trace from j ≡ false → holdersAfterLines t trace from j ≡ t
+pub unchanged : (t : List (List ℕ)) (trace : List ℕ) (from j : ℕ) → changedFrom trace from j ≡ false
+    → holdersAfterLines t trace from j ≡ t
 unfolding changedFrom holdersAfterLines
 unchanged t trace from zero e = refl
 unchanged t trace from (suc j) e =
-    sym (nothing-changed (lineFrom trace (6 * (from + j))) refl (second (changedFrom trace from j) (changesHolder (lineFrom trace (6 * (from + j)))) e))
+    sym
+    (nothing-changed (lineFrom trace (6 * (from + j))) refl
+    (second (changedFrom trace from j) (changesHolder (lineFrom trace (6 * (from + j)))) e))
     ∙ unchanged t trace from j (first (changedFrom trace from j) (changesHolder (lineFrom trace (6 * (from + j)))) e)
   where
     first : (x y : Bool) → (x || y) ≡ false → x ≡ false

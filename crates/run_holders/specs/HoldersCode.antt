@@ -33,7 +33,8 @@ holdersAfter t l =
 -- the table after j more lines of a trace, from line number `from` on
 unfoldable pub holdersAfterLines : List (List ℕ) → List ℕ → ℕ → ℕ → List (List ℕ)
 holdersAfterLines t trace from zero = t
-holdersAfterLines t trace from (suc j) = holdersAfter (holdersAfterLines t trace from j) (lineFrom trace (6 * (from + j)))
+holdersAfterLines t trace from (suc j) =
+    holdersAfter (holdersAfterLines t trace from j) (lineFrom trace (6 * (from + j)))
 
 -- a line that changes the table: a channel made, or a channel or an end given
 unfoldable pub changesHolder : Line → Bool

@@ -150,13 +150,13 @@ module _ (c : Config) (laid : Laid c) (rest : List ℕ) where
 
   after-front : (n : ℕ) → drop (partAt n) (encode c ++ rest) ≡ drop (512 * n) parts
   after-front n =
-      ap (drop (512 + 512 * n)) (store-is c rest)
+      ap (drop (partAt n)) (store-is c rest)
       ∙ ap (λ (k : ℕ). drop (k + 512 * n) (front c ++ parts)) (sym front-long)
       ∙ drop-append-add (front c) parts (512 * n)
 
   up-to : (n : ℕ) → take (partAt n) (encode c ++ rest) ≡ front c ++ take (512 * n) parts
   up-to n =
-      ap (take (512 + 512 * n)) (store-is c rest)
+      ap (take (partAt n)) (store-is c rest)
       ∙ ap (λ (k : ℕ). take (k + 512 * n) (front c ++ parts)) (sym front-long)
       ∙ take-append-add (front c) parts (512 * n)
 

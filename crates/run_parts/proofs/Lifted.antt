@@ -1,6 +1,6 @@
 -- One law lifts whatever is done to a lent part to the store.
 use Prim.Native.Nat.{ℕ, _+_, _-_}
-use mathlib.Core.Path.{_≡_, refl, _∙_, ap, ap₂}
+use mathlib.Core.Path.{_≡_, _∙_, ap, ap₂}
 use mathlib.Core.List.{List}
 use native.Mathlib.Omega.{arith}
 use borrow.Rule.Slice.PartMut.{midOf, putMid}
@@ -21,9 +21,6 @@ size a = omega arith
 pub part-lent : (work : List ℕ) (n : ℕ) {from : ℕ} → from ≡ partAt n → lent work from ≡ partOf work n
 unfolding partOf
 part-lent work n {from} at = ap₂ (λ (a k : ℕ). midOf a k work) at (size from)
-
-pub part-read : (work : List ℕ) (n : ℕ) → lent work (partAt n) ≡ partOf work n
-part-read work n = part-lent work n refl
 
 part-returned : (work : List ℕ) (n : ℕ) {from : ℕ} → from ≡ partAt n → (ys : List ℕ)
     → returned work from ys ≡ withPart work n ys

@@ -299,7 +299,8 @@ module _ {p schedule outcomes t0 rest : List ℕ} {room : ℕ} (given : Inputs p
             entered =
                 ap
                 (λ (b : Bool). cond b (afterEntry (idleAt count₀) trace₀ work₀)
-                (entryOp p outcomes trace₀ work₀ room count₀ named (step₀ .code) (offerAt p work₀ t named (step₀ .code))))
+                (entryOp p outcomes trace₀ work₀ room count₀ named (step₀ .code)
+                (offerAt p work₀ t named (step₀ .code))))
                 (lt-leb 8 named h)
                 ∙ x .entry;
           }))

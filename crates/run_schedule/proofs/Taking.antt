@@ -46,7 +46,8 @@ module _ {p schedule outcomes t0 rest : List ℕ} {room : ℕ} (given : Inputs p
 
     pub turn-law : {work trace : List ℕ} {t : List (List ℕ)} {lines used : ℕ} {known : Knowledge}
         → Ready given k work trace t lines used known → k < length schedule → (code : ℕ) (m : Pairing)
-        → namedEntryOp p outcomes trace work room (record { entry = k; lines = lines; used = used }) (named given k) code
+        → namedEntryOp p outcomes trace work room (record { entry = k; lines = lines; used = used }) (named given k)
+        code
         m ≡ (comesTo given k)
         → Turns t lines
         (turnOp p outcomes trace work room t (record { entry = k; lines = lines; used = used }) (named given k) code m
@@ -62,14 +63,20 @@ module _ {p schedule outcomes t0 rest : List ℕ} {room : ℕ} (given : Inputs p
         idles : able p outcomes (at given k) (named given k) ≡ false → ending p outcomes (at given k) ≡ 0
             → Turns t lines
             (afterTurn
-            (record
-            { end = 0; lines = length (at given k .lines); used = at given k .used; known = withIdle known (named given k) })
+            (record {
+              end = 0;
+              lines = length (at given k .lines);
+              used = at given k .used;
+              known = withIdle known
+                  (named given k);
+            })
             (trace₀ given k) (work₀ given k))
         idles a e = inl (
           refl,
           omega (arith, r .counted),
           subst
-              (λ (n : ℕ). Ready given (suc k) (work₀ given k) (trace₀ given k) (holdersAfterLines t (trace₀ given k) lines n)
+              (λ (n : ℕ). Ready given (suc k) (work₀ given k) (trace₀ given k)
+              (holdersAfterLines t (trace₀ given k) lines n)
               (length (at given k .lines)) (at given k .used)
               (unlessChanged (withIdle known (named given k)) (changedFrom (trace₀ given k) lines n)))
               {x = 0} {y = length (at given k .lines) - lines} (omega (arith, r .counted))
@@ -79,8 +86,13 @@ module _ {p schedule outcomes t0 rest : List ℕ} {room : ℕ} (given : Inputs p
         stay : able p outcomes (at given k) (named given k) ≡ false
             → Turns t lines
             (afterTurn
-            (record
-            { end = endingOp p (work₀ given k) t 8; lines = length (at given k .lines); used = at given k .used; known = withIdle known (named given k) })
+            (record {
+              end = endingOp p (work₀ given k) t 8;
+              lines = length (at given k .lines);
+              used = at given k .used;
+              known =
+                  withIdle known (named given k);
+            })
             (trace₀ given k) (work₀ given k))
         stay a = ends (endingOp p (work₀ given k) t 8) refl
           where
@@ -90,8 +102,13 @@ module _ {p schedule outcomes t0 rest : List ℕ} {room : ℕ} (given : Inputs p
             ends : (x : ℕ) → endingOp p (work₀ given k) t 8 ≡ x
                 → Turns t lines
                 (afterTurn
-                (record
-                { end = x; lines = length (at given k .lines); used = at given k .used; known = withIdle known (named given k) })
+                (record {
+                  end = x;
+                  lines = length (at given k .lines);
+                  used = at given k .used;
+                  known = withIdle known
+                      (named given k);
+                })
                 (trace₀ given k) (work₀ given k))
             ends zero j = idles a (sym is ∙ j)
             ends (suc x) j = inr (
@@ -99,7 +116,8 @@ module _ {p schedule outcomes t0 rest : List ℕ} {room : ℕ} (given : Inputs p
               record { ends = r .runs ∙ ends-here p outcomes room (at given k) k x (drop k schedule) (sym is ∙ j); store = refl; written = refl; counted = refl; drawn = refl },
             )
 
-        go : (a f : Bool) → able p outcomes (at given k) (named given k) ≡ a → fits room (at given k) (effect given k) ≡ f
+        go : (a f : Bool) → able p outcomes (at given k) (named given k) ≡ a
+            → fits room (at given k) (effect given k) ≡ f
             → Turns t lines (turnBy p t (named given k) code known (comes given k a f))
         go true true i j = inl (
           refl,
@@ -149,7 +167,8 @@ module _ {p schedule outcomes t0 rest : List ℕ} {room : ℕ} (given : Inputs p
                 ⊎-elim
                 (λ m. absurd
                 (true≢false
-                (sym i ∙ not-able given k (r .table) (named given k) low (there .idle z (named given k) low m)))) (λ m. m)
+                (sym i ∙ not-able given k (r .table) (named given k) low (there .idle z (named given k) low m))))
+                (λ m. m)
                 (decide (getD (known .idle) (named given k) false))
 
             so : known′ .some ≡ true
@@ -171,14 +190,16 @@ module _ {p schedule outcomes t0 rest : List ℕ} {room : ℕ} (given : Inputs p
                 ≡ work′
             came-so =
                 sym (ap (λ (b : Bool). cond b (afterEntry (idleAt (count₀ given k)) (trace₀ given k) (work₀ given k))
-                (entryOp p outcomes (trace₀ given k) (work₀ given k) room (count₀ given k) (named given k) code m) .work)
+                (entryOp p outcomes (trace₀ given k) (work₀ given k) room (count₀ given k) (named given k) code m)
+                .work)
                 (lt-leb 8 (named given k) low))
                 ∙ ap (λ (c : AfterEntry). c .work)
                 ((λ x. namedEntryOp p outcomes (sym (r .written) x) (sym (r .store) x) room (record { entry = k; lines = sym (r .counted) x; used = sym (r .drawn) x }) (named given k) code m)
                 ∙ e)
                 ∙ ap₂ (λ (a f : Bool). comes given k a f .work) i j
 
-            others : known′ .some ≡ true → (q : ℕ) → q < 8 → q ≢ named given k → partOf work′ q ≡ partOf (work₀ given k) q
+            others : known′ .some ≡ true → (q : ℕ) → q < 8 → q ≢ named given k
+                → partOf work′ q ≡ partOf (work₀ given k) q
             others z q h ne =
                 ap (λ (w : List ℕ). partOf w q) (sym came-so)
                 ∙ beside p outcomes (trace₀ given k) (work₀ given k) room (count₀ given k) (named given k) code m
@@ -186,7 +207,8 @@ module _ {p schedule outcomes t0 rest : List ℕ} {room : ℕ} (given : Inputs p
         go true false i j = inr (
           λ z. absurd (omega (arith, z)),
           record {
-            ends = r .runs ∙ at-full p outcomes room schedule k l (able-goes p outcomes (at given k) (named given k) i) j;
+            ends =
+                r .runs ∙ at-full p outcomes room schedule k l (able-goes p outcomes (at given k) (named given k) i) j;
             store = refl;
             written = refl;
             counted = refl;

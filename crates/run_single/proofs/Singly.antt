@@ -46,7 +46,8 @@ counted-process (qubit q) c n = refl
 counted-process (channel q) c n = refl
 counted-process (end q d) c n = refl
 
-module _ {p outcomes : List ℕ} {s : State} {t0 : List ℕ} {room : ℕ} (here : Here p outcomes s t0 room) (rest : List ℕ) (k n : ℕ) where
+module _ {p outcomes : List ℕ} {s : State} {t0 : List ℕ} {room : ℕ} (here : Here p outcomes s t0 room)
+    (rest : List ℕ) (k n : ℕ) where
   abbrev reached : Reached p outcomes s
   reached = here .reached
 
@@ -71,7 +72,8 @@ module _ {p outcomes : List ℕ} {s : State} {t0 : List ℕ} {room : ℕ} (here 
   -- what a taken entry leaves, and what an entry leaves by whether its lines fit
   abbrev pub took : Effect → AfterEntry
   took e =
-      afterEntry (takenTo (length (s .lines ++ e .lines)) (s .used + e .used)) (traceAfter (s .lines ++ e .lines) t0) (encode (e .config) ++ rest)
+      afterEntry (takenTo (length (s .lines ++ e .lines)) (s .used + e .used)) (traceAfter (s .lines ++ e .lines) t0)
+      (encode (e .config) ++ rest)
 
   abbrev pub full : AfterEntry
   full = afterEntry (fullAt count) trace work
@@ -83,7 +85,8 @@ module _ {p outcomes : List ℕ} {s : State} {t0 : List ℕ} {room : ℕ} (here 
 
   module _ (made : n < length (config .processes)) where
     single-law : (code : ℕ) (told : EventResult) (pr : Process) (ev : Event) (e : Effect)
-        → concludeOp p (partOf work n) code (config .qubits) (config .channels) outcomes (s .used) ≡ afterEvent told (processWords pr)
+        → concludeOp p (partOf work n) code (config .qubits) (config .channels) outcomes (s .used) ≡ afterEvent told
+        (processWords pr)
         → length (processWords pr) ≡ 512
         → eventLine k n told ≡ written.lineOf (lineOf k n ev)
         → e .lines ≡ lineOf k n ev ∷ [] → e .used ≡ told .used → told .used ≤ 1
@@ -94,26 +97,33 @@ module _ {p outcomes : List ℕ} {s : State} {t0 : List ℕ} {room : ℕ} (here 
       where
         stored : recorded trace count n (concludedAt p work n code outcomes (s .used))
             ≡ afterEntry (takenTo (length (s .lines) + 1) ((s .used + told .used) % 4294967296))
-            (withLine trace (length (s .lines)) (eventLine k n told)) (countedWords (encode (setProcess config n pr) ++ rest) (told .kind))
+            (withLine trace (length (s .lines)) (eventLine k n told))
+            (countedWords (encode (setProcess config n pr) ++ rest) (told .kind))
         stored =
-            ap₂ (λ (q c : ℕ). recorded trace count n (inPart work n (concludeOp p (partOf work n) code q c outcomes (s .used)))) (qubits-word config rest) (channels-word config rest)
+            ap₂
+            (λ (q c : ℕ). recorded trace count n
+            (inPart work n (concludeOp p (partOf work n) code q c outcomes (s .used)))) (qubits-word config rest)
+            (channels-word config rest)
             ∙ ap (λ (l : AfterEvent). recorded trace count n (inPart work n l)) conc
             ∙ ap (λ (w : List ℕ). recorded trace count n (afterEvent told w)) (part-put config laid rest n pr made long)
 
         lines-count : length (s .lines) + 1 ≡ length (s .lines ++ e .lines)
-        lines-count = sym (length-append (s .lines) (e .lines) ∙ ap (λ (l : List Line). length (s .lines) + length l) ls)
+        lines-count =
+            sym (length-append (s .lines) (e .lines) ∙ ap (λ (l : List Line). length (s .lines) + length l) ls)
 
         go : (b : Bool) → leb room (length (s .lines)) ≡ b
             → cond b full (recorded trace count n (concludedAt p work n code outcomes (s .used)))
             ≡ cond (leb (length (s .lines) + length (e .lines)) room) (took e) full
         go true h =
             sym (ap (λ (b : Bool). cond b (took e) full)
-            (lt-leb (length (s .lines) + length (e .lines)) room (omega (arith, leb-true room (length (s .lines)) h, ap length ls))))
+            (lt-leb (length (s .lines) + length (e .lines)) room
+            (omega (arith, leb-true room (length (s .lines)) h, ap length ls))))
         go false h =
             stored
             ∙ (λ i. afterEntry (takenTo (lines-count i) (used-same i)) (trace-same i) (cw i))
             ∙ sym (ap (λ (b : Bool). cond b (took e) full)
-            (le-leb (length (s .lines) + length (e .lines)) room (omega (arith, leb-false room (length (s .lines)) h, ap length ls))))
+            (le-leb (length (s .lines) + length (e .lines)) room
+            (omega (arith, leb-false room (length (s .lines)) h, ap length ls))))
           where
             used-same : (s .used + told .used) % 4294967296 ≡ s .used + e .used
             used-same = mod-eq-of-lt (omega (arith, here .small, one)) ∙ ap (λ (u : ℕ). s .used + u) (sym us)
@@ -121,7 +131,8 @@ module _ {p outcomes : List ℕ} {s : State} {t0 : List ℕ} {room : ℕ} (here 
             trace-same : withLine trace (length (s .lines)) (eventLine k n told) ≡ traceAfter (s .lines ++ e .lines) t0
             trace-same =
                 ap (withLine trace (length (s .lines))) line
-                ∙ written.line-written (s .lines) t0 (lineOf k n ev) (omega (arith, here .holds, leb-false room (length (s .lines)) h))
+                ∙ written.line-written (s .lines) t0 (lineOf k n ev)
+                (omega (arith, here .holds, leb-false room (length (s .lines)) h))
                 ∙ ap (λ (l : List Line). traceAfter (s .lines ++ l) t0) (sym ls)
 
   -- a running process
@@ -135,7 +146,8 @@ module _ {p outcomes : List ℕ} {s : State} {t0 : List ℕ} {room : ℕ} (here 
 
     -- a fault, by whatever code it came
     pub fault-as : (code m : ℕ) → IsFault m
-        → concludeOp p words code (config .qubits) (config .channels) outcomes (s .used) ≡ afterEvent (faultEvent m) (processWords (record { status = stopped m; frames = f ∷ fs }))
+        → concludeOp p words code (config .qubits) (config .channels) outcomes (s .used) ≡ afterEvent (faultEvent m)
+        (processWords (record { status = stopped m; frames = f ∷ fs }))
         → singleOp p outcomes trace work room count n code ≡ tried (applied p outcomes k s n (faults m))
     unfolding appliedIn countedWords
     fault-as code m listed conc =
@@ -170,19 +182,23 @@ module _ {p outcomes : List ℕ} {s : State} {t0 : List ℕ} {room : ℕ} (here 
     fault-high m (inl h) = omega (arith, h .1)
     fault-high m (inr e) = omega (arith, e)
 
-    pub fault-law : (m : ℕ) → IsFault m → singleOp p outcomes trace work room count n m ≡ tried (applied p outcomes k s n (faults m))
+    pub fault-law : (m : ℕ) → IsFault m
+        → singleOp p outcomes trace work room count n m ≡ tried (applied p outcomes k s n (faults m))
     fault-law m listed =
         fault-as m m listed
-        (concluded-fault outcomes s (live .busy) (sound .qubitCount) m (fault-low m listed) (fault-high m listed) (config .qubits) (config .channels) outcomes (s .used))
+        (concluded-fault outcomes s (live .busy) (sound .qubitCount) m (fault-low m listed) (fault-high m listed)
+        (config .qubits) (config .channels) outcomes (s .used))
 
     -- the root frame's return
     pub ends-as : (code : ℕ)
-        → concludeOp p words code (config .qubits) (config .channels) outcomes (s .used) ≡ afterEvent (eventOf 0 finishes) (processWords (record { status = finished; frames = [] }))
+        → concludeOp p words code (config .qubits) (config .channels) outcomes (s .used) ≡ afterEvent
+        (eventOf 0 finishes) (processWords (record { status = finished; frames = [] }))
         → singleOp p outcomes trace work room count n code ≡ tried (applied p outcomes k s n ends)
     unfolding appliedIn countedWords
     ends-as code conc =
         single-law (live .made) code (eventOf 0 finishes) gone finishes (applied p outcomes k s n ends)
-        (ap (λ (w : List ℕ). concludeOp p w code (config .qubits) (config .channels) outcomes (s .used)) part-now ∙ conc)
+        (ap (λ (w : List ℕ). concludeOp p w code (config .qubits) (config .channels) outcomes (s .used)) part-now
+        ∙ conc)
         (process-length p config gone (record { status = refl; depth = omega arith; frames = tt }))
         refl refl refl (omega arith) refl
       where
@@ -192,70 +208,88 @@ module _ {p outcomes : List ℕ} {s : State} {t0 : List ℕ} {room : ℕ} (here 
     pub ends-law : singleOp p outcomes trace work room count n 113 ≡ tried (applied p outcomes k s n ends)
     ends-law =
         ends-as 113
-        (concluded-ends outcomes s (live .busy) (sound .qubitCount) (config .qubits) (config .channels) outcomes (s .used))
+        (concluded-ends outcomes s (live .busy) (sound .qubitCount) (config .qubits) (config .channels) outcomes
+        (s .used))
 
     -- the words of a process after its entry fill its part
     module _ (a : Act) (does : actOf p outcomes s n ≡ a) where
       after-typed : Typed p (applied p outcomes k s n (judged s n a) .config)
       unfolding effectIn
       after-typed =
-          subst (λ (x : Act). Typed p (applied p outcomes k s n (judged s n x) .config)) does (effect-typed p (reached .kept) outcomes (reached .bytes) s (reached .kinds) (reached .typed) k n)
+          subst (λ (x : Act). Typed p (applied p outcomes k s n (judged s n x) .config)) does
+          (effect-typed p (reached .kept) outcomes (reached .bytes) s (reached .kinds) (reached .typed) k n)
 
       after-sound : ConfigSound p (applied p outcomes k s n (judged s n a) .config)
-      after-sound = config-sound p (reached .kept) (after-typed .0) (applied p outcomes k s n (judged s n a) .config) (after-typed .1)
+      after-sound =
+          config-sound p (reached .kept) (after-typed .0) (applied p outcomes k s n (judged s n a) .config)
+          (after-typed .1)
 
       after-laid : Laid (applied p outcomes k s n (judged s n a) .config)
       after-laid = laid-sound p (applied p outcomes k s n (judged s n a) .config) after-sound
 
-      pub after-long : (q : ℕ) (pr : Process) → processAt (applied p outcomes k s n (judged s n a) .config) q ≡ pr → length (processWords pr) ≡ 512
+      pub after-long : (q : ℕ) (pr : Process) → processAt (applied p outcomes k s n (judged s n a) .config) q ≡ pr
+          → length (processWords pr) ≡ 512
       unfolding processAt
       after-long q pr e =
           subst (λ (x : Process). length (processWords x) ≡ 512) e
-          (All-getD (λ x. length (processWords x) ≡ 512) (applied p outcomes k s n (judged s n a) .config .processes) q unmade after-laid
+          (All-getD (λ x. length (processWords x) ≡ 512) (applied p outcomes k s n (judged s n a) .config .processes) q
+          unmade after-laid
           (process-length p config unmade (record { status = refl; depth = omega arith; frames = tt })))
 
     -- an op that goes on with one line of its own process
     pub line-law : (code : ℕ) (gs : List Frame) (ev : Event) (u : ℕ) → actOf p outcomes s n ≡ goes gs (ev ∷ []) u
-        → concludeOp p words code (config .qubits) (config .channels) outcomes (s .used) ≡ afterEvent (eventOf u ev) (processWords (runs gs))
+        → concludeOp p words code (config .qubits) (config .channels) outcomes (s .used) ≡ afterEvent (eventOf u ev)
+        (processWords (runs gs))
         → ev .kind ≢ 1 → ev .kind ≢ 2 → u ≤ 1
         → singleOp p outcomes trace work room count n code ≡ tried (applied p outcomes k s n (goes gs (ev ∷ []) u))
     unfolding appliedIn judged countedWords
     line-law code gs ev u does conc one two few =
         single-law (live .made) code (eventOf u ev) (runs gs) ev (applied p outcomes k s n (goes gs (ev ∷ []) u))
-        (ap (λ (w : List ℕ). concludeOp p w code (config .qubits) (config .channels) outcomes (s .used)) part-now ∙ conc)
+        (ap (λ (w : List ℕ). concludeOp p w code (config .qubits) (config .channels) outcomes (s .used)) part-now
+        ∙ conc)
         (after-long (goes gs (ev ∷ []) u) does n (runs gs) (process-same config n (runs gs) (live .made)))
         refl refl refl few
-        (ap₂ (λ (x y : Bool). cond x (set w 1 ((getD w 1 0 + 1) % 4294967296)) (cond y (set w 2 ((getD w 2 0 + 1) % 4294967296)) w)) (ne-eqb (ev .kind) 1 one) (ne-eqb (ev .kind) 2 two))
+        (ap₂
+        (λ (x y : Bool). cond x (set w 1 ((getD w 1 0 + 1) % 4294967296))
+        (cond y (set w 2 ((getD w 2 0 + 1) % 4294967296)) w)) (ne-eqb (ev .kind) 1 one) (ne-eqb (ev .kind) 2 two))
       where
         w : List ℕ
         w = encode (setProcess config n (runs gs)) ++ rest
 
     -- a thing made: the line of its making, where counting it leaves these words
     making-law : (code : ℕ) (t : Thing) (gs : List Frame) → actOf p outcomes s n ≡ makes t gs
-        → concludeOp p words code (config .qubits) (config .channels) outcomes (s .used) ≡ afterEvent (eventOf 0 (making t)) (processWords (runs gs))
-        → countedWords (encode (setProcess config n (runs gs)) ++ rest) (making t .kind) ≡ encode (counted t (setProcess config n (runs gs))) ++ rest
+        → concludeOp p words code (config .qubits) (config .channels) outcomes (s .used) ≡ afterEvent
+        (eventOf 0 (making t)) (processWords (runs gs))
+        → countedWords (encode (setProcess config n (runs gs)) ++ rest) (making t .kind) ≡ encode
+        (counted t (setProcess config n (runs gs))) ++ rest
         → singleOp p outcomes trace work room count n code ≡ tried (applied p outcomes k s n (makes t gs))
     unfolding appliedIn judged
     making-law code t gs does conc words-counted =
         single-law (live .made) code (eventOf 0 (making t)) (runs gs) (making t) (applied p outcomes k s n (makes t gs))
-        (ap (λ (w : List ℕ). concludeOp p w code (config .qubits) (config .channels) outcomes (s .used)) part-now ∙ conc)
+        (ap (λ (w : List ℕ). concludeOp p w code (config .qubits) (config .channels) outcomes (s .used)) part-now
+        ∙ conc)
         (after-long (makes t gs) does n (runs gs)
         (counted-process t (setProcess config n (runs gs)) n ∙ process-same config n (runs gs) (live .made)))
         refl refl refl (omega arith) words-counted
 
     pub made-law : (code : ℕ) (t : Thing) (gs : List Frame) → actOf p outcomes s n ≡ makes t gs
-        → concludeOp p words code (config .qubits) (config .channels) outcomes (s .used) ≡ afterEvent (eventOf 0 (making t)) (processWords (runs gs))
+        → concludeOp p words code (config .qubits) (config .channels) outcomes (s .used) ≡ afterEvent
+        (eventOf 0 (making t)) (processWords (runs gs))
         → ((i : ℕ) (d : Bool) → t ≢ end i d)
         → singleOp p outcomes trace work room count n code ≡ tried (applied p outcomes k s n (makes t gs))
     unfolding countedWords making counted setProcess
     made-law code (qubit q) gs does conc never =
         making-law code (qubit q) gs does conc
         (ap (set (encode (setProcess config n (runs gs)) ++ rest) 1)
-        (ap (λ (i : ℕ). (i + 1) % 4294967296) (qubits-word (setProcess config n (runs gs)) rest) ∙ mod-eq-of-lt (omega (arith, sound .qubitCount)) ∙ omega arith)
+        (ap (λ (i : ℕ). (i + 1) % 4294967296) (qubits-word (setProcess config n (runs gs)) rest)
+        ∙ mod-eq-of-lt (omega (arith, sound .qubitCount))
+        ∙ omega arith)
         ∙ qubit-counted (setProcess config n (runs gs)) q rest)
     made-law code (channel q) gs does conc never =
         making-law code (channel q) gs does conc
         (ap (set (encode (setProcess config n (runs gs)) ++ rest) 2)
-        (ap (λ (i : ℕ). (i + 1) % 4294967296) (channels-word (setProcess config n (runs gs)) rest) ∙ mod-eq-of-lt (omega (arith, sound .channelCount)) ∙ omega arith)
+        (ap (λ (i : ℕ). (i + 1) % 4294967296) (channels-word (setProcess config n (runs gs)) rest)
+        ∙ mod-eq-of-lt (omega (arith, sound .channelCount))
+        ∙ omega arith)
         ∙ channel-counted (setProcess config n (runs gs)) q rest)
     made-law code (end i d) gs does conc never = absurd (never i d refl)

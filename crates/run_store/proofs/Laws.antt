@@ -85,7 +85,8 @@ unfolding clearedFrom
 cleared-length w from zero = refl
 cleared-length w from (suc n) = length-set (clearedFrom w from n) (from + n) 0 ∙ cleared-length w from n
 
-pub cleared-beyond : (w : List ℕ) (from k n : ℕ) → length w ≤ from + k → k ≤ n → clearedFrom w from k ≡ clearedFrom w from n
+pub cleared-beyond : (w : List ℕ) (from k n : ℕ) → length w ≤ from + k → k ≤ n
+    → clearedFrom w from k ≡ clearedFrom w from n
 unfolding clearedFrom
 cleared-beyond w from k n h e = go (n - k) ∙ ap (clearedFrom w from) {x = k + (n - k)} {y = n} (omega (arith, e))
   where
@@ -93,7 +94,8 @@ cleared-beyond w from k n h e = go (n - k) ∙ ap (clearedFrom w from) {x = k + 
     go zero = ap (clearedFrom w from) {x = k} {y = k + 0} (omega arith)
     go (suc j) =
         go j
-        ∙ sym (set-out (clearedFrom w from (k + j)) (from + (k + j)) 0 (omega (arith, h, cleared-length w from (k + j))))
+        ∙ sym
+        (set-out (clearedFrom w from (k + j)) (from + (k + j)) 0 (omega (arith, h, cleared-length w from (k + j))))
         ∙ ap (clearedFrom w from) {x = suc (k + j)} {y = k + suc j} (omega arith)
 
 -- values emptied

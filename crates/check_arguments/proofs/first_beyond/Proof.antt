@@ -48,8 +48,10 @@ arg-at-requires c κs =
 
 argument-kept-requires : tie.Need-argument-kept-requires Inv-loop μ-loop
 argument-kept-requires c κs =
-    let pre = c .before .before .before .before .before .before .before .before .pre in
-    let at = c .before .before .at in (
+    let at-at = c .before .before in
+    let at-pre = at-at .before .before .before .before .before .before in
+    let pre = at-pre .pre in
+    let at = at-at .at in (
       pre .0,
       pre .5,
       owner-known _ _ _ (at .ensures),
@@ -64,30 +66,49 @@ same-length c =
 
 returns : tie.Need-returns Inv-loop μ-loop
 returns c =
-    let op-at = c .before .before .before .op-at in
-    let arg-at = c .before .before .arg-at in
-    let at = c .before .before .before .before .at in
-    let loop = c .before .before .before .before .before .before .loop in
-    let kept = instruction-kept _ _ _ _ _ (op-at .ensures .0) (arg-at .ensures .0) (at .ensures) (c .before .argument-kept .ensures) in
+    let at-argument-kept = c .before in
+    let at-arg-at = at-argument-kept .before in
+    let at-op-at = at-arg-at .before in
+    let at-at = at-op-at .before in
+    let at-loop = at-at .before .before in
+    let op-at = at-op-at .op-at in
+    let arg-at = at-arg-at .arg-at in
+    let at = at-at .at in
+    let loop = at-loop .loop in
+    let kept =
+    instruction-kept _ _ _ _ _ (op-at .ensures .0) (arg-at .ensures .0) (at .ensures)
+    (at-argument-kept .argument-kept .ensures) in
     (sym (first-halts _ _ _ (loop .inv .1) (loop .inv .0) (λ h. kept ∙ not-true _ (c .if1 .taken))), loop .inv .3)
 
 add-mark : tie.Need-add-mark Inv-loop μ-loop
 add-mark c =
-    let pre = c .before .before .before .before .before .before .before .before .before .before .before .before .pre in
-    let at = c .before .before .before .before .before .before .at in
-    let arg-at = c .before .before .before .before .arg-at in
+    let at-arg-at = c .before .before .before .before in
+    let at-at = at-arg-at .before .before in
+    let at-pre = at-at .before .before .before .before .before .before in
+    let pre = at-pre .pre in
+    let at = at-at .at in
+    let arg-at = at-arg-at .arg-at in
     omega (arith, owner-low _ (pre .0) (pre .1) _ _ (at .ensures) (omega arith), arg-at .ensures .1)
 
 mark-requires : tie.Need-mark-requires Inv-loop μ-loop
 mark-requires c κs =
-    let op-at = c .before .before .before .before .before .op-at in
-    let arg-at = c .before .before .before .before .arg-at in
-    let at = c .before .before .before .before .before .before .at in
-    let pre = c .before .before .before .before .before .before .before .before .before .before .before .before .pre in
-    let argument-kept = c .before .before .before .argument-kept in
-    let if1 = c .before .before .if1 in
-    let loop = c .before .before .before .before .before .before .before .before .loop in
-    let within = target-within _ _ _ _ _ (op-at .ensures .0) (arg-at .ensures .0) (at .ensures) (pre .0) (pre .1) (omega arith) in
+    let at-if1 = c .before .before in
+    let at-argument-kept = at-if1 .before in
+    let at-arg-at = at-argument-kept .before in
+    let at-op-at = at-arg-at .before in
+    let at-at = at-op-at .before in
+    let at-loop = at-at .before .before in
+    let at-pre = at-loop .before .before .before .before in
+    let op-at = at-op-at .op-at in
+    let arg-at = at-arg-at .arg-at in
+    let at = at-at .at in
+    let pre = at-pre .pre in
+    let argument-kept = at-argument-kept .argument-kept in
+    let if1 = at-if1 .if1 in
+    let loop = at-loop .loop in
+    let within =
+    target-within _ _ _ _ _ (op-at .ensures .0) (arg-at .ensures .0) (at .ensures) (pre .0) (pre .1) (omega arith)
+    in
     let kept = sym (argument-kept .ensures) ∙ not-false _ (if1 .left) in
     let long = ap length (loop .inv .3) ∙ marked-length _ _ _ in
     (λ t. omega (arith, within t kept, long, pre .4), omega (arith, long, pre .4, pre .3, pre .0 .instructions-most))
@@ -100,19 +121,28 @@ loop-less c = search needs
 
 loop-again : tie.Need-loop-again Inv-loop μ-loop
 loop-again c =
-    let op-at = c .before .before .before .before .before .before .before .before .op-at in
-    let arg-at = c .before .before .before .before .before .before .before .arg-at in
-    let at = c .before .before .before .before .before .before .before .before .before .at in
-    let argument-kept = c .before .before .before .before .before .before .argument-kept in
-    let loop = c .before .before .before .before .before .before .before .before .before .before .before .loop in
-    let if1 = c .before .before .before .before .before .if1 in
-    let mark = c .before .before .mark in
-    let kept = instruction-kept _ _ _ _ _ (op-at .ensures .0) (arg-at .ensures .0) (at .ensures) (argument-kept .ensures) in
+    let at-mark = c .before .before in
+    let at-if1 = at-mark .before .before .before in
+    let at-argument-kept = at-if1 .before in
+    let at-arg-at = at-argument-kept .before in
+    let at-op-at = at-arg-at .before in
+    let at-at = at-op-at .before in
+    let at-loop = at-at .before .before in
+    let op-at = at-op-at .op-at in
+    let arg-at = at-arg-at .arg-at in
+    let at = at-at .at in
+    let argument-kept = at-argument-kept .argument-kept in
+    let loop = at-loop .loop in
+    let if1 = at-if1 .if1 in
+    let mark = at-mark .mark in
+    let kept =
+    instruction-kept _ _ _ _ _ (op-at .ensures .0) (arg-at .ensures .0) (at .ensures) (argument-kept .ensures) in
     let next = marked-next _ _ _ _ _ (op-at .ensures .0) (arg-at .ensures .0) (at .ensures) _ _ (loop .inv .3) in (
       search needs,
       first-goes-on _ _ (loop .inv .1) (kept ∙ not-false _ (if1 .left)),
       owner-passed _ _ (at .ensures),
-      mark .ensures ∙ next,
+      mark .ensures
+          ∙ next,
     )
 
 same-length-2 : tie.Need-same-length-2 Inv-loop μ-loop

@@ -8,7 +8,10 @@ use Rattle.check_arguments.proofs.ranges.argument_kept.Statement.{state
 use Rattle.check_arguments.proofs.ranges.argument_kept.Tie as tie
 
 returns : tie.Need-returns
-returns c = sym (past-listed (c .before .before .args .p .now) (c .before .before .args .o .method) (c .before .before .args .a) (c .before .before .args .op) (c .if1 .taken))
+returns c =
+    sym
+    (past-listed (c .before .before .args .p .now) (c .before .before .args .o .method) (c .before .before .args .a)
+    (c .before .before .args .op) (c .if1 .taken))
 
 slot-type-requires : tie.Need-slot-type-requires
 slot-type-requires c κs = search needs
@@ -26,7 +29,14 @@ in-limits-requires : tie.Need-in-limits-requires
 in-limits-requires c κs = search needs
 
 returns-2 : tie.Need-returns-2
-returns-2 c = limits-kept (c .before .before .before .before .before .before .args .p .now) (c .before .before .before .before .before .before .args .o .method) (c .before .before .before .before .before .before .args .a) (c .before .before .before .slot-type .result) (c .before .before .before .slot-type .ensures) (c .before .before .before .before .before .before .pre .4) (c .before .before .before .before .before .before .args .limits .now) (c .before .before .before .before .before .before .args .op) (c .before .before .before .before .before .before .args .o .end - c .before .before .before .before .before .before .args .o .start) (c .before .before .before .before .before .before .pre .1) (c .before .before .before .before .if1 .left) (owner-length _ _ _ (c .before .before .before .before .before .before .pre .2)) (c .in-limits .ensures)
+returns-2 c =
+    let at-slot-type = c .before .before .before in
+    let at-if1 = at-slot-type .before in
+    let at-args = at-if1 .before .before in
+    limits-kept (at-args .args .p .now) (at-args .args .o .method) (at-args .args .a) (at-slot-type .slot-type .result)
+    (at-slot-type .slot-type .ensures) (at-args .pre .4) (at-args .args .limits .now) (at-args .args .op)
+    (at-args .args .o .end - at-args .args .o .start) (at-args .pre .1) (at-if1 .if1 .left)
+    (owner-length _ _ _ (at-args .pre .2)) (c .in-limits .ensures)
 
 pub argument-kept-spec : {M : Type 1} → statement M
 argument-kept-spec =

@@ -13,7 +13,10 @@ chosen-requires c κs = search needs
 
 returns : tie.Need-returns
 unfolding inLimits
-returns c = ap (λ (b : ℕ). (leb (c .before .args .e % 2) (c .before .args .a) && ltb (c .before .args .a) b) && leb (c .before .args .e / 2 % 2) (c .before .args .t)) (c .chosen .ensures)
+returns c =
+    ap
+    (λ (b : ℕ). (leb (c .before .args .e % 2) (c .before .args .a) && ltb (c .before .args .a) b) && leb
+    (c .before .args .e / 2 % 2) (c .before .args .t)) (c .chosen .ensures)
 
 pub in-limits-spec : {M : Type 1} → statement M
 in-limits-spec = tie.close (tie.spec chosen-requires returns)

@@ -21,10 +21,12 @@ mul-result c = omega (arith, owner-row _ _ _ (c .before .pre .1), c .before .pre
 
 shared-slice-read-result : tie.Need-shared-slice-read-result
 unfolding row
-shared-slice-read-result c = omega (arith, owner-row _ _ _ (c .before .before .pre .1), c .before .before .pre .0 .words)
+shared-slice-read-result c =
+    omega (arith, owner-row _ _ _ (c .before .before .pre .1), c .before .before .pre .0 .words)
 
 cast-result : tie.Need-cast-result
-cast-result c = omega (arith, c .shared-slice-known .given (c .before .before .args .o .row + 2 + c .before .before .args .a % 16))
+cast-result c =
+    omega (arith, c .shared-slice-known .given (c .before .before .args .o .row + 2 + c .before .before .args .a % 16))
 
 returns : tie.Need-returns
 unfolding slotType word

@@ -9,21 +9,31 @@ readiness-of-requires c κs = search needs
 
 returns : tie.Need-returns
 returns c =
-    let args = c .before .before .before .before .before .args in
-    no-offer (args .p .now) (args .work .now) (args .t .now) (args .n .0) (c .before .before .readiness-of .ensures) (c .if1 .taken)
+    let at-readiness-of = c .before .before in
+    let args = at-readiness-of .before .before .before .args in
+    no-offer (args .p .now) (args .work .now) (args .t .now) (args .n .0) (at-readiness-of .readiness-of .ensures)
+    (c .if1 .taken)
 
 is-moved-requires : tie.Need-is-moved-requires
 is-moved-requires c κs = search needs
 
 returns-2 : tie.Need-returns-2
 returns-2 c =
-    let args = c .before .before .before .before .before .before .before .args in
-    met (args .p .now) (args .work .now) (args .t .now) (args .n .0) (c .before .before .before .before .readiness-of .ensures) (c .before .before .if1 .left) (c .before .is-moved .ensures) (c .if2 .taken)
+    let at-is-moved = c .before in
+    let at-if1 = at-is-moved .before in
+    let at-readiness-of = at-if1 .before .before in
+    let args = at-readiness-of .before .before .before .args in
+    met (args .p .now) (args .work .now) (args .t .now) (args .n .0) (at-readiness-of .readiness-of .ensures)
+    (at-if1 .if1 .left) (at-is-moved .is-moved .ensures) (c .if2 .taken)
 
 returns-3 : tie.Need-returns-3
 returns-3 c =
-    let args = c .before .before .before .before .before .before .before .args in
-    unmet (args .p .now) (args .work .now) (args .t .now) (args .n .0) (c .before .before .before .before .readiness-of .ensures) (c .before .before .if1 .left) (c .before .is-moved .ensures) (c .if2 .left)
+    let at-is-moved = c .before in
+    let at-if1 = at-is-moved .before in
+    let at-readiness-of = at-if1 .before .before in
+    let args = at-readiness-of .before .before .before .args in
+    unmet (args .p .now) (args .work .now) (args .t .now) (args .n .0) (at-readiness-of .readiness-of .ensures)
+    (at-if1 .if1 .left) (at-is-moved .is-moved .ensures) (c .if2 .left)
 
 pub ability-spec : {M : Type 1} → statement M
 ability-spec =

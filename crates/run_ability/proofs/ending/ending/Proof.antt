@@ -26,8 +26,12 @@ ability-requires c κs = search needs
 
 returns : tie.Need-returns Inv-loop μ-loop
 returns c =
-    let args = c .before .before .before .before .before .before .args in
-    goes-on (args .p .now) (args .work .now) (args .t .now) 8 (c .before .before .before .loop .j) (c .before .before .loop-test .taken) (c .before .ability .ensures) (c .if1 .taken)
+    let at-ability = c .before in
+    let at-loop-test = at-ability .before in
+    let at-loop = at-loop-test .before in
+    let args = at-loop .before .before .before .args in
+    goes-on (args .p .now) (args .work .now) (args .t .now) 8 (at-loop .loop .j) (at-loop-test .loop-test .taken)
+    (at-ability .ability .ensures) (c .if1 .taken)
 
 add-j : tie.Need-add-j Inv-loop μ-loop
 add-j c = search needs
@@ -37,14 +41,24 @@ loop-less c = search needs
 
 loop-again : tie.Need-loop-again Inv-loop μ-loop
 loop-again c =
-    let args = c .before .before .before .before .before .before .before .args in
-    let loop = c .before .before .before .before .loop in
-    let e = c .before .before .ability .ensures in (
+    let at-if1 = c .before in
+    let at-ability = at-if1 .before in
+    let at-loop = at-ability .before .before in
+    let args = at-loop .before .before .before .args in
+    let loop = at-loop .loop in
+    let e = at-ability .ability .ensures in (
       search needs,
-      not-one (args .p .now) (args .work .now) (args .t .now) 1 (loop .j) e (c .before .if1 .left) ∙ loop .inv .1,
+      not-one (args .p .now) (args .work .now) (args .t .now) 1 (loop .j) e (at-if1 .if1 .left)
+          ∙ loop .inv .1,
       ⊎-elim
-          (λ w. w .1 ∙ sym (ap (λ (b : Bool). cond b 2 1) (one-more (args .p .now) (args .work .now) (args .t .now) 2 (loop .j) e (w .0 .taken))))
-          (λ w. w .1 ∙ loop .inv .2 ∙ sym (ap (λ (b : Bool). cond b 2 1) (not-one (args .p .now) (args .work .now) (args .t .now) 2 (loop .j) e (w .0 .left))))
+          (λ w. w .1 ∙ sym
+          (ap (λ (b : Bool). cond b 2 1)
+          (one-more (args .p .now) (args .work .now) (args .t .now) 2 (loop .j) e (w .0 .taken))))
+          (λ w. w .1
+          ∙ loop .inv .2
+          ∙ sym
+          (ap (λ (b : Bool). cond b 2 1)
+          (not-one (args .p .now) (args .work .now) (args .t .now) 2 (loop .j) e (w .0 .left))))
           (c .if2 .came),
     )
 

@@ -12,14 +12,20 @@ meeting-requires c κs = search needs
 
 returns : tie.Need-returns
 unfolding pairedOf
-returns c = took _ _ _ refl (eq-eqb (c .before .before .before .args .a .kind) 2 (c .before .if1 .taken)) (c .meeting .ensures)
+returns c =
+    let at-if1 = c .before in
+    let args = at-if1 .before .before .args in
+    took _ _ _ refl (eq-eqb (args .a .kind) 2 (at-if1 .if1 .taken)) (c .meeting .ensures)
 
 meeting-requires-2 : tie.Need-meeting-requires-2
 meeting-requires-2 c κs = search needs
 
 returns-2 : tie.Need-returns-2
 unfolding pairedOf
-returns-2 c = passed-by _ _ _ refl (ne-eqb (c .before .before .before .args .a .kind) 2 (c .before .if1 .left)) (c .meeting2 .ensures)
+returns-2 c =
+    let at-if1 = c .before in
+    let args = at-if1 .before .before .args in
+    passed-by _ _ _ refl (ne-eqb (args .a .kind) 2 (at-if1 .if1 .left)) (c .meeting2 .ensures)
 
 pub pair-of-spec : {M : Type 1} → statement M
 pair-of-spec = tie.close (tie.spec meeting-requires returns meeting-requires-2 returns-2)

@@ -11,7 +11,12 @@ no-meeting-requires : tie.Need-no-meeting-requires
 no-meeting-requires c κs = search needs
 
 returns : tie.Need-returns
-returns c = pairs-none (c .before .before .before .before .before .before .args .p .now) (c .before .before .before .before .before .before .args .work .now) (c .before .before .before .before .before .before .args .t .now) (c .before .before .before .before .before .before .args .n .0) (c .before .before .before .before .before .before .args .code) (c .before .before .before .offer-of .ensures) (c .before .if1 .taken) (c .no-meeting .ensures)
+returns c =
+    let at-if1 = c .before in
+    let at-offer-of = at-if1 .before .before in
+    let args = at-offer-of .before .before .before .args in
+    pairs-none (args .p .now) (args .work .now) (args .t .now) (args .n .0) (args .code)
+    (at-offer-of .offer-of .ensures) (at-if1 .if1 .taken) (c .no-meeting .ensures)
 
 opposite-requires : tie.Need-opposite-requires
 opposite-requires c κs = search needs
@@ -23,7 +28,15 @@ pair-with-requires : tie.Need-pair-with-requires
 pair-with-requires c κs = search needs
 
 returns-2 : tie.Need-returns-2
-returns-2 c = pairs-asked (c .before .before .before .before .before .before .before .before .args .p .now) (c .before .before .before .before .before .before .before .before .args .work .now) (c .before .before .before .before .before .before .before .before .args .t .now) (c .before .before .before .before .before .before .before .before .args .n .0) (c .before .before .before .before .before .before .before .before .args .code) (c .before .before .before .before .before .offer-of .ensures) (c .before .before .before .if1 .left) (c .before .before .opposite .ensures .0) (c .before .before .opposite .ensures .1) (c .before .holder-of .ensures) (c .pair-with .ensures)
+returns-2 c =
+    let at-holder-of = c .before in
+    let at-opposite = at-holder-of .before in
+    let at-if1 = at-opposite .before in
+    let at-offer-of = at-if1 .before .before in
+    let args = at-offer-of .before .before .before .args in
+    pairs-asked (args .p .now) (args .work .now) (args .t .now) (args .n .0) (args .code)
+    (at-offer-of .offer-of .ensures) (at-if1 .if1 .left) (at-opposite .opposite .ensures .0)
+    (at-opposite .opposite .ensures .1) (at-holder-of .holder-of .ensures) (c .pair-with .ensures)
 
 pub pair-up-spec : {M : Type 1} → statement M
 pair-up-spec =

@@ -1,19 +1,13 @@
 -- `alone_of` looks at the part that it lends.
 use mathlib.Core.Path.{_∙_, ap}
-use Rattle.run_parts.proofs.Lifted.{part-read}
+use Rattle.run_parts.proofs.Lifted.{part-lent}
 use Rattle.run_parts.specs.ReadinessCode.{offersNothing}
 use borrow.Author.Needs.{needs}
 use Rattle.run_ability.proofs.reads.alone_of.Statement.{statement}
 use Rattle.run_ability.proofs.reads.alone_of.Tie as tie
 
-cast-from : tie.Need-cast-from
-cast-from c = search needs
-
-mul-from : tie.Need-mul-from
-mul-from c = search needs
-
-add-from : tie.Need-add-from
-add-from c = search needs
+part-at-requires : tie.Need-part-at-requires
+part-at-requires c κs = search needs
 
 add-to : tie.Need-add-to
 add-to c = search needs
@@ -34,15 +28,17 @@ offers-nothing-requires : tie.Need-offers-nothing-requires
 offers-nothing-requires c κs = search needs
 
 returns : tie.Need-returns
-returns c = c .offers-nothing .ensures ∙ ap (offersNothing (c .before .before .before .before .before .args .p .now)) (part-read (c .before .before .before .before .before .args .work .now) (c .before .before .before .before .before .args .n .0))
+returns c =
+    let at-part-at = c .before .before in
+    let args = at-part-at .before .before .before .args in
+    c .offers-nothing .ensures
+    ∙ ap (offersNothing (args .p .now)) (part-lent (args .work .now) (args .n .0) (at-part-at .part-at .ensures))
 
 pub alone-of-spec : {M : Type 1} → statement M
 alone-of-spec =
     tie.close
     (tie.spec
-    cast-from
-    mul-from
-    add-from
+    part-at-requires
     add-to
     mul-offers-nothing
     sub-offers-nothing

@@ -17,11 +17,17 @@ mul-word-at c = search needs
 
 add-word-at : tie.Need-add-word-at
 unfolding methods word
-add-word-at c = omega (arith, c .before .before .before .before .pre, c .before .before .before .shared-slice-known .given 0)
+add-word-at c =
+    let at-shared-slice-known = c .before .before .before in
+    let at-pre = at-shared-slice-known .before in
+    omega (arith, at-pre .pre, at-shared-slice-known .shared-slice-known .given 0)
 
 add-word-at-2 : tie.Need-add-word-at-2
 unfolding methods word
-add-word-at-2 c = omega (arith, c .before .before .before .before .pre, c .before .before .before .shared-slice-known .given 0)
+add-word-at-2 c =
+    let at-shared-slice-known = c .before .before .before in
+    let at-pre = at-shared-slice-known .before in
+    omega (arith, at-pre .pre, at-shared-slice-known .shared-slice-known .given 0)
 
 word-at-requires : tie.Need-word-at-requires
 word-at-requires c κs = search needs
@@ -31,8 +37,10 @@ cast-result c = search needs
 
 returns : tie.Need-returns
 returns c =
-    let args = c .before .before .before .before .before .args in
-    argument-read (args .p .now) (args .w .now) (args .start) (c .before .before .read-head .ensures) (c .before .before .before .before .before .pre) (c .word-at .ensures .0)
+    let at-read-head = c .before .before in
+    let at-args = at-read-head .before .before .before in
+    argument-read (at-args .args .p .now) (at-args .args .w .now) (at-args .args .start)
+    (at-read-head .read-head .ensures) (at-args .pre) (c .word-at .ensures .0)
 
 pub argument-spec : {M : Type 1} → statement M
 argument-spec =

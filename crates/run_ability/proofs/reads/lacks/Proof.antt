@@ -20,9 +20,12 @@ any-empty-requires c κs = search needs
 returns : tie.Need-returns
 unfolding emptyIn
 returns c =
-    let args = c .before .before .before .before .args in
+    let at-top = c .before in
+    let at-read-head = at-top .before in
+    let args = at-read-head .before .before .args in
     c .any-empty .ensures
-    ∙ ap (λ (i : ℕ). emptyDown (args .w .now) i (args .args)) (c .before .top .ensures ∙ ap (λ (h : Head). topAt h 1) (c .before .before .read-head .ensures))
+    ∙ ap (λ (i : ℕ). emptyDown (args .w .now) i (args .args))
+    (at-top .top .ensures ∙ ap (λ (h : Head). topAt h 1) (at-read-head .read-head .ensures))
 
 pub lacks-spec : {M : Type 1} → statement M
 lacks-spec = tie.close (tie.spec read-head-requires top-requires any-empty-requires returns)

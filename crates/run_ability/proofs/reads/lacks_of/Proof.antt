@@ -2,20 +2,14 @@
 use Prim.Native.Nat.{ℕ}
 use mathlib.Core.Path.{_∙_, ap}
 use mathlib.Core.List.{List}
-use Rattle.run_parts.proofs.Lifted.{part-read}
+use Rattle.run_parts.proofs.Lifted.{part-lent}
 use Rattle.run_ability.specs.ReadsCode.{emptyIn}
 use borrow.Author.Needs.{needs}
 use Rattle.run_ability.proofs.reads.lacks_of.Statement.{statement}
 use Rattle.run_ability.proofs.reads.lacks_of.Tie as tie
 
-cast-from : tie.Need-cast-from
-cast-from c = search needs
-
-mul-from : tie.Need-mul-from
-mul-from c = search needs
-
-add-from : tie.Need-add-from
-add-from c = search needs
+part-at-requires : tie.Need-part-at-requires
+part-at-requires c κs = search needs
 
 add-to : tie.Need-add-to
 add-to c = search needs
@@ -37,16 +31,17 @@ lacks-requires c κs = search needs
 
 returns : tie.Need-returns
 returns c =
-    let args = c .before .before .before .before .args in
-    c .lacks .ensures ∙ ap (λ (w : List ℕ). emptyIn w (args .args)) (part-read (args .work .now) (args .n .0))
+    let at-part-at = c .before .before in
+    let args = at-part-at .before .before .args in
+    c .lacks .ensures
+    ∙ ap (λ (w : List ℕ). emptyIn w (args .args))
+    (part-lent (args .work .now) (args .n .0) (at-part-at .part-at .ensures))
 
 pub lacks-of-spec : {M : Type 1} → statement M
 lacks-of-spec =
     tie.close
     (tie.spec
-    cast-from
-    mul-from
-    add-from
+    part-at-requires
     add-to
     mul-lacks
     sub-lacks

@@ -2,20 +2,14 @@
 use mathlib.Core.Path.{_∙_, ap}
 use mathlib.Core.List.{List}
 use Prim.Native.Nat.{ℕ}
-use Rattle.run_parts.proofs.Lifted.{part-read}
+use Rattle.run_parts.proofs.Lifted.{part-lent}
 use Rattle.run_parts.specs.ReadinessCode.{offerOf}
 use borrow.Author.Needs.{needs}
 use Rattle.run_ability.proofs.reads.offer_of.Statement.{statement}
 use Rattle.run_ability.proofs.reads.offer_of.Tie as tie
 
-cast-from : tie.Need-cast-from
-cast-from c = search needs
-
-mul-from : tie.Need-mul-from
-mul-from c = search needs
-
-add-from : tie.Need-add-from
-add-from c = search needs
+part-at-requires : tie.Need-part-at-requires
+part-at-requires c κs = search needs
 
 add-to : tie.Need-add-to
 add-to c = search needs
@@ -36,15 +30,18 @@ read-offer-requires : tie.Need-read-offer-requires
 read-offer-requires c κs = search needs
 
 returns : tie.Need-returns
-returns c = c .read-offer .ensures ∙ ap (λ (w : List ℕ). offerOf w (c .before .before .before .before .args .code)) (part-read (c .before .before .before .before .args .work .now) (c .before .before .before .before .args .n .0))
+returns c =
+    let at-part-at = c .before .before in
+    let args = at-part-at .before .before .args in
+    c .read-offer .ensures
+    ∙ ap (λ (w : List ℕ). offerOf w (args .code))
+    (part-lent (args .work .now) (args .n .0) (at-part-at .part-at .ensures))
 
 pub offer-of-spec : {M : Type 1} → statement M
 offer-of-spec =
     tie.close
     (tie.spec
-    cast-from
-    mul-from
-    add-from
+    part-at-requires
     add-to
     mul-read-offer
     sub-read-offer

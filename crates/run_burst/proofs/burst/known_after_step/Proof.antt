@@ -5,16 +5,26 @@ use Rattle.run_burst.proofs.burst.known_after_step.Statement.{statement
 use Rattle.run_burst.proofs.burst.known_after_step.Tie as tie
 
 returns : tie.Need-returns
-returns c = knew-nothing (c .before .before .before .before .args .p .now) (c .before .before .before .before .args .work .now) (c .before .before .before .before .args .n) (c .before .before .before .before .args .known) (c .before .before .before .before .args .code) (c .if1 .taken)
+returns c =
+    let args = c .before .before .before .before .args in
+    knew-nothing (args .p .now) (args .work .now) (args .n) (args .known) (args .code) (c .if1 .taken)
 
 returns-2 : tie.Need-returns-2
-returns-2 c = no-step (c .before .before .before .before .before .args .p .now) (c .before .before .before .before .before .args .work .now) (c .before .before .before .before .before .args .n) (c .before .before .before .before .before .args .known) (c .before .before .before .before .before .args .code) (c .before .if1 .left) (c .if2 .taken)
+returns-2 c =
+    let at-if1 = c .before in
+    let args = at-if1 .before .before .before .before .args in
+    no-step (args .p .now) (args .work .now) (args .n) (args .known) (args .code) (at-if1 .if1 .left) (c .if2 .taken)
 
 moves-alone-requires : tie.Need-moves-alone-requires
 moves-alone-requires c κs = search needs
 
 returns-3 : tie.Need-returns-3
-returns-3 c = looked-at (c .before .before .before .before .before .before .args .p .now) (c .before .before .before .before .before .before .args .work .now) (c .before .before .before .before .before .before .args .n) (c .before .before .before .before .before .before .args .known) (c .before .before .before .before .before .before .args .code) (c .before .before .if1 .left) (c .before .if2 .left) (c .moves-alone .ensures)
+returns-3 c =
+    let at-if2 = c .before in
+    let at-if1 = at-if2 .before in
+    let args = at-if1 .before .before .before .before .args in
+    looked-at (args .p .now) (args .work .now) (args .n) (args .known) (args .code) (at-if1 .if1 .left)
+    (at-if2 .if2 .left) (c .moves-alone .ensures)
 
 pub known-after-step-spec : {M : Type 1} → statement M
 known-after-step-spec = tie.close (tie.spec returns returns-2 moves-alone-requires returns-3)

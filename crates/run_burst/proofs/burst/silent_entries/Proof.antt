@@ -12,7 +12,9 @@ use Rattle.run_burst.proofs.burst.silent_entries.Tie as tie
 abbrev Inv-loop : tie.InvT-loop
 Inv-loop p start work₀ t schedule from k₀ sure₀ work k sure =
     (from ≤ k) × (k ≤ length schedule)
-    × (burstOp p t schedule work₀ from sure₀ (length schedule - from) ≡ burstOp p t schedule work k sure (length schedule - k))
+    ×
+    (burstOp p t schedule work₀ from sure₀ (length schedule - from) ≡ burstOp p t schedule work k sure
+    (length schedule - k))
     × (length work ≡ length work₀)
 
 abbrev μ-loop : tie.MeasureT-loop
@@ -43,7 +45,20 @@ same-length : tie.Need-same-length Inv-loop μ-loop
 same-length c = search needs
 
 returns : tie.Need-returns Inv-loop μ-loop
-returns c = burst-stops (c .before .before .before .before .before .before .before .before .before .before .before .before .before .before .before .before .before .args .p .now) (c .before .before .before .before .before .before .before .before .before .before .before .before .before .before .before .before .before .args .t .now) (c .before .before .before .before .before .before .before .before .before .before .before .before .before .before .before .before .before .args .schedule .now) (c .before .before .before .before .before .before .before .before .before .before .before .before .before .loop .work) (c .before .before .before .before .before .before .before .before .before .before .before .before .before .loop .k) (c .before .before .before .before .before .before .before .before .before .before .before .before .before .loop .sure) (c .before .before .before .before .before .before .before .before .before .before .before .before .loop-test .taken) (c .before .before .before .before .before .before .before .before .before .step-named .ensures) (c .before .before .before .before .before .before .is-done .ensures) (c .before .before .before .before .before .if1 .left) (c .before .before .before .offer-at .ensures) (c .before .stops-here .ensures) (c .if2 .taken) ∙ sym (c .before .before .before .before .before .before .before .before .before .before .before .before .before .loop .inv .2)
+returns c =
+    let at-stops-here = c .before in
+    let at-offer-at = at-stops-here .before .before in
+    let at-if1 = at-offer-at .before .before in
+    let at-is-done = at-if1 .before in
+    let at-step-named = at-is-done .before .before .before in
+    let at-loop-test = at-step-named .before .before .before in
+    let at-loop = at-loop-test .before in
+    let args = at-loop .before .before .before .before .args in
+    burst-stops (args .p .now) (args .t .now) (args .schedule .now) (at-loop .loop .work) (at-loop .loop .k)
+    (at-loop .loop .sure) (at-loop-test .loop-test .taken) (at-step-named .step-named .ensures)
+    (at-is-done .is-done .ensures) (at-if1 .if1 .left) (at-offer-at .offer-at .ensures)
+    (at-stops-here .stops-here .ensures) (c .if2 .taken)
+    ∙ sym (at-loop .loop .inv .2)
 
 with-idle-requires : tie.Need-with-idle-requires Inv-loop μ-loop
 with-idle-requires c κs = search needs
@@ -55,16 +70,26 @@ loop-less : tie.Need-loop-less Inv-loop μ-loop
 loop-less c = search needs
 
 loop-again : tie.Need-loop-again Inv-loop μ-loop
-loop-again c = (
-  search needs,
-  search needs,
-  c .before .before .before .before .before .before .before .before .loop .inv .2
-      ∙ ⊎-elim
-      (λ w. burst-goes (c .before .before .before .before .before .before .before .before .before .before .before .before .args .p .now) (c .before .before .before .before .before .before .before .before .before .before .before .before .args .t .now) (c .before .before .before .before .before .before .before .before .before .before .before .before .args .schedule .now) (c .before .before .before .before .before .before .before .before .loop .work) (c .before .before .before .before .before .before .before .before .loop .k) (c .before .before .before .before .before .before .before .before .loop .sure) (c .before .before .before .before .before .before .before .loop-test .taken) (c .before .before .before .before .step-named .ensures) (c .before .is-done .ensures) (w .0 .taken) (w .3 ∙ w .2 .ensures))
-      (λ w. burst-waits (c .before .before .before .before .before .before .before .before .before .before .before .before .args .p .now) (c .before .before .before .before .before .before .before .before .before .before .before .before .args .t .now) (c .before .before .before .before .before .before .before .before .before .before .before .before .args .schedule .now) (c .before .before .before .before .before .before .before .before .loop .work) (c .before .before .before .before .before .before .before .before .loop .k) (c .before .before .before .before .before .before .before .before .loop .sure) (c .before .before .before .before .before .before .before .loop-test .taken) (c .before .before .before .before .step-named .ensures) (c .before .is-done .ensures) (w .0 .left) (w .2 .ensures) (w .4 .ensures) (w .5 .left) (w .7 ∙ w .6 .ensures))
-      (c .if1 .came),
-  c .before .before .before .before .step-named .kept .1 .1 .0 ∙ c .before .before .before .before .before .before .before .before .loop .inv .3,
-)
+loop-again c =
+    let at-is-done = c .before in
+    let at-step-named = at-is-done .before .before .before in
+    let at-loop-test = at-step-named .before .before .before in
+    let at-loop = at-loop-test .before in
+    let args = at-loop .before .before .before .before .args in (
+      search needs,
+      search needs,
+      at-loop .loop .inv .2
+          ∙ ⊎-elim
+          (λ w. burst-goes (args .p .now) (args .t .now) (args .schedule .now) (at-loop .loop .work) (at-loop .loop .k)
+          (at-loop .loop .sure) (at-loop-test .loop-test .taken) (at-step-named .step-named .ensures)
+          (at-is-done .is-done .ensures) (w .0 .taken) (w .3 ∙ w .2 .ensures))
+          (λ w. burst-waits (args .p .now) (args .t .now) (args .schedule .now) (at-loop .loop .work) (at-loop .loop .k)
+          (at-loop .loop .sure) (at-loop-test .loop-test .taken) (at-step-named .step-named .ensures)
+          (at-is-done .is-done .ensures) (w .0 .left) (w .2 .ensures) (w .4 .ensures) (w .5 .left) (w .7 ∙ w .6 .ensures))
+          (c .if1 .came),
+      at-step-named .step-named .kept .1 .1 .0
+          ∙ at-loop .loop .inv .3,
+    )
 
 no-meeting-requires : tie.Need-no-meeting-requires Inv-loop μ-loop
 no-meeting-requires c κs = search needs
@@ -73,7 +98,13 @@ same-length-2 : tie.Need-same-length-2 Inv-loop μ-loop
 same-length-2 c = search needs
 
 returns-2 : tie.Need-returns-2 Inv-loop μ-loop
-returns-2 c = burst-ends (c .before .before .before .before .before .before .args .p .now) (c .before .before .before .before .before .before .args .t .now) (c .before .before .before .before .before .before .args .schedule .now) (c .before .before .loop .work) (c .before .before .loop .k) (c .before .before .loop .sure) (c .before .loop-test .left) (c .no-meeting .ensures) ∙ sym (c .before .before .loop .inv .2)
+returns-2 c =
+    let at-loop-test = c .before in
+    let at-loop = at-loop-test .before in
+    let args = at-loop .before .before .before .before .args in
+    burst-ends (args .p .now) (args .t .now) (args .schedule .now) (at-loop .loop .work) (at-loop .loop .k)
+    (at-loop .loop .sure) (at-loop-test .loop-test .left) (c .no-meeting .ensures)
+    ∙ sym (at-loop .loop .inv .2)
 
 pub silent-entries-spec : {M : Type 1} → statement M
 silent-entries-spec =

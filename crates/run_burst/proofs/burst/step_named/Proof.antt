@@ -14,8 +14,11 @@ is-idle-requires c κs = search needs
 
 returns-2 : tie.Need-returns-2
 returns-2 c =
-    let args = c .before .before .before .before .before .args in
-    named-idle (args .p .now) (args .work .now) (args .n) (args .known) (c .before .before .if1 .left) (c .before .is-idle .ensures) (c .if2 .taken)
+    let at-is-idle = c .before in
+    let at-if1 = at-is-idle .before in
+    let args = at-if1 .before .before .before .args in
+    named-idle (args .p .now) (args .work .now) (args .n) (args .known) (at-if1 .if1 .left)
+    (at-is-idle .is-idle .ensures) (c .if2 .taken)
 
 step-process-requires : tie.Need-step-process-requires
 step-process-requires c κs = search needs
@@ -25,8 +28,13 @@ same-length c = search needs
 
 returns-3 : tie.Need-returns-3
 returns-3 c =
-    let args = c .before .before .before .before .before .before .before .before .before .args in
-    named-steps (args .p .now) (args .work .now) (args .n) (args .known) (c .before .before .before .before .before .before .if1 .left) (c .before .before .before .before .before .is-idle .ensures) (c .before .before .before .before .if2 .left) (c .before .before .step-process .ensures)
+    let at-step-process = c .before .before in
+    let at-if2 = at-step-process .before .before in
+    let at-is-idle = at-if2 .before in
+    let at-if1 = at-is-idle .before in
+    let args = at-if1 .before .before .before .args in
+    named-steps (args .p .now) (args .work .now) (args .n) (args .known) (at-if1 .if1 .left)
+    (at-is-idle .is-idle .ensures) (at-if2 .if2 .left) (at-step-process .step-process .ensures)
 
 pub step-named-spec : {M : Type 1} → statement M
 step-named-spec = tie.close (tie.spec returns is-idle-requires returns-2 step-process-requires same-length returns-3)

@@ -5,10 +5,17 @@ use Rattle.run_burst.proofs.burst.stops_here.Statement.{statement}
 use Rattle.run_burst.proofs.burst.stops_here.Tie as tie
 
 returns : tie.Need-returns
-returns c = stops-moving (c .before .before .before .before .before .args .p .now) (c .before .before .before .before .before .args .work .now) (c .before .before .before .before .before .args .schedule .now) (c .before .before .before .before .before .args .k) (c .before .before .before .before .before .args .known) (c .before .before .before .before .before .args .m) (c .if1 .taken)
+returns c =
+    let args = c .before .before .before .before .before .args in
+    stops-moving (args .p .now) (args .work .now) (args .schedule .now) (args .k) (args .known) (args .m)
+    (c .if1 .taken)
 
 returns-2 : tie.Need-returns-2
-returns-2 c = goes-known (c .before .before .before .before .before .before .args .p .now) (c .before .before .before .before .before .before .args .work .now) (c .before .before .before .before .before .before .args .schedule .now) (c .before .before .before .before .before .before .args .k) (c .before .before .before .before .before .before .args .known) (c .before .before .before .before .before .before .args .m) (c .before .if1 .left) (c .if2 .taken)
+returns-2 c =
+    let at-if1 = c .before in
+    let args = at-if1 .before .before .before .before .before .args in
+    goes-known (args .p .now) (args .work .now) (args .schedule .now) (args .k) (args .known) (args .m)
+    (at-if1 .if1 .left) (c .if2 .taken)
 
 named-before-requires : tie.Need-named-before-requires
 named-before-requires c κs = search needs
@@ -17,7 +24,13 @@ moves-alone-requires : tie.Need-moves-alone-requires
 moves-alone-requires c κs = search needs
 
 returns-3 : tie.Need-returns-3
-returns-3 c = goes-seen (c .before .before .before .before .before .before .before .before .args .p .now) (c .before .before .before .before .before .before .before .before .args .work .now) (c .before .before .before .before .before .before .before .before .args .schedule .now) (c .before .before .before .before .before .before .before .before .args .k) (c .before .before .before .before .before .before .before .before .args .known) (c .before .before .before .before .before .before .before .before .args .m) (c .before .before .before .if1 .left) (c .before .before .if2 .left) (c .before .named-before .ensures) (c .moves-alone .ensures)
+returns-3 c =
+    let at-named-before = c .before in
+    let at-if2 = at-named-before .before in
+    let at-if1 = at-if2 .before in
+    let args = at-if1 .before .before .before .before .before .args in
+    goes-seen (args .p .now) (args .work .now) (args .schedule .now) (args .k) (args .known) (args .m)
+    (at-if1 .if1 .left) (at-if2 .if2 .left) (at-named-before .named-before .ensures) (c .moves-alone .ensures)
 
 pub stops-here-spec : {M : Type 1} → statement M
 stops-here-spec =

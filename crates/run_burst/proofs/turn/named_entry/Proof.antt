@@ -8,7 +8,11 @@ idle-requires : tie.Need-idle-requires
 idle-requires c κs = search needs
 
 returns : tie.Need-returns
-returns c = names-none (c .before .before .before .before .before .before .args .p .now) (c .before .before .before .before .before .before .args .outcomes .now) (c .before .before .before .before .before .before .args .trace .now) (c .before .before .before .before .before .before .args .work .now) (c .before .before .before .before .before .before .args .room) (c .before .before .before .before .before .before .args .g) (c .before .before .before .before .before .before .args .n) (c .before .before .before .before .before .before .args .code) (c .before .before .before .before .before .before .args .m) (c .before .if1 .taken) (c .idle .ensures)
+returns c =
+    let at-if1 = c .before in
+    let args = at-if1 .before .before .before .before .before .args in
+    names-none (args .p .now) (args .outcomes .now) (args .trace .now) (args .work .now) (args .room) (args .g)
+    (args .n) (args .code) (args .m) (at-if1 .if1 .taken) (c .idle .ensures)
 
 entry-requires : tie.Need-entry-requires
 entry-requires c κs = search needs
@@ -20,7 +24,12 @@ same-length-2 : tie.Need-same-length-2
 same-length-2 c = search needs
 
 returns-2 : tie.Need-returns-2
-returns-2 c = names-one (c .before .before .before .before .before .before .before .before .before .before .before .before .args .p .now) (c .before .before .before .before .before .before .before .before .before .before .before .before .args .outcomes .now) (c .before .before .before .before .before .before .before .before .before .before .before .before .args .trace .now) (c .before .before .before .before .before .before .before .before .before .before .before .before .args .work .now) (c .before .before .before .before .before .before .before .before .before .before .before .before .args .room) (c .before .before .before .before .before .before .before .before .before .before .before .before .args .g) (c .before .before .before .before .before .before .before .before .before .before .before .before .args .n) (c .before .before .before .before .before .before .before .before .before .before .before .before .args .code) (c .before .before .before .before .before .before .before .before .before .before .before .before .args .m) (c .before .before .before .before .before .before .before .if1 .left) (c .before .before .before .before .entry .ensures)
+returns-2 c =
+    let at-entry = c .before .before .before .before in
+    let at-if1 = at-entry .before .before .before in
+    let args = at-if1 .before .before .before .before .before .args in
+    names-one (args .p .now) (args .outcomes .now) (args .trace .now) (args .work .now) (args .room) (args .g) (args .n)
+    (args .code) (args .m) (at-if1 .if1 .left) (at-entry .entry .ensures)
 
 pub named-entry-spec : {M : Type 1} → statement M
 named-entry-spec =

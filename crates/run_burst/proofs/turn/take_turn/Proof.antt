@@ -17,7 +17,13 @@ same-length-2 : tie.Need-same-length-2
 same-length-2 c = search needs
 
 returns : tie.Need-returns
-returns c = turn-full (c .before .before .before .before .before .before .before .before .before .before .before .before .before .before .args .p .now) (c .before .before .before .before .before .before .before .before .before .before .before .before .before .before .args .outcomes .now) (c .before .before .before .before .before .before .before .before .before .before .before .before .before .before .args .trace .now) (c .before .before .before .before .before .before .before .before .before .before .before .before .before .before .args .work .now) (c .before .before .before .before .before .before .before .before .before .before .before .before .before .before .args .room) (c .before .before .before .before .before .before .before .before .before .before .before .before .before .before .args .t .now) (c .before .before .before .before .before .before .before .before .before .before .before .before .before .before .args .g) (c .before .before .before .before .before .before .before .before .before .before .before .before .before .before .args .n) (c .before .before .before .before .before .before .before .before .before .before .before .before .before .before .args .code) (c .before .before .before .before .before .before .before .before .before .before .before .before .before .before .args .offer) (c .before .before .before .before .before .before .before .before .before .before .before .before .before .before .args .known) (c .before .before .before .before .before .before .before .named-entry .ensures) (c .before .if1 .taken) (c .nothing-known .ensures)
+returns c =
+    let at-if1 = c .before in
+    let at-named-entry = at-if1 .before .before .before .before .before .before in
+    let args = at-named-entry .before .before .before .before .before .before .before .args in
+    turn-full (args .p .now) (args .outcomes .now) (args .trace .now) (args .work .now) (args .room) (args .t .now)
+    (args .g) (args .n) (args .code) (args .offer) (args .known) (at-named-entry .named-entry .ensures)
+    (at-if1 .if1 .taken) (c .nothing-known .ensures)
 
 known-after-entry-requires : tie.Need-known-after-entry-requires
 known-after-entry-requires c κs = search needs
@@ -29,7 +35,14 @@ same-length-4 : tie.Need-same-length-4
 same-length-4 c = search needs
 
 returns-2 : tie.Need-returns-2
-returns-2 c = turn-moves (c .before .before .before .before .before .before .before .before .before .before .before .before .before .before .before .before .before .args .p .now) (c .before .before .before .before .before .before .before .before .before .before .before .before .before .before .before .before .before .args .outcomes .now) (c .before .before .before .before .before .before .before .before .before .before .before .before .before .before .before .before .before .args .trace .now) (c .before .before .before .before .before .before .before .before .before .before .before .before .before .before .before .before .before .args .work .now) (c .before .before .before .before .before .before .before .before .before .before .before .before .before .before .before .before .before .args .room) (c .before .before .before .before .before .before .before .before .before .before .before .before .before .before .before .before .before .args .t .now) (c .before .before .before .before .before .before .before .before .before .before .before .before .before .before .before .before .before .args .g) (c .before .before .before .before .before .before .before .before .before .before .before .before .before .before .before .before .before .args .n) (c .before .before .before .before .before .before .before .before .before .before .before .before .before .before .before .before .before .args .code) (c .before .before .before .before .before .before .before .before .before .before .before .before .before .before .before .before .before .args .offer) (c .before .before .before .before .before .before .before .before .before .before .before .before .before .before .before .before .before .args .known) (c .before .before .before .before .before .before .before .before .before .before .named-entry .ensures) (c .before .before .before .before .if1 .left) (c .before .before .if2 .taken) (c .known-after-entry .ensures)
+returns-2 c =
+    let at-if2 = c .before .before in
+    let at-if1 = at-if2 .before .before in
+    let at-named-entry = at-if1 .before .before .before .before .before .before in
+    let args = at-named-entry .before .before .before .before .before .before .before .args in
+    turn-moves (args .p .now) (args .outcomes .now) (args .trace .now) (args .work .now) (args .room) (args .t .now)
+    (args .g) (args .n) (args .code) (args .offer) (args .known) (at-named-entry .named-entry .ensures)
+    (at-if1 .if1 .left) (at-if2 .if2 .taken) (c .known-after-entry .ensures)
 
 ending-requires : tie.Need-ending-requires
 ending-requires c κs = search needs
@@ -44,7 +57,15 @@ same-length-6 : tie.Need-same-length-6
 same-length-6 c = search needs
 
 returns-3 : tie.Need-returns-3
-returns-3 c = turn-asks (c .before .before .before .before .before .before .before .before .before .before .before .before .before .before .before .before .before .before .args .p .now) (c .before .before .before .before .before .before .before .before .before .before .before .before .before .before .before .before .before .before .args .outcomes .now) (c .before .before .before .before .before .before .before .before .before .before .before .before .before .before .before .before .before .before .args .trace .now) (c .before .before .before .before .before .before .before .before .before .before .before .before .before .before .before .before .before .before .args .work .now) (c .before .before .before .before .before .before .before .before .before .before .before .before .before .before .before .before .before .before .args .room) (c .before .before .before .before .before .before .before .before .before .before .before .before .before .before .before .before .before .before .args .t .now) (c .before .before .before .before .before .before .before .before .before .before .before .before .before .before .before .before .before .before .args .g) (c .before .before .before .before .before .before .before .before .before .before .before .before .before .before .before .before .before .before .args .n) (c .before .before .before .before .before .before .before .before .before .before .before .before .before .before .before .before .before .before .args .code) (c .before .before .before .before .before .before .before .before .before .before .before .before .before .before .before .before .before .before .args .offer) (c .before .before .before .before .before .before .before .before .before .before .before .before .before .before .before .before .before .before .args .known) (c .before .before .before .before .before .before .before .before .before .before .before .named-entry .ensures) (c .before .before .before .before .before .if1 .left) (c .before .before .before .if2 .left) (c .before .ending .ensures) (c .with-idle .ensures)
+returns-3 c =
+    let at-ending = c .before in
+    let at-if2 = at-ending .before .before in
+    let at-if1 = at-if2 .before .before in
+    let at-named-entry = at-if1 .before .before .before .before .before .before in
+    let args = at-named-entry .before .before .before .before .before .before .before .args in
+    turn-asks (args .p .now) (args .outcomes .now) (args .trace .now) (args .work .now) (args .room) (args .t .now)
+    (args .g) (args .n) (args .code) (args .offer) (args .known) (at-named-entry .named-entry .ensures)
+    (at-if1 .if1 .left) (at-if2 .if2 .left) (at-ending .ending .ensures) (c .with-idle .ensures)
 
 pub take-turn-spec : {M : Type 1} → statement M
 take-turn-spec =

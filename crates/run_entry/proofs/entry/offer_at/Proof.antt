@@ -8,22 +8,41 @@ no-meeting-requires : tie.Need-no-meeting-requires
 no-meeting-requires c κs = search needs
 
 returns : tie.Need-returns
-returns c = offer-over (c .before .before .before .before .args .p .now) (c .before .before .before .before .args .work .now) (c .before .before .before .before .args .t .now) (c .before .before .before .before .args .n) (c .before .before .before .before .args .code) (c .before .if1 .taken) (c .no-meeting .ensures)
+returns c =
+    let at-if1 = c .before in
+    let args = at-if1 .before .before .before .args in
+    offer-over (args .p .now) (args .work .now) (args .t .now) (args .n) (args .code) (at-if1 .if1 .taken)
+    (c .no-meeting .ensures)
 
 is-offer-requires : tie.Need-is-offer-requires
 is-offer-requires c κs = search needs
 
 pair-up-requires : tie.Need-pair-up-requires
-pair-up-requires c κs = (c .before .before .before .before .before .pre .0, c .before .before .before .before .before .pre .1, offer-low (c .before .before .before .before .before .args .n) (c .before .is-offer .result) (c .if2 .taken))
+pair-up-requires c κs =
+    let at-is-offer = c .before in
+    let at-pre = at-is-offer .before .before .before .before in
+    (at-pre .pre .0, at-pre .pre .1, offer-low (at-pre .args .n) (at-is-offer .is-offer .result) (c .if2 .taken))
 
 returns-2 : tie.Need-returns-2
-returns-2 c = offer-paired (c .before .before .before .before .before .before .args .p .now) (c .before .before .before .before .before .before .args .work .now) (c .before .before .before .before .before .before .args .t .now) (c .before .before .before .before .before .before .args .n) (c .before .before .before .before .before .before .args .code) (c .before .before .before .if1 .left) (c .before .before .is-offer .ensures) (c .before .if2 .taken) (c .pair-up .ensures)
+returns-2 c =
+    let at-if2 = c .before in
+    let at-is-offer = at-if2 .before in
+    let at-if1 = at-is-offer .before in
+    let args = at-if1 .before .before .before .args in
+    offer-paired (args .p .now) (args .work .now) (args .t .now) (args .n) (args .code) (at-if1 .if1 .left)
+    (at-is-offer .is-offer .ensures) (at-if2 .if2 .taken) (c .pair-up .ensures)
 
 no-meeting-requires-2 : tie.Need-no-meeting-requires-2
 no-meeting-requires-2 c κs = search needs
 
 returns-3 : tie.Need-returns-3
-returns-3 c = offer-none (c .before .before .before .before .before .before .args .p .now) (c .before .before .before .before .before .before .args .work .now) (c .before .before .before .before .before .before .args .t .now) (c .before .before .before .before .before .before .args .n) (c .before .before .before .before .before .before .args .code) (c .before .before .before .if1 .left) (c .before .before .is-offer .ensures) (c .before .if2 .left) (c .no-meeting2 .ensures)
+returns-3 c =
+    let at-if2 = c .before in
+    let at-is-offer = at-if2 .before in
+    let at-if1 = at-is-offer .before in
+    let args = at-if1 .before .before .before .args in
+    offer-none (args .p .now) (args .work .now) (args .t .now) (args .n) (args .code) (at-if1 .if1 .left)
+    (at-is-offer .is-offer .ensures) (at-if2 .if2 .left) (c .no-meeting2 .ensures)
 
 pub offer-at-spec : {M : Type 1} → statement M
 offer-at-spec =

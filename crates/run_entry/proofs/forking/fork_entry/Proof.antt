@@ -21,9 +21,12 @@ same-length-2 c = search needs
 
 returns : tie.Need-returns
 returns c =
-    let args = c .before .before .before .before .before .before .before .before .before .before .before .before .before .before .args in
-    fork-read (args .p .now) (args .outcomes .now) (args .trace .now) (args .work .now) (args .room) (args .g) (args .n .0)
-    (c .before .before .before .before .before .before .before .before .argument-of .ensures) (c .before .before .before .before .before .before .before .params .ensures) (c .before .before .before .before .try-fork .ensures)
+    let at-try-fork = c .before .before .before .before in
+    let at-params = at-try-fork .before .before .before in
+    let at-argument-of = at-params .before in
+    let args = at-argument-of .before .before .before .before .before .before .args in
+    fork-read (args .p .now) (args .outcomes .now) (args .trace .now) (args .work .now) (args .room) (args .g)
+    (args .n .0) (at-argument-of .argument-of .ensures) (at-params .params .ensures) (at-try-fork .try-fork .ensures)
 
 pub fork-entry-spec : {M : Type 1} → statement M
 fork-entry-spec =

@@ -27,8 +27,11 @@ same-length c = search needs
 
 returns : tie.Need-returns
 returns c =
-    let args = c .before .before .before .before .before .before .before .before .args in
-    fork-full (args .p .now) (args .trace .now) (args .work .now) (args .room) (args .g) (args .n .0) (args .child .0) (args .m) (args .args) (c .before .before .before .count-things .ensures .0) (c .before .if1 .taken) (c .full .ensures)
+    let at-if1 = c .before in
+    let at-count-things = at-if1 .before .before in
+    let args = at-count-things .before .before .before .before .before .args in
+    fork-full (args .p .now) (args .trace .now) (args .work .now) (args .room) (args .g) (args .n .0) (args .child .0)
+    (args .m) (args .args) (at-count-things .count-things .ensures .0) (at-if1 .if1 .taken) (c .full .ensures)
 
 write-fork-requires : tie.Need-write-fork-requires
 write-fork-requires c κs = search needs
@@ -47,9 +50,14 @@ same-length-3 c = search needs
 
 returns-2 : tie.Need-returns-2
 returns-2 c =
-    let args = c .before .before .before .before .before .before .before .before .before .before .before .before .before .before .before .before .before .args in
-    fork-starts (args .p .now) (args .trace .now) (args .work .now) (args .room) (args .g) (args .n .0) (args .child .0) (args .m) (args .args) (c .before .before .before .before .before .before .before .before .before .before .before .before .count-things .ensures .0)
-    (c .before .before .before .before .before .before .before .before .before .before .if1 .left) (c .before .before .before .before .before .before .before .write-fork .ensures) (c .before .before .before .fork .ensures) (c .taken .ensures)
+    let at-fork = c .before .before .before in
+    let at-write-fork = at-fork .before .before .before .before in
+    let at-if1 = at-write-fork .before .before .before in
+    let at-count-things = at-if1 .before .before in
+    let args = at-count-things .before .before .before .before .before .args in
+    fork-starts (args .p .now) (args .trace .now) (args .work .now) (args .room) (args .g) (args .n .0) (args .child .0)
+    (args .m) (args .args) (at-count-things .count-things .ensures .0) (at-if1 .if1 .left)
+    (at-write-fork .write-fork .ensures) (at-fork .fork .ensures) (c .taken .ensures)
 
 pub start-child-spec : {M : Type 1} → statement M
 start-child-spec =

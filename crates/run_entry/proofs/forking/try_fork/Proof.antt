@@ -18,8 +18,13 @@ same-length-2 c = search needs
 
 returns : tie.Need-returns
 returns c =
-    let args = c .before .before .before .before .before .before .before .before .before .before .before .before .before .before .args in
-    fork-lacks (args .p .now) (args .outcomes .now) (args .trace .now) (args .work .now) (args .room) (args .g) (args .n .0) (args .m) (args .args) (c .before .before .before .before .before .before .before .before .lacks-of .ensures) (c .before .before .before .before .before .before .before .if1 .taken) (c .before .before .before .before .single .ensures)
+    let at-single = c .before .before .before .before in
+    let at-if1 = at-single .before .before .before in
+    let at-lacks-of = at-if1 .before in
+    let args = at-lacks-of .before .before .before .before .before .before .args in
+    fork-lacks (args .p .now) (args .outcomes .now) (args .trace .now) (args .work .now) (args .room) (args .g)
+    (args .n .0) (args .m) (args .args) (at-lacks-of .lacks-of .ensures) (at-if1 .if1 .taken)
+    (at-single .single .ensures)
 
 get-requires : tie.Need-get-requires
 get-requires c κs = search needs
@@ -35,9 +40,15 @@ same-length-4 c = search needs
 
 returns-2 : tie.Need-returns-2
 returns-2 c =
-    let args = c .before .before .before .before .before .before .before .before .before .before .before .before .before .before .before .before .before .args in
-    fork-beyond (args .p .now) (args .outcomes .now) (args .trace .now) (args .work .now) (args .room) (args .g) (args .n .0) (args .m) (args .args)
-    (c .before .before .before .before .before .before .before .before .before .before .before .lacks-of .ensures) (c .before .before .before .before .before .before .before .before .before .before .if1 .left) (c .before .before .before .before .before .before .before .before .get .ensures) (c .before .before .before .before .before .before .before .if2 .taken) (c .before .before .before .before .single2 .ensures)
+    let at-single2 = c .before .before .before .before in
+    let at-if2 = at-single2 .before .before .before in
+    let at-get = at-if2 .before in
+    let at-if1 = at-get .before .before in
+    let at-lacks-of = at-if1 .before in
+    let args = at-lacks-of .before .before .before .before .before .before .args in
+    fork-beyond (args .p .now) (args .outcomes .now) (args .trace .now) (args .work .now) (args .room) (args .g)
+    (args .n .0) (args .m) (args .args) (at-lacks-of .lacks-of .ensures) (at-if1 .if1 .left) (at-get .get .ensures)
+    (at-if2 .if2 .taken) (at-single2 .single2 .ensures)
 
 cast-t30 : tie.Need-cast-t30
 cast-t30 c = search needs
@@ -53,9 +64,15 @@ same-length-6 c = search needs
 
 returns-3 : tie.Need-returns-3
 returns-3 c =
-    let args = c .before .before .before .before .before .before .before .before .before .before .before .before .before .before .before .before .before .args in
-    fork-tried (args .p .now) (args .outcomes .now) (args .trace .now) (args .work .now) (args .room) (args .g) (args .n .0) (args .m) (args .args)
-    (c .before .before .before .before .before .before .before .before .before .before .before .lacks-of .ensures) (c .before .before .before .before .before .before .before .before .before .before .if1 .left) (c .before .before .before .before .before .before .before .before .get .ensures) (c .before .before .before .before .before .before .before .if2 .left) (c .before .before .before .before .start-child .ensures)
+    let at-start-child = c .before .before .before .before in
+    let at-if2 = at-start-child .before .before .before in
+    let at-get = at-if2 .before in
+    let at-if1 = at-get .before .before in
+    let at-lacks-of = at-if1 .before in
+    let args = at-lacks-of .before .before .before .before .before .before .args in
+    fork-tried (args .p .now) (args .outcomes .now) (args .trace .now) (args .work .now) (args .room) (args .g)
+    (args .n .0) (args .m) (args .args) (at-lacks-of .lacks-of .ensures) (at-if1 .if1 .left) (at-get .get .ensures)
+    (at-if2 .if2 .left) (at-start-child .start-child .ensures)
 
 pub try-fork-spec : {M : Type 1} → statement M
 try-fork-spec =

@@ -15,8 +15,10 @@ full-requires c κs = search needs
 
 returns : tie.Need-returns
 returns c =
-    let args = c .before .before .before .before .before .args in
-    exchange-full (args .trace .now) (args .work .now) (args .room) (args .g) (args .sender .0) (args .receiver .0) (args .e) (args .v) (c .before .if1 .taken) (c .full .ensures)
+    let at-if1 = c .before in
+    let args = at-if1 .before .before .before .before .args in
+    exchange-full (args .trace .now) (args .work .now) (args .room) (args .g) (args .sender .0) (args .receiver .0)
+    (args .e) (args .v) (at-if1 .if1 .taken) (c .full .ensures)
 
 write-meeting-requires : tie.Need-write-meeting-requires
 write-meeting-requires c κs = search needs
@@ -38,9 +40,13 @@ same-length-2 c = search needs
 
 returns-2 : tie.Need-returns-2
 returns-2 c =
-    let args = c .before .before .before .before .before .before .before .before .before .before .before .before .before .before .args in
-    exchanged (args .trace .now) (args .work .now) (args .room) (args .g) (args .sender .0) (args .receiver .0) (args .e) (args .v)
-    (c .before .before .before .before .before .before .before .before .before .before .if1 .left) (c .before .before .before .before .before .before .before .before .write-meeting .ensures) (c .before .before .before .before .meet .ensures) (c .taken .ensures)
+    let at-meet = c .before .before .before .before in
+    let at-write-meeting = at-meet .before .before .before .before in
+    let at-if1 = at-write-meeting .before .before in
+    let args = at-if1 .before .before .before .before .args in
+    exchanged (args .trace .now) (args .work .now) (args .room) (args .g) (args .sender .0) (args .receiver .0)
+    (args .e) (args .v) (at-if1 .if1 .left) (at-write-meeting .write-meeting .ensures) (at-meet .meet .ensures)
+    (c .taken .ensures)
 
 pub exchange-spec : {M : Type 1} → statement M
 exchange-spec =

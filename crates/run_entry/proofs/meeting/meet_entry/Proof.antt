@@ -14,13 +14,23 @@ same-length-2 : tie.Need-same-length-2
 same-length-2 c = search needs
 
 returns : tie.Need-returns
-returns c = meet-faults (c .before .before .before .before .before .before .before .before .before .before .before .before .before .args .p .now) (c .before .before .before .before .before .before .before .before .before .before .before .before .before .args .outcomes .now) (c .before .before .before .before .before .before .before .before .before .before .before .before .before .args .trace .now) (c .before .before .before .before .before .before .before .before .before .before .before .before .before .args .work .now) (c .before .before .before .before .before .before .before .before .before .before .before .before .before .args .room) (c .before .before .before .before .before .before .before .before .before .before .before .before .before .args .g) (c .before .before .before .before .before .before .before .before .before .before .before .before .before .args .n .0) (c .before .before .before .before .before .before .before .before .before .before .before .before .before .args .m) (c .before .before .before .before .before .before .before .if1 .taken) (c .before .before .before .before .single .ensures)
+returns c =
+    let at-single = c .before .before .before .before in
+    let at-if1 = at-single .before .before .before in
+    let args = at-if1 .before .before .before .before .before .before .args in
+    meet-faults (args .p .now) (args .outcomes .now) (args .trace .now) (args .work .now) (args .room) (args .g)
+    (args .n .0) (args .m) (at-if1 .if1 .taken) (at-single .single .ensures)
 
 idle-requires : tie.Need-idle-requires
 idle-requires c κs = search needs
 
 returns-2 : tie.Need-returns-2
-returns-2 c = meet-waits (c .before .before .before .before .before .before .before .before .before .args .p .now) (c .before .before .before .before .before .before .before .before .before .args .outcomes .now) (c .before .before .before .before .before .before .before .before .before .args .trace .now) (c .before .before .before .before .before .before .before .before .before .args .work .now) (c .before .before .before .before .before .before .before .before .before .args .room) (c .before .before .before .before .before .before .before .before .before .args .g) (c .before .before .before .before .before .before .before .before .before .args .n .0) (c .before .before .before .before .before .before .before .before .before .args .m) (c .before .before .before .if1 .left) (c .before .if2 .taken) (c .idle .ensures)
+returns-2 c =
+    let at-if2 = c .before in
+    let at-if1 = at-if2 .before .before in
+    let args = at-if1 .before .before .before .before .before .before .args in
+    meet-waits (args .p .now) (args .outcomes .now) (args .trace .now) (args .work .now) (args .room) (args .g)
+    (args .n .0) (args .m) (at-if1 .if1 .left) (at-if2 .if2 .taken) (c .idle .ensures)
 
 single-requires-2 : tie.Need-single-requires-2
 single-requires-2 c κs = search needs
@@ -32,7 +42,14 @@ same-length-4 : tie.Need-same-length-4
 same-length-4 c = search needs
 
 returns-3 : tie.Need-returns-3
-returns-3 c = meet-gone (c .before .before .before .before .before .before .before .before .before .before .before .before .before .before .before .before .before .args .p .now) (c .before .before .before .before .before .before .before .before .before .before .before .before .before .before .before .before .before .args .outcomes .now) (c .before .before .before .before .before .before .before .before .before .before .before .before .before .before .before .before .before .args .trace .now) (c .before .before .before .before .before .before .before .before .before .before .before .before .before .before .before .before .before .args .work .now) (c .before .before .before .before .before .before .before .before .before .before .before .before .before .before .before .before .before .args .room) (c .before .before .before .before .before .before .before .before .before .before .before .before .before .before .before .before .before .args .g) (c .before .before .before .before .before .before .before .before .before .before .before .before .before .before .before .before .before .args .n .0) (c .before .before .before .before .before .before .before .before .before .before .before .before .before .before .before .before .before .args .m) (c .before .before .before .before .before .before .before .before .before .before .before .if1 .left) (c .before .before .before .before .before .before .before .before .before .if2 .left) (c .before .before .before .before .before .before .before .if3 .taken) (c .before .before .before .before .single2 .ensures)
+returns-3 c =
+    let at-single2 = c .before .before .before .before in
+    let at-if3 = at-single2 .before .before .before in
+    let at-if2 = at-if3 .before .before in
+    let at-if1 = at-if2 .before .before in
+    let args = at-if1 .before .before .before .before .before .before .args in
+    meet-gone (args .p .now) (args .outcomes .now) (args .trace .now) (args .work .now) (args .room) (args .g)
+    (args .n .0) (args .m) (at-if1 .if1 .left) (at-if2 .if2 .left) (at-if3 .if3 .taken) (at-single2 .single2 .ensures)
 
 exchange-requires : tie.Need-exchange-requires
 exchange-requires c κs = search needs
@@ -44,7 +61,17 @@ same-length-6 : tie.Need-same-length-6
 same-length-6 c = search needs
 
 returns-4 : tie.Need-returns-4
-returns-4 c = meet-meets (c .before .before .before .before .before .before .before .before .before .before .before .before .before .before .before .before .before .before .before .args .p .now) (c .before .before .before .before .before .before .before .before .before .before .before .before .before .before .before .before .before .before .before .args .outcomes .now) (c .before .before .before .before .before .before .before .before .before .before .before .before .before .before .before .before .before .before .before .args .trace .now) (c .before .before .before .before .before .before .before .before .before .before .before .before .before .before .before .before .before .before .before .args .work .now) (c .before .before .before .before .before .before .before .before .before .before .before .before .before .before .before .before .before .before .before .args .room) (c .before .before .before .before .before .before .before .before .before .before .before .before .before .before .before .before .before .before .before .args .g) (c .before .before .before .before .before .before .before .before .before .before .before .before .before .before .before .before .before .before .before .args .n .0) (c .before .before .before .before .before .before .before .before .before .before .before .before .before .before .before .before .before .before .before .args .m) (c .before .before .before .before .before .before .before .before .before .before .before .before .before .if1 .left) (c .before .before .before .before .before .before .before .before .before .before .before .if2 .left) (c .before .before .before .before .before .before .before .before .before .if3 .left) (c .before .before .before .before .exchange .ensures)
+returns-4 c =
+    let at-exchange = c .before .before .before .before in
+    let at-if3 = at-exchange .before .before .before .before .before in
+    let at-if2 = at-if3 .before .before in
+    let at-if1 = at-if2 .before .before in
+    let args = at-if1 .before .before .before .before .before .before .args in
+    meet-meets (args .p .now) (args .outcomes .now) (args .trace .now) (args .work .now) (args .room) (args .g)
+    (args .n .0) (args .m) (at-if1 .if1 .left) (at-if2 .if2 .left) (at-if3 .if3 .left) (at-exchange .exchange .ensures)
 
 pub meet-entry-spec : {M : Type 1} → statement M
-meet-entry-spec = tie.close (tie.spec single-requires same-length same-length-2 returns idle-requires returns-2 single-requires-2 same-length-3 same-length-4 returns-3 exchange-requires same-length-5 same-length-6 returns-4)
+meet-entry-spec =
+    tie.close
+    (tie.spec single-requires same-length same-length-2 returns idle-requires returns-2 single-requires-2 same-length-3
+    same-length-4 returns-3 exchange-requires same-length-5 same-length-6 returns-4)

@@ -16,8 +16,9 @@ give-end-requires-2 c κs = search needs
 returns : tie.Need-returns
 unfolding channelGiven
 returns c =
-    let args = c .before .before .args in
-    c .give-end2 .ensures ∙ ap (λ (u : List (List ℕ)). endGiven u (args .c .0) 1 (args .q .0)) (c .before .give-end .ensures)
+    c .give-end2 .ensures
+    ∙ ap (λ (u : List (List ℕ)). endGiven u (c .before .before .args .c .0) 1 (c .before .before .args .q .0))
+    (c .before .give-end .ensures)
 
 pub give-channel-spec : {M : Type 1} → statement M
 give-channel-spec = tie.close (tie.spec give-end-requires give-end-requires-2 returns)

@@ -40,14 +40,19 @@ give-end-requires c κs = search needs
 returns-4 : tie.Need-returns-4
 unfolding holdersAfter
 returns-4 c =
-    let l = c .before .before .before .before .before .before .before .before .before .args .l in
+    let at-if4 = c .before in
+    let at-if3 = at-if4 .before .before in
+    let at-if2 = at-if3 .before .before in
+    let at-if1 = at-if2 .before .before in
+    let args = at-if1 .before .before .args in
+    let l = args .l in
     rw (
-      ne-eqb (l .kind) 2 (c .before .before .before .before .before .before .before .if1 .left),
-      eq-eqb (l .kind) 6 (c .before .before .before .before .before .if2 .left),
-      ne-eqb (l .b) 4 (c .before .before .before .if3 .left),
-      eq-eqb (l .b) 5 (c .before .if4 .taken),
-    )
-    (c .give-end .ensures)
+      ne-eqb (l .kind) 2 (at-if1 .if1 .left),
+      eq-eqb (l .kind) 6 (at-if2 .if2 .left),
+      ne-eqb (l .b) 4
+          (at-if3 .if3 .left),
+      eq-eqb (l .b) 5 (at-if4 .if4 .taken),
+    ) (c .give-end .ensures)
 
 give-end-requires-2 : tie.Need-give-end-requires-2
 give-end-requires-2 c κs = search needs
@@ -55,25 +60,38 @@ give-end-requires-2 c κs = search needs
 returns-5 : tie.Need-returns-5
 unfolding holdersAfter
 returns-5 c =
-    let l = c .before .before .before .before .before .before .before .before .before .before .before .args .l in
+    let at-if5 = c .before in
+    let at-if4 = at-if5 .before .before in
+    let at-if3 = at-if4 .before .before in
+    let at-if2 = at-if3 .before .before in
+    let at-if1 = at-if2 .before .before in
+    let args = at-if1 .before .before .args in
+    let l = args .l in
     rw (
-      ne-eqb (l .kind) 2 (c .before .before .before .before .before .before .before .before .before .if1 .left),
-      eq-eqb (l .kind) 6 (c .before .before .before .before .before .before .before .if2 .left),
-      ne-eqb (l .b) 4 (c .before .before .before .before .before .if3 .left),
-      ne-eqb (l .b) 5 (c .before .before .before .if4 .left),
-      eq-eqb (l .b) 6 (c .before .if5 .taken),
+      ne-eqb (l .kind) 2 (at-if1 .if1 .left),
+      eq-eqb (l .kind) 6 (at-if2 .if2 .left),
+      ne-eqb (l .b) 4
+          (at-if3 .if3 .left),
+      ne-eqb (l .b) 5 (at-if4 .if4 .left),
+      eq-eqb (l .b) 6 (at-if5 .if5 .taken),
     )
     (c .give-end2 .ensures)
 
 returns-6 : tie.Need-returns-6
 unfolding holdersAfter
 returns-6 c =
-    let l = c .before .before .before .before .before .before .before .before .before .before .args .l in
+    let at-if4 = c .before .before in
+    let at-if3 = at-if4 .before .before in
+    let at-if2 = at-if3 .before .before in
+    let at-if1 = at-if2 .before .before in
+    let args = at-if1 .before .before .args in
+    let l = args .l in
     rw (
-      ne-eqb (l .kind) 2 (c .before .before .before .before .before .before .before .before .if1 .left),
-      eq-eqb (l .kind) 6 (c .before .before .before .before .before .before .if2 .left),
-      ne-eqb (l .b) 4 (c .before .before .before .before .if3 .left),
-      ne-eqb (l .b) 5 (c .before .before .if4 .left),
+      ne-eqb (l .kind) 2 (at-if1 .if1 .left),
+      eq-eqb (l .kind) 6 (at-if2 .if2 .left),
+      ne-eqb (l .b) 4
+          (at-if3 .if3 .left),
+      ne-eqb (l .b) 5 (at-if4 .if4 .left),
       ne-eqb (l .b) 6 (c .if5 .left),
     )
 

@@ -31,11 +31,18 @@ same-length-2 : tie.Need-same-length-2
 same-length-2 c = search needs
 
 returns-2 : tie.Need-returns-2
-returns-2 c = c .before .before .clear-within2 .ensures ∙ cleared-beyond (c .before .before .before .before .before .before .before .args .w .now) (c .before .before .before .before .before .before .before .args .from) (length (c .before .before .before .before .before .before .before .args .w .now) - c .before .before .before .before .before .before .before .args .from) (c .before .before .before .before .before .before .before .args .n) (omega arith) (omega arith)
+returns-2 c =
+    let at-clear-within2 = c .before .before in
+    let args = at-clear-within2 .before .before .before .before .before .args in
+    at-clear-within2 .clear-within2 .ensures
+    ∙ cleared-beyond (args .w .now) (args .from) (length (args .w .now) - args .from) (args .n) (omega arith)
+    (omega arith)
 
 returns-3 : tie.Need-returns-3
 unfolding clearedFrom
-returns-3 c = cleared-beyond (c .before .before .before .args .w .now) (c .before .before .before .args .from) 0 (c .before .before .before .args .n) (omega arith) (omega arith)
+returns-3 c =
+    let args = c .before .before .before .args in
+    cleared-beyond (args .w .now) (args .from) 0 (args .n) (omega arith) (omega arith)
 
 pub clear-spec : {M : Type 1} → statement M
 clear-spec =

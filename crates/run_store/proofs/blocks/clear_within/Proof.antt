@@ -35,13 +35,24 @@ loop-less : tie.Need-loop-less Inv-loop μ-loop
 loop-less c = search needs
 
 loop-again : tie.Need-loop-again Inv-loop μ-loop
-loop-again c = (search needs, cleared-more (c .before .before .args .w .now) (c .before .before .args .from) (c .before .loop .i) (c .before .loop .inv .1) refl, length-set (c .before .loop .w) (c .before .before .args .from + c .before .loop .i) 0 ∙ c .before .loop .inv .2)
+loop-again c = (
+  search needs,
+  cleared-more (c .before .before .args .w .now) (c .before .before .args .from) (c .before .loop .i)
+      (c .before .loop .inv .1) refl,
+  length-set (c .before .loop .w) (c .before .before .args .from + c .before .loop .i)
+      0
+      ∙ c .before .loop .inv .2,
+)
 
 same-length : tie.Need-same-length Inv-loop μ-loop
 same-length c = search needs
 
 returns : tie.Need-returns Inv-loop μ-loop
-returns c = let e : c .before .loop .i ≡ c .before .before .args .n = omega arith in subst (λ (i : ℕ). c .before .loop .w ≡ clearedFrom (c .before .before .args .w .now) (c .before .before .args .from) i) e (c .before .loop .inv .1)
+returns c =
+    let e : c .before .loop .i ≡ c .before .before .args .n = omega arith in
+    subst
+    (λ (i : ℕ). c .before .loop .w ≡ clearedFrom (c .before .before .args .w .now) (c .before .before .args .from) i) e
+    (c .before .loop .inv .1)
 
 pub clear-within-spec : {M : Type 1} → statement M
 clear-within-spec =
