@@ -5,11 +5,11 @@ use mathlib.Core.List.{List}
 use lib.Dec.{eqb, ltb}
 use Rattle.run_parts.specs.PartsCode.{partOf}
 use Rattle.run_parts.specs.declared.readiness.Readiness.{Readiness}
-use Rattle.run_parts.specs.ReadinessCode.{readinessOp}
+use Rattle.run_parts.specs.ReadinessCode.{readinessOp, kindSends}
 use Rattle.run_ability.specs.PartnerCode.{isMoving, partnerOp}
 
 unfoldable pub abilityOf : List ℕ → List ℕ → List (List ℕ) → ℕ → Readiness → ℕ
-abilityOf p work t n a = cond (ltb (a .kind) 2) (a .kind) (cond (isMoving (partnerOp p work t n a)) 1 2)
+abilityOf p work t n a = cond (ltb (a .kind) kindSends) (a .kind) (cond (isMoving (partnerOp p work t n a)) 1 2)
 
 -- 0 over or not made, 1 able to move, 2 waiting
 unfoldable pub abilityOp : List ℕ → List ℕ → List (List ℕ) → ℕ → ℕ

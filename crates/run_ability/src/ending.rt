@@ -7,21 +7,27 @@ ghost use Rattle.table.specs.Table.{methods};
 ghost use Rattle.run_ability.specs.EndingCode.{abilityOp, endingOp};
 use super::partner::is_moved;
 use super::reads::readiness_of;
+use run_parts::readiness::SENDS;
 use run_store::references::ProcessNo;
 
-// 0 over, 1 able to move, 2 waiting.
+// What a process can do: it is over, it is able to move, or it waits.
+const ABLE: u32 = 1;
+
+const WAITING: u32 = 2;
+
+// `OVER`, `ABLE` or `WAITING`.
 pub fn ability(p: &[u16], start: usize, work: &[u32], t: &[[u16; 2]; 16], n: ProcessNo) -> u32
     requires { ⌜ (start ≡ 2 + 20 * methods (now p)) × (8192 ≤ length (now work)) × (n .0 < 8) ⌝ }
     ensures { λ r. ⌜ r ≡ abilityOp (now (p .entry)) (now (work .entry)) (now (t .entry)) (n .0) ⌝ }
 {
     let a = readiness_of(p, start, work, n);
-    if a.kind < 2 {
+    if a.kind < SENDS {
         return a.kind;
     }
     if is_moved(p, start, work, t, n, a) {
-        return 1;
+        return ABLE;
     }
-    2
+    WAITING
 }
 
 // 0 where some process is able to move.
@@ -33,10 +39,10 @@ pub fn ending(p: &[u16], start: usize, work: &[u32], t: &[[u16; 2]; 16]) -> u32
     let mut j: u16 = 0;
     while j < 8 {
         let a = ability(p, start, work, t, ProcessNo(j));
-        if a == 1 {
+        if a == ABLE {
             return 0;
         }
-        if a == 2 {
+        if a == WAITING {
             end = 2;
         }
         j += 1;

@@ -9,14 +9,23 @@ use super::partner::opposite;
 use super::reads::offer_of;
 use super::reads::readiness_of;
 use run_holders::ends::holder_of;
+use run_parts::readiness::OVER;
 use run_parts::readiness::Readiness;
+use run_parts::readiness::SENDS;
 use run_parts::readiness::meets;
 use run_store::references::ProcessNo;
 use run_store::values::Val;
 use run_store::values::empty;
 
-// Kind 0 is no offer, 1 an offer that waits, 2 a meeting, with its sender's end and value, 3 an offer whose partner has
-// gone.
+// What an offer comes to: there is none; it waits; a meeting, with its sender's end and value; its partner has gone.
+pub const NO_OFFER: u32 = 0;
+
+pub const WAITS: u32 = 1;
+
+pub const MEETS: u32 = 2;
+
+pub const PARTNER_GONE: u32 = 3;
+
 pub struct Pairing {
     pub kind: u32,
     pub sender: ProcessNo,
@@ -41,7 +50,7 @@ fn meeting(sender: ProcessNo, receiver: ProcessNo, end: Val, value: Val) -> Pair
     ensures { λ r. ⌜ r ≡ meetingOf (sender .0) (receiver .0) end value ⌝ }
 {
     Pairing {
-        kind: 2,
+        kind: MEETS,
         sender: sender,
         receiver: receiver,
         end: end,
@@ -53,7 +62,7 @@ fn meeting(sender: ProcessNo, receiver: ProcessNo, end: Val, value: Val) -> Pair
 fn pair_of(n: ProcessNo, a: Readiness, q: ProcessNo, b: Readiness) -> Pairing
     ensures { λ r. ⌜ r ≡ pairedOf (n .0) a (q .0) b ⌝ }
 {
-    if a.kind == 2 {
+    if a.kind == SENDS {
         return meeting(n, q, a.end, a.value);
     }
     meeting(q, n, b.end, b.value)
@@ -72,16 +81,16 @@ fn pair_with(
     ensures { λ r. ⌜ r ≡ pairWith (now (p .entry)) (now (work .entry)) (n .0) a (q .0) ⌝ }
 {
     if is_no_other(n, q) {
-        return no_meeting(3);
+        return no_meeting(PARTNER_GONE);
     }
     let b = readiness_of(p, start, work, q);
-    if b.kind == 0 {
-        return no_meeting(3);
+    if b.kind == OVER {
+        return no_meeting(PARTNER_GONE);
     }
     if meets(a, b) {
         return pair_of(n, a, q, b);
     }
-    no_meeting(1)
+    no_meeting(WAITS)
 }
 
 // The offer of process n, by the code of its step.
@@ -97,8 +106,8 @@ pub fn pair_up(
     ensures { λ r. ⌜ r ≡ pairingOp (now (p .entry)) (now (work .entry)) (now (t .entry)) (n .0) code ⌝ }
 {
     let a = offer_of(work, n, code);
-    if a.kind < 2 {
-        return no_meeting(0);
+    if a.kind < SENDS {
+        return no_meeting(NO_OFFER);
     }
     let q = holder_of(t, opposite(a));
     pair_with(p, start, work, n, a, q)

@@ -6,6 +6,7 @@ ghost use Rattle.table.specs.Table.{methods};
 ghost use Rattle.run_ability.specs.PartnerCode.{oppositeOf, isNoOther, isMoving, partnerOp};
 use super::reads::readiness_of;
 use run_holders::ends::holder_of;
+use run_parts::readiness::OVER;
 use run_parts::readiness::Readiness;
 use run_parts::readiness::meets;
 use run_store::references::EndNo;
@@ -46,7 +47,7 @@ pub fn is_moved(
         return true;
     }
     let b = readiness_of(p, start, work, q);
-    if b.kind == 0 {
+    if b.kind == OVER {
         return true;
     }
     meets(a, b)

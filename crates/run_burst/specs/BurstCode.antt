@@ -4,11 +4,11 @@ use mathlib.Core.Bool.{Bool, true, false, cond, _&&_, not}
 use mathlib.Core.List.{List}
 use lib.ListN.{getD}
 use lib.Dec.{eqb, leb}
-use Rattle.run_values.specs.ValuesCode.{AfterStep, afterStep}
+use Rattle.run_values.specs.ValuesCode.{AfterStep, afterStep, wentOn, notRunning}
 use Rattle.run_ops.specs.OpsCode.{stepOp}
 use Rattle.run_parts.specs.PartsCode.{partOf, onPart}
 use Rattle.run_ability.specs.declared.pairing.Pairing.{Pairing}
-use Rattle.run_ability.specs.PairingCode.{unpaired}
+use Rattle.run_ability.specs.PairingCode.{unpaired, kindNone, kindWaits}
 use Rattle.run_entry.specs.EntryCode.{offerAt}
 use Rattle.run_burst.specs.declared.burst.Burst.{Burst}
 use Rattle.run_burst.specs.declared.knowledge.Knowledge.{Knowledge}
@@ -22,15 +22,15 @@ pub record Stop : Type 0 where
 abbrev pub stopsAt : Burst → List ℕ → Stop
 stopsAt b w = record { burst = b; words = w }
 
--- one step of process n; 1 where no process can have that number, or where it is known not to be able to move
+-- one step of process n, not running where no process can have that number, or where it is known not to be able to move
 unfoldable pub namedOp : List ℕ → List ℕ → ℕ → Knowledge → AfterStep
 namedOp p work n known =
-    cond (leb 8 n) (afterStep 1 work)
-    (cond (isIdle known n) (afterStep 1 work) (onPart work n (stepOp p (partOf work n))))
+    cond (leb 8 n) (afterStep notRunning work)
+    (cond (isIdle known n) (afterStep notRunning work) (onPart work n (stepOp p (partOf work n))))
 
--- the entry is over with the step: code 0, or 1 where it is known that some process is able to move
+-- the entry is over with the step: the process went on, or it does not run and some other is known to be able to move
 unfoldable pub isDone : ℕ → Knowledge → Bool
-isDone code known = cond (eqb code 0) true (eqb code 1 && known .some)
+isDone code known = cond (eqb code wentOn) true (eqb code notRunning && known .some)
 
 -- the process that the entry before names
 unfoldable pub namedBefore : List ℕ → ℕ → ℕ
@@ -39,10 +39,10 @@ namedBefore schedule k = cond (eqb k 0) 0 (getD schedule (k - 1) 0)
 -- the named process does not wait, or no other is known or seen to be able to move
 unfoldable pub stopsHere : List ℕ → List ℕ → List ℕ → ℕ → Knowledge → Pairing → Bool
 stopsHere p work schedule k known m =
-    cond (eqb (m .kind) 1) (cond (known .some) false (not (alone p work (namedBefore schedule k)))) true
+    cond (eqb (m .kind) kindWaits) (cond (known .some) false (not (alone p work (namedBefore schedule k)))) true
 
 unfoldable pub burstOp : List ℕ → List (List ℕ) → List ℕ → List ℕ → ℕ → Knowledge → ℕ → Stop
-burstOp p t schedule work k known zero = stopsAt (record { at = k; code = 0; offer = unpaired 0; known = known }) work
+burstOp p t schedule work k known zero = stopsAt (record { at = k; code = wentOn; offer = unpaired kindNone; known = known }) work
 burstOp p t schedule work k known (suc left) =
     let n = getD schedule k 0 in
     let d = namedOp p work n known in

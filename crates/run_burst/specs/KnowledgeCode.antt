@@ -8,6 +8,7 @@ use Rattle.run_parts.specs.PartsCode.{partOf}
 use Rattle.run_parts.specs.ReadinessCode.{offersNothing}
 use Rattle.run_entry.specs.EntryCode.{oneLine}
 use Rattle.run_burst.specs.declared.knowledge.Knowledge.{Knowledge}
+use Rattle.run_values.specs.ValuesCode.{wentOn}
 
 unfoldable pub nothingKnown : Knowledge
 nothingKnown = record { some = false; idle = replicate 8 false }
@@ -30,11 +31,11 @@ alone p work n = cond (leb 8 n) false (offersNothing p (partOf work n))
 -- what is known still after an entry with this code: after a step, only where the process moves on by itself
 unfoldable pub knownAfterStep : List ℕ → List ℕ → ℕ → Knowledge → ℕ → Knowledge
 knownAfterStep p work n known code =
-    record { some = cond (known .some) (cond (eqb code 0) (alone p work n) true) false; idle = known .idle }
+    record { some = cond (known .some) (cond (eqb code wentOn) (alone p work n) true) false; idle = known .idle }
 
 -- an entry with one line is like a step in this; after any other nothing is known
 unfoldable pub knownAfterEntry : List ℕ → List ℕ → ℕ → Knowledge → ℕ → Knowledge
-knownAfterEntry p work n known code = cond (oneLine code) (knownAfterStep p work n known 0) nothingKnown
+knownAfterEntry p work n known code = cond (oneLine code) (knownAfterStep p work n known wentOn) nothingKnown
 
 -- nor where a line changed a holder
 unfoldable pub unlessChanged : Knowledge → Bool → Knowledge

@@ -3,10 +3,12 @@ use Prim.Native.Nat.{ℕ}
 use mathlib.Core.Bool.{cond}
 use mathlib.Core.List.{List}
 use lib.ListN.{getD}
-use lib.Dec.{eqb, leb}
+use lib.Dec.{leb}
 use Rattle.run_ability.specs.EndingCode.{endingOp}
 use Rattle.run_ability.specs.declared.pairing.Pairing.{Pairing}
 use Rattle.run_single.specs.declared.result.Count.{Count}
+use Rattle.run_single.specs.declared.result.Progress.{Progress}
+use Rattle.run_single.specs.declared.result.Progress.the-variants.{Unable, Taken, Full}
 use Rattle.run_single.specs.ResultCode.{AfterEntry, afterEntry, idleAt}
 use Rattle.run_entry.specs.EntryCode.{entryOp}
 use Rattle.run_burst.specs.declared.knowledge.Knowledge.{Knowledge}
@@ -26,14 +28,29 @@ unfoldable pub namedEntryOp : List ℕ → List ℕ → List ℕ → List ℕ �
 namedEntryOp p outcomes trace work room g n code m =
     cond (leb 8 n) (afterEntry (idleAt g) trace work) (entryOp p outcomes trace work room g n code m)
 
+-- the end that an entry gives, 0 where the run goes on, and what is known after it
+unfoldable pub endAfter : Progress → List ℕ → List ℕ → List (List ℕ) → ℕ
+endAfter Full p work t = 3
+endAfter Taken p work t = 0
+endAfter Unable p work t = endingOp p work t 8
+
+unfoldable pub knownAfter : Progress → List ℕ → List ℕ → ℕ → ℕ → Knowledge → Knowledge
+knownAfter Full p work n code known = nothingKnown
+knownAfter Taken p work n code known = knownAfterEntry p work n known code
+knownAfter Unable p work n code known = withIdle known n
+
 -- what an entry means for the run
 unfoldable pub turnBy : List ℕ → List (List ℕ) → ℕ → ℕ → Knowledge → AfterEntry → AfterTurn
 turnBy p t n code known c =
-    cond (eqb (c .result .state) 2)
-    (afterTurn (record { end = 3; lines = c .result .lines; used = c .result .used; known = nothingKnown }) (c .trace) (c .work))
-    (cond (eqb (c .result .state) 1)
-    (afterTurn (record { end = 0; lines = c .result .lines; used = c .result .used; known = knownAfterEntry p (c .work) n known code }) (c .trace) (c .work))
-    (afterTurn (record { end = endingOp p (c .work) t 8; lines = c .result .lines; used = c .result .used; known = withIdle known n }) (c .trace) (c .work)))
+    afterTurn
+    (record {
+      end = endAfter (c .result .progress) p (c .work) t;
+      lines = c .result .lines;
+      used = c .result .used;
+      known = knownAfter (c .result .progress) p (c .work) n code known;
+    })
+    (c .trace)
+    (c .work)
 
 unfoldable pub turnOp : List ℕ → List ℕ → List ℕ → List ℕ → ℕ → List (List ℕ) → Count → ℕ → ℕ → Pairing → Knowledge
     → AfterTurn

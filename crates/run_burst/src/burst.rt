@@ -8,15 +8,19 @@ ghost use Rattle.run_values.specs.ValuesCode.{afterStep};
 ghost use Rattle.run_burst.specs.KnowledgeCode.{alone, knownAfterStep};
 ghost use Rattle.run_burst.specs.BurstCode.{stopsAt, namedOp, isDone, namedBefore, stopsHere, burstOp};
 use super::knowledge::Knowledge;
+use run_ability::pairing::NO_OFFER;
 use run_ability::pairing::Pairing;
+use run_ability::pairing::WAITS;
 use run_ability::pairing::no_meeting;
 use run_ability::reads::alone_of;
 use run_entry::entry::offer_at;
 use run_parts::part::step_process;
 use run_store::references::ProcessNo;
+use run_values::codes::NOT_RUNNING;
+use run_values::codes::WENT_ON;
 
-// The first entry that needs more, with the code of its step, what its offer comes to, and what is known before it;
-// code 0 where the schedule is used up.
+// The first entry that needs more, with what its step answered, what its offer comes to, and what is known before it;
+// `WENT_ON` where the schedule is used up.
 pub struct Burst {
     pub at: usize,
     pub code: u32,
@@ -24,17 +28,17 @@ pub struct Burst {
     pub known: Knowledge,
 }
 
-// One step of the process that the byte names; 1 where no process can have that number, or where it is known not to be
-// able to move.
+// One step of the process that the byte names; `NOT_RUNNING` where no process can have that number, or where it is
+// known not to be able to move.
 fn step_named(p: &[u16], start: usize, work: &mut [u32], n: u8, known: Knowledge) -> u32
     requires { ⌜ (start ≡ 2 + 20 * methods (now p)) × (8192 ≤ length (now work)) ⌝ }
     ensures { λ r. ⌜ afterStep r (now (work .exit)) ≡ namedOp (now (p .entry)) (now (work .entry)) n known ⌝ }
 {
     if 8 <= n {
-        return 1;
+        return NOT_RUNNING;
     }
     if known.is_idle(n) {
-        return 1;
+        return NOT_RUNNING;
     }
     step_process(p, start, work, ProcessNo(n as u16))
 }
@@ -65,21 +69,22 @@ pub fn known_after_step(
     if !known.some {
         return known;
     }
-    if code != 0 {
+    if code != WENT_ON {
         return known;
     }
     known.some = moves_alone(p, start, work, n);
     known
 }
 
-// The entry is over with the step: code 0, or 1 where it is known that some process is able to move.
+// The entry is over with the step: the process went on, or it does not run and some other is known to be able to
+// move.
 fn is_done(code: u32, known: Knowledge) -> bool
     ensures { λ r. ⌜ r ≡ isDone code known ⌝ }
 {
-    if code == 0 {
+    if code == WENT_ON {
         return true;
     }
-    (code == 1) & known.some
+    (code == NOT_RUNNING) & known.some
 }
 
 // The process that the entry before names; 0 before the first.
@@ -107,7 +112,7 @@ fn stops_here(
     requires { ⌜ (start ≡ 2 + 20 * methods (now p)) × (8192 ≤ length (now work)) × (k < length (now schedule)) ⌝ }
     ensures { λ r. ⌜ r ≡ stopsHere (now (p .entry)) (now (work .entry)) (now (schedule .entry)) k known m ⌝ }
 {
-    if m.kind != 1 {
+    if m.kind != WAITS {
         return true;
     }
     if known.some {
@@ -152,8 +157,8 @@ pub fn silent_entries(
     }
     Burst {
         at: k,
-        code: 0,
-        offer: no_meeting(0),
+        code: WENT_ON,
+        offer: no_meeting(NO_OFFER),
         known: sure,
     }
 }

@@ -16,8 +16,10 @@ use run_entry::entry::entry;
 use run_entry::entry::one_line;
 use run_single::result::Count;
 use run_single::result::EntryResult;
+use run_single::result::Progress;
 use run_single::result::idle;
 use run_store::references::ProcessNo;
+use run_values::codes::WENT_ON;
 
 // End 0 is a run that goes on; then the lines written, the outcomes used, and what is known of the processes.
 pub struct Turn {
@@ -74,7 +76,7 @@ fn known_after_entry(
     ensures { λ r. ⌜ r ≡ knownAfterEntry (now (p .entry)) (now (work .entry)) n known code ⌝ }
 {
     if one_line(code) {
-        return known_after_step(p, start, work, n, known, 0);
+        return known_after_step(p, start, work, n, known, WENT_ON);
     }
     nothing_known()
 }
@@ -99,27 +101,26 @@ fn take_turn(
     ensures { λ r. ⌜ afterTurn r (now (trace .exit)) (now (work .exit)) ≡ turnOp (now (p .entry)) (now (outcomes .entry)) (now (trace .entry)) (now (work .entry)) room (now (t .entry)) g n code offer known ⌝ }
 {
     let m = named_entry(p, start, outcomes, trace, work, room, g, n, code, offer);
-    if m.state == 2 {
-        return Turn {
+    let progress = m.progress;
+    match progress {
+        Progress::Full => Turn {
             end: 3,
             lines: m.lines,
             used: m.used,
             known: nothing_known(),
-        };
-    }
-    if m.state == 1 {
-        return Turn {
+        },
+        Progress::Taken => Turn {
             end: 0,
             lines: m.lines,
             used: m.used,
             known: known_after_entry(p, start, work, n, known, code),
-        };
-    }
-    Turn {
-        end: ending(p, start, work, t),
-        lines: m.lines,
-        used: m.used,
-        known: known.with_idle(n),
+        },
+        Progress::Unable => Turn {
+            end: ending(p, start, work, t),
+            lines: m.lines,
+            used: m.used,
+            known: known.with_idle(n),
+        },
     }
 }
 

@@ -11,6 +11,7 @@ use Rattle.run_single.specs.ResultCode.{AfterEntry, afterEntry, takenTo, idleAt
 use Rattle.run_single.specs.SingleCode.{singleOp}
 use Rattle.run_transfer.specs.MeetingLinesCode.{metWritten}
 use Rattle.run_ability.specs.declared.pairing.Pairing.{Pairing}
+use Rattle.run_ability.specs.PairingCode.{kindNone, kindWaits, kindGone}
 
 unfoldable pub exchangeOp : List ℕ → List ℕ → ℕ → Count → ℕ → ℕ → Val → Val → AfterEntry
 exchangeOp trace work room g sender receiver e v =
@@ -22,7 +23,7 @@ exchangeOp trace work room g sender receiver e v =
 -- has gone
 unfoldable pub meetBy : List ℕ → List ℕ → List ℕ → List ℕ → ℕ → Count → ℕ → Pairing → AfterEntry
 meetBy p outcomes trace work room g n m =
-    cond (eqb (m .kind) 0) (singleOp p outcomes trace work room g n 20)
-    (cond (eqb (m .kind) 1) (afterEntry (idleAt g) trace work)
-    (cond (eqb (m .kind) 3) (singleOp p outcomes trace work room g n 33)
+    cond (eqb (m .kind) kindNone) (singleOp p outcomes trace work room g n 20)
+    (cond (eqb (m .kind) kindWaits) (afterEntry (idleAt g) trace work)
+    (cond (eqb (m .kind) kindGone) (singleOp p outcomes trace work room g n 33)
     (exchangeOp trace work room g (m .sender .0) (m .receiver .0) (m .end) (m .value))))

@@ -7,7 +7,9 @@ ghost use Rattle.run_single.specs.ResultCode.{afterEntry};
 ghost use Rattle.run_entry.specs.EntryCode.{isOffer, offerAt, entryOp, oneLine};
 use super::forking::fork_entry;
 use super::meeting::meet_entry;
+use run_ability::pairing::NO_OFFER;
 use run_ability::pairing::Pairing;
+use run_ability::pairing::WAITS;
 use run_ability::pairing::no_meeting;
 use run_ability::pairing::pair_up;
 use run_single::result::Count;
@@ -15,12 +17,16 @@ use run_single::result::EntryResult;
 use run_single::result::idle;
 use run_single::single::single;
 use run_store::references::ProcessNo;
+use run_values::codes::AT_FORK;
+use run_values::codes::AT_RECV;
+use run_values::codes::AT_SEND;
+use run_values::codes::NOT_RUNNING;
 
 // SEND or RECV.
 pub fn is_offer(code: u32) -> bool
     ensures { λ r. ⌜ r ≡ isOffer code ⌝ }
 {
-    (code == 115) | (code == 116)
+    (code == AT_SEND) | (code == AT_RECV)
 }
 
 // What the offer of the named process comes to, by the code of its step; a process that does not run waits.
@@ -35,17 +41,17 @@ pub fn offer_at(
     requires { ⌜ (start ≡ 2 + 20 * methods (now p)) × (8192 ≤ length (now work)) ⌝ }
     ensures { λ r. ⌜ r ≡ offerAt (now (p .entry)) (now (work .entry)) (now (t .entry)) n code ⌝ }
 {
-    if code == 1 {
-        return no_meeting(1);
+    if code == NOT_RUNNING {
+        return no_meeting(WAITS);
     }
     if is_offer(code) & (n < 8) {
         return pair_up(p, start, work, t, ProcessNo(n as u16), code);
     }
-    no_meeting(0)
+    no_meeting(NO_OFFER)
 }
 
-// Code 1 is a process that does not run, 114 FORK, 115 SEND, 116 RECV; any other writes one line. `m` is what the offer
-// of the process comes to, and counts only where it offers.
+// A process that does not run leaves all as it is; FORK, SEND and RECV have entries of their own; any other code is an
+// entry with one line. `m` is what the offer of the process comes to, and counts only where it offers.
 pub fn entry(
     p: &[u16],
     start: usize,
@@ -61,10 +67,10 @@ pub fn entry(
     requires { ⌜ (start ≡ 2 + 20 * methods (now p)) × (8192 ≤ length (now work)) × (n .0 < 8) × (g .lines < 16000000) × (m .sender .0 < 8) × (m .receiver .0 < 8) ⌝ }
     ensures { λ r. ⌜ afterEntry r (now (trace .exit)) (now (work .exit)) ≡ entryOp (now (p .entry)) (now (outcomes .entry)) (now (trace .entry)) (now (work .entry)) room g (n .0) code m ⌝ }
 {
-    if code == 1 {
+    if code == NOT_RUNNING {
         return idle(g);
     }
-    if code == 114 {
+    if code == AT_FORK {
         return fork_entry(p, start, outcomes, trace, work, room, g, n);
     }
     if is_offer(code) {
@@ -87,5 +93,5 @@ pub fn entry(
 pub fn one_line(code: u32) -> bool
     ensures { λ r. ⌜ r ≡ oneLine code ⌝ }
 {
-    (code != 1) & ((code != 114) & ((code != 115) & (code != 116)))
+    (code != NOT_RUNNING) & ((code != AT_FORK) & ((code != AT_SEND) & (code != AT_RECV)))
 }

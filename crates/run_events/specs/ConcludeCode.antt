@@ -9,14 +9,15 @@ use Rattle.run_store.specs.StoreCode.{headOf}
 use Rattle.run_events.specs.declared.event.EventResult.{EventResult}
 use Rattle.run_events.specs.EventsCode.{AfterEvent, afterEvent, faultEvent, lineEvent, newqOp, newcOp, gateOp, measOp}
 use Rattle.run_events.specs.EndsCode.{stoppedWords, finishedWords}
+use Rattle.run_values.specs.ValuesCode.{atNewQ, atNewC, atGate, atMeas, atLastRet}
 
 unfoldable pub performOp : List ℕ → List ℕ → ℕ → ℕ → ℕ → List ℕ → ℕ → AfterEvent
 performOp p w code qubits channels outcomes used =
-    cond (eqb code 107) (newqOp w (headOf w) qubits)
-    (cond (eqb code 108) (newcOp w (headOf w) channels)
-    (cond (eqb code 110) (gateOp w (headOf w) (argAt p (headOf w .place)))
-    (cond (eqb code 111) (measOp w (headOf w) outcomes used)
-    (cond (eqb code 113) (afterEvent (lineEvent 9 65535 65535 65535) w) (afterEvent (faultEvent code) w)))))
+    cond (eqb code atNewQ) (newqOp w (headOf w) qubits)
+    (cond (eqb code atNewC) (newcOp w (headOf w) channels)
+    (cond (eqb code atGate) (gateOp w (headOf w) (argAt p (headOf w .place)))
+    (cond (eqb code atMeas) (measOp w (headOf w) outcomes used)
+    (cond (eqb code atLastRet) (afterEvent (lineEvent 9 65535 65535 65535) w) (afterEvent (faultEvent code) w)))))
 
 unfoldable pub statusWords : List ℕ → EventResult → List ℕ
 statusWords w t = cond (eqb (t .code) 0) (cond (eqb (t .kind) 9) (finishedWords w) w) (stoppedWords w (t .code))

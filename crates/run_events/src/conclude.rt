@@ -17,8 +17,18 @@ use run_store::head::Head;
 use run_store::head::read_head;
 use table::words::word_at;
 
-// What the line of this code says: 107, 108, 110 and 111 stand for the ops that write one line, 113 for the root
-// frame's return, and any other code is a fault's number.
+// What the step answered, in the 16 bits that a fault's number has in a line (`codes` of run_values).
+const AT_NEWQ: u16 = 107;
+
+const AT_NEWC: u16 = 108;
+
+const AT_GATE: u16 = 110;
+
+const AT_MEAS: u16 = 111;
+
+const AT_LAST_RET: u16 = 113;
+
+// What the line says: of an op that writes one, of the root frame's return, or else of the fault.
 pub fn perform(
     p: &[u16],
     start: usize,
@@ -35,11 +45,11 @@ pub fn perform(
     let h = read_head(w);
     let a = word_at(p, start + 2 * (h.place as usize) + 1);
     match code {
-        107 => op_newq(w, h, qubits),
-        108 => op_newc(w, h, channels),
-        110 => op_gate(w, h, a as u16),
-        111 => op_meas(w, h, outcomes, used),
-        113 => line(9, 65535, 65535, 65535),
+        AT_NEWQ => op_newq(w, h, qubits),
+        AT_NEWC => op_newc(w, h, channels),
+        AT_GATE => op_gate(w, h, a as u16),
+        AT_MEAS => op_meas(w, h, outcomes, used),
+        AT_LAST_RET => line(9, 65535, 65535, 65535),
         _ => fault(code),
     }
 }

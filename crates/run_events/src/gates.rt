@@ -6,6 +6,8 @@ ghost use Rattle.run_events.specs.EventsCode.{afterEvent, dropTwo, gateO
 use super::event::EventResult;
 use super::event::fault;
 use super::event::line;
+use super::faults::EMPTY;
+use super::faults::ONE_QUBIT_TWICE;
 use run_store::head::Head;
 use run_store::head::put_top;
 use run_store::references::QubitNo;
@@ -38,7 +40,7 @@ pub fn gate_one(w: &mut [u32], h: Head, a: u16) -> EventResult
 {
     let v = value(w, h.top(1));
     if v.tag == 0 {
-        return fault(20);
+        return fault(EMPTY);
     }
     let q = qubit_no(w, h, 1);
     discard(w, h);
@@ -50,12 +52,12 @@ pub fn gate_two(w: &mut [u32], h: Head, a: u16) -> EventResult
     ensures { λ r. ⌜ afterEvent r (now (w .exit)) ≡ gateTwo (now (w .entry)) h a ⌝ }
 {
     if two_empty(w, h) {
-        return fault(20);
+        return fault(EMPTY);
     }
     let deeper = qubit_no(w, h, 2);
     let q = qubit_no(w, h, 1);
     if deeper.0 == q.0 {
-        return fault(27);
+        return fault(ONE_QUBIT_TWICE);
     }
     discard_two(w, h);
     line(3, a, deeper.0, q.0)

@@ -4,6 +4,7 @@
 pub mod conclude;
 pub mod ends;
 pub mod event;
+pub mod faults;
 pub mod gates;
 pub mod made;
 pub mod measured;

@@ -4,6 +4,8 @@ ghost use Rattle.run_events.specs.EventsCode.{afterEvent, newqOp, newcOp
 use super::event::EventResult;
 use super::event::fault;
 use super::event::line;
+use super::faults::CHANNEL_BEYOND_16;
+use super::faults::QUBIT_BEYOND_32;
 use run_store::head::Head;
 use run_store::values::Val;
 use run_values::moves::push;
@@ -23,7 +25,7 @@ pub fn op_newq(w: &mut [u32], h: Head, made: u32) -> EventResult
         );
         return line(1, made as u16, 65535, 65535);
     }
-    fault(22)
+    fault(QUBIT_BEYOND_32)
 }
 
 // "push a new channel"; "21 channel beyond 16".
@@ -41,5 +43,5 @@ pub fn op_newc(w: &mut [u32], h: Head, made: u32) -> EventResult
         );
         return line(2, made as u16, 65535, 65535);
     }
-    fault(21)
+    fault(CHANNEL_BEYOND_16)
 }

@@ -5,6 +5,8 @@ ghost use Rattle.run_events.specs.EventsCode.{afterEvent, nextIn, measur
 use super::event::EventResult;
 use super::event::fault;
 use super::event::measured;
+use super::faults::EMPTY;
+use super::faults::NO_OUTCOME_LEFT;
 use super::gates::qubit_no;
 use super::outcome::Outcome;
 use super::outcome::next_outcome;
@@ -39,7 +41,7 @@ fn measure_next(w: &mut [u32], h: Head, outcomes: &[u8], used: usize) -> EventRe
         Outcome::Zero => measure(w, h, 0),
         Outcome::One => measure(w, h, 1),
         Outcome::NoClick => measure(w, h, 2),
-        Outcome::NoneLeft => fault(24),
+        Outcome::NoneLeft => fault(NO_OUTCOME_LEFT),
     }
 }
 
@@ -49,7 +51,7 @@ pub fn op_meas(w: &mut [u32], h: Head, outcomes: &[u8], used: usize) -> EventRes
 {
     let v = value(w, h.top(1));
     if v.tag == 0 {
-        return fault(20);
+        return fault(EMPTY);
     }
     measure_next(w, h, outcomes, used)
 }

@@ -9,7 +9,7 @@ use Rattle.table.specs.Table.{offsetOf, returnOf, paramsOf, opAt, argAt}
 use Rattle.run_store.specs.declared.values.Val.{Val}
 use Rattle.run_store.specs.declared.head.Head.{Head}
 use Rattle.run_store.specs.StoreCode.{valueAt, putValue, headAt, headOf, putTop, topAt, stepped, pushed, lessBy, emptyDown, movedDown, clearedFrom}
-use Rattle.run_values.specs.ValuesCode.{AfterStep, afterStep, unlessEmpty, getOp, putOp, dropOp, endOp, jumpOp, jfalseOp, addOp, subOp, eqOp, lessOp, notOp, intOp, boolOp, clearOp}
+use Rattle.run_values.specs.ValuesCode.{AfterStep, afterStep, unlessEmpty, getOp, putOp, dropOp, endOp, jumpOp, jfalseOp, addOp, subOp, eqOp, lessOp, notOp, intOp, boolOp, clearOp, wentOn, notRunning, atNewQ, atNewC, atGate, atMeas, atLastRet, atFork, atSend, atRecv}
 
 -- calls
 
@@ -32,7 +32,7 @@ opened p w h m n =
 unfoldable pub callOp : List ℕ → List ℕ → Head → ℕ → AfterStep
 callOp p w h a =
     cond (emptyDown w (topAt h 1) (paramsOf p a)) (afterStep 20 w)
-    (cond (leb 8 (h .frames)) (afterStep 25 w) (afterStep 0 (opened p w h a (paramsOf p a))))
+    (cond (leb 8 (h .frames)) (afterStep 25 w) (afterStep wentOn (opened p w h a (paramsOf p a))))
 
 -- the top frame closed
 unfoldable pub closed : List ℕ → Head → List ℕ
@@ -44,35 +44,35 @@ closed w h =
 unfoldable pub handed : List ℕ → Val → List ℕ
 handed w v = putTop (putValue w (topAt (headOf w) 0) v) (pushed (headOf w))
 
--- 113 where the root frame returns
+-- a return of the root frame is left to the run
 unfoldable pub retOp : List ℕ → List ℕ → Head → AfterStep
 retOp p w h =
     cond (eqb (returnOf p (h .method)) 0)
-    (cond (eqb (h .frames) 1) (afterStep 113 w) (afterStep 0 (closed w h)))
+    (cond (eqb (h .frames) 1) (afterStep atLastRet w) (afterStep wentOn (closed w h)))
     (unlessEmpty (valueAt w (topAt h 1)) w
-    (cond (eqb (h .frames) 1) (afterStep 113 w) (afterStep 0 (handed (closed w h) (valueAt w (topAt h 1))))))
+    (cond (eqb (h .frames) 1) (afterStep atLastRet w) (afterStep wentOn (handed (closed w h) (valueAt w (topAt h 1))))))
 
 -- all ops
 
 -- a function of each op by its number: what it does, with the table, the words, the head and the argument. An op that
--- does more than change its own process, or that writes a line, is left to its caller: it answers 100 and its number.
--- A number that is no op answers 1, as an idle process does.
+-- does more than change its own process, or that writes a line, is left to its caller.
+-- A number that is no op is answered as a process that does not run.
 abbrev OpFunction : Type 0
 OpFunction = List ℕ → List ℕ → Head → ℕ → AfterStep
 
 abbrev leftToRun : ℕ → OpFunction
-leftToRun n p w h a = afterStep (100 + n) w
+leftToRun code p w h a = afterStep code w
 
 unfoldable pub noOp : OpFunction
-noOp p w h a = afterStep 1 w
+noOp p w h a = afterStep notRunning w
 
 unfoldable pub opFunctions : List OpFunction
 opFunctions =
     noOp
     ∷ intOp ∷ boolOp
     ∷ (λ p w h a. getOp w h a) ∷ (λ p w h a. putOp w h a) ∷ (λ p w h a. dropOp w h) ∷ clearOp
-    ∷ leftToRun 7 ∷ leftToRun 8 ∷ (λ p w h a. endOp w h a) ∷ leftToRun 10 ∷ leftToRun 11
-    ∷ callOp ∷ (λ p w h a. retOp p w h) ∷ leftToRun 14 ∷ leftToRun 15 ∷ leftToRun 16
+    ∷ leftToRun atNewQ ∷ leftToRun atNewC ∷ (λ p w h a. endOp w h a) ∷ leftToRun atGate ∷ leftToRun atMeas
+    ∷ callOp ∷ (λ p w h a. retOp p w h) ∷ leftToRun atFork ∷ leftToRun atSend ∷ leftToRun atRecv
     ∷ jumpOp ∷ jfalseOp
     ∷ (λ p w h a. addOp w h) ∷ (λ p w h a. subOp w h) ∷ (λ p w h a. eqOp w h) ∷ (λ p w h a. lessOp w h) ∷
     (λ p w h a. notOp w h)
@@ -81,8 +81,8 @@ opFunctions =
 unfoldable pub actOp : List ℕ → List ℕ → Head → ℕ → ℕ → AfterStep
 actOp p w h op a = getD opFunctions op noOp p w h a
 
--- one step of a process whose part is w: 1 where it does not run
+-- one step of a process whose part is w
 unfoldable pub stepOp : List ℕ → List ℕ → AfterStep
 stepOp p w =
     cond (eqb (headOf w .status) 1) (actOp p w (headOf w) (opAt p (headOf w .place)) (argAt p (headOf w .place)))
-    (afterStep 1 w)
+    (afterStep notRunning w)

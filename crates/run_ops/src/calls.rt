@@ -16,6 +16,10 @@ use run_store::values::low;
 use run_store::values::put;
 use run_store::values::put_value;
 use run_store::values::value;
+use run_values::codes::AT_LAST_RET;
+use run_values::codes::EMPTY;
+use run_values::codes::FRAME_BEYOND_8;
+use run_values::codes::WENT_ON;
 use table::words::word_at;
 
 // How many parameters method m has.
@@ -55,13 +59,13 @@ pub fn op_call(p: &[u16], w: &mut [u32], h: Head, a: u16) -> u32
 {
     let n = params(p, a);
     if any_empty(w, h.top(1), n) {
-        return 20;
+        return EMPTY;
     }
     if 8 <= h.frames {
-        return 25;
+        return FRAME_BEYOND_8;
     }
     open_frame(p, w, h, a, n);
-    0
+    WENT_ON
 }
 
 // The top frame closed: its words are 0 again.
@@ -92,25 +96,25 @@ pub fn returns_void(p: &[u16], m: u32) -> bool
     t == 0
 }
 
-// RET: "return value off unless void; the frame goes". 113 where it is the root frame, which is left as it is.
+// RET: "return value off unless void; the frame goes". The root frame is left as it is, for the caller.
 pub fn op_ret(p: &[u16], w: &mut [u32], h: Head) -> u32
     ensures { λ r. ⌜ afterStep r (now (w .exit)) ≡ retOp (now (p .entry)) (now (w .entry)) h ⌝ }
 {
     let v = value(w, h.top(1));
     if returns_void(p, h.method) {
         if h.frames == 1 {
-            return 113;
+            return AT_LAST_RET;
         }
         close_frame(w, h);
-        return 0;
+        return WENT_ON;
     }
     if v.tag == 0 {
-        return 20;
+        return EMPTY;
     }
     if h.frames == 1 {
-        return 113;
+        return AT_LAST_RET;
     }
     close_frame(w, h);
     hand_back(w, v);
-    0
+    WENT_ON
 }

@@ -10,11 +10,20 @@ use run_store::values::Val;
 use run_store::values::empty;
 use run_store::values::get;
 use run_store::values::value;
+use run_values::codes::AT_SEND;
 use run_values::numbers::two_empty;
 use table::words::word_at;
 
-// Kind 0 is over or not made, 1 moves by itself, by a step or a fault, 2 offers to send, 3 to receive. An offer has
-// its end, and to send also its value.
+// The kinds of readiness: over or not made; moves by itself, by a step or a fault; offers to send; offers to receive.
+pub const OVER: u32 = 0;
+
+pub const MOVES: u32 = 1;
+
+pub const SENDS: u32 = 2;
+
+pub const RECEIVES: u32 = 3;
+
+// An offer has its end, and to send also its value.
 pub struct Readiness {
     pub kind: u32,
     pub end: Val,
@@ -36,10 +45,10 @@ fn sending(w: &[u32], h: Head) -> Readiness
     ensures { λ r. ⌜ r ≡ sendOf (now (w .entry)) h ⌝ }
 {
     if two_empty(w, h) {
-        return bare(1);
+        return bare(MOVES);
     }
     Readiness {
-        kind: 2,
+        kind: SENDS,
         end: value(w, h.top(2)),
         value: value(w, h.top(1)),
     }
@@ -50,10 +59,10 @@ fn receiving(w: &[u32], h: Head) -> Readiness
 {
     let e = value(w, h.top(1));
     if e.tag == 0 {
-        return bare(1);
+        return bare(MOVES);
     }
     Readiness {
-        kind: 3,
+        kind: RECEIVES,
         end: e,
         value: empty(),
     }
@@ -67,7 +76,7 @@ pub fn read_readiness(p: &[u16], start: usize, w: &[u32]) -> Readiness
 {
     let h = read_head(w);
     if h.status != 1 {
-        return bare(0);
+        return bare(OVER);
     }
     let op = word_at(p, start + 2 * (h.place as usize));
     if op == 15 {
@@ -76,15 +85,15 @@ pub fn read_readiness(p: &[u16], start: usize, w: &[u32]) -> Readiness
     if op == 16 {
         return receiving(w, h.wait());
     }
-    bare(1)
+    bare(MOVES)
 }
 
-// The offer of the process whose part is w, where its step answered 115, at SEND, or 116, at RECV.
+// The offer of the process whose part is w, where its step answered that it stands at SEND or RECV.
 pub fn read_offer(w: &[u32], code: u32) -> Readiness
     ensures { λ r. ⌜ r ≡ offerOf (now (w .entry)) code ⌝ }
 {
     let h = read_head(w);
-    if code == 115 {
+    if code == AT_SEND {
         return sending(w, h);
     }
     receiving(w, h)
@@ -125,7 +134,7 @@ fn either_way(a: u32, b: u32, x: u32, y: u32) -> bool
 pub fn meets(a: Readiness, b: Readiness) -> bool
     ensures { λ r. ⌜ r ≡ meetsOp a b ⌝ }
 {
-    if !either_way(a.kind, b.kind, 2, 3) {
+    if !either_way(a.kind, b.kind, SENDS, RECEIVES) {
         return false;
     }
     if a.end.number != b.end.number {

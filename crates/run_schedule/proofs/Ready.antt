@@ -39,6 +39,8 @@ use Rattle.run_ability.specs.EndingCode.{abilityOp, endingOp}
 use Rattle.run_ability.proofs.Able.{sound, able-is, ending-is}
 use Rattle.run_ability.proofs.Idle.{still-unable, alone-able}
 use Rattle.run_single.specs.declared.result.Count.{Count}
+use Rattle.run_single.specs.declared.result.Progress.{Progress}
+use Rattle.run_single.specs.declared.result.Progress.the-variants.{Unable, Taken, Full}
 use Rattle.run_single.specs.ResultCode.{AfterEntry, afterEntry, takenTo, idleAt, fullAt}
 use Rattle.run_entry.specs.EntryCode.{offerAt, entryOp}
 use Rattle.run_single.proofs.Here.{Here}
@@ -48,6 +50,11 @@ use Rattle.run_burst.specs.declared.knowledge.Knowledge.{Knowledge}
 use Rattle.run_burst.specs.KnowledgeCode.{nothingKnown, marked, isIdle, withIdle}
 use Rattle.run_burst.specs.TurnCode.{namedEntryOp}
 use Rattle.run_schedule.proofs.Modest.{modest}
+
+abbrev is-unable : Progress → Bool
+is-unable Unable = true
+is-unable Taken = false
+is-unable Full = false
 
 -- what is known of the inputs
 pub record Inputs (p schedule outcomes t0 rest : List ℕ) (room : ℕ) : Type 0 where
@@ -354,8 +361,8 @@ module _ {p schedule outcomes t0 rest : List ℕ} {room : ℕ} (given : Inputs p
         stays false = waiting-stays p outcomes trace₀ work₀ room t count₀ named code w
 
         go : (a f : Bool) → afterEntry (idleAt count₀) trace₀ work₀ ≡ comes a f → a ≡ false
-        go true true i = absurd (omega (arith, ap (λ (c : AfterEntry). c .result .state) i))
-        go true false i = absurd (omega (arith, ap (λ (c : AfterEntry). c .result .state) i))
+        go true true i = absurd (true≢false (ap (λ (c : AfterEntry). is-unable (c .result .progress)) i))
+        go true false i = absurd (true≢false (ap (λ (c : AfterEntry). is-unable (c .result .progress)) i))
         go false f i = refl
 
     -- who is able to move, read off the store

@@ -29,7 +29,7 @@ use Rattle.run_entry.specs.EntryCode.{oneLine, entryOp}
 use Rattle.run_entry.proofs.Beside.{beside}
 use Rattle.run_burst.specs.declared.knowledge.Knowledge.{Knowledge}
 use Rattle.run_burst.specs.KnowledgeCode.{nothingKnown, withIdle, alone, knownAfterStep, knownAfterEntry, unlessChanged}
-use Rattle.run_burst.specs.TurnCode.{AfterTurn, afterTurn, namedEntryOp, turnBy, turnOp}
+use Rattle.run_burst.specs.TurnCode.{AfterTurn, afterTurn, namedEntryOp, endAfter, knownAfter, turnBy, turnOp}
 use Rattle.run_burst.proofs.Knowing.{alone-so, entered-so}
 use Rattle.run_schedule.proofs.Ready.{Inputs, Stands, at, Idle, Ready, Over, reached, owned, named, effect, ready-next, ready-idle, trace₀, work₀, count₀, comes, comesTo, unmade, ready-there, not-able, idle-more, long, same-long, moved-idle, moved-goes}
 
@@ -52,7 +52,7 @@ module _ {p schedule outcomes t0 rest : List ℕ} {room : ℕ} (given : Inputs p
         → Turns t lines
         (turnOp p outcomes trace work room t (record { entry = k; lines = lines; used = used }) (named given k) code m
         known)
-    unfolding turnOp turnBy namedEntryOp holdersAfterLines changedFrom nothingKnown alone knownAfterStep knownAfterEntry unlessChanged
+    unfolding turnOp turnBy endAfter knownAfter namedEntryOp holdersAfterLines changedFrom nothingKnown alone knownAfterStep knownAfterEntry unlessChanged
     turn-law {work} {trace} {t} {lines} {used} {known} r l code m e =
         subst (λ (c : AfterEntry). Turns t lines (turnBy p t (named given k) code known c)) (sym e)
         (go (able p outcomes (at given k) (named given k)) (fits room (at given k) (effect given k)) refl refl)

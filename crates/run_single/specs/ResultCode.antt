@@ -2,16 +2,17 @@
 use Prim.Native.Nat.{ℕ}
 use mathlib.Core.List.{List}
 use Rattle.run_single.specs.declared.result.Count.{Count}
+use Rattle.run_single.specs.declared.result.Progress.the-variants.{Unable, Taken, Full}
 use Rattle.run_single.specs.declared.result.EntryResult.{EntryResult}
 
 abbrev pub takenTo : ℕ → ℕ → EntryResult
-takenTo lines used = record { state = 1; lines = lines; used = used }
+takenTo lines used = record { progress = Taken; lines = lines; used = used }
 
 abbrev pub idleAt : Count → EntryResult
-idleAt g = record { state = 0; lines = g .lines; used = g .used }
+idleAt g = record { progress = Unable; lines = g .lines; used = g .used }
 
 abbrev pub fullAt : Count → EntryResult
-fullAt g = record { state = 2; lines = g .lines; used = g .used }
+fullAt g = record { progress = Full; lines = g .lines; used = g .used }
 
 pub record AfterEntry : Type 0 where
   pub result : EntryResult

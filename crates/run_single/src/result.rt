@@ -9,10 +9,16 @@ pub struct Count {
     pub used: u32,
 }
 
-// State 0: the process cannot move; 1: the entry is taken; 2: its lines do not fit. Then the lines written and the
-// outcomes used.
+// How far an entry comes: its process cannot move, it is taken, or its lines do not fit.
+pub enum Progress {
+    Unable,
+    Taken,
+    Full,
+}
+
+// With it, the lines written and the outcomes used.
 pub struct EntryResult {
-    pub state: u32,
+    pub progress: Progress,
     pub lines: u32,
     pub used: u32,
 }
@@ -21,7 +27,7 @@ pub fn taken(lines: u32, used: u32) -> EntryResult
     ensures { λ r. ⌜ r ≡ takenTo lines used ⌝ }
 {
     EntryResult {
-        state: 1,
+        progress: Progress::Taken,
         lines: lines,
         used: used,
     }
@@ -31,7 +37,7 @@ pub fn idle(g: Count) -> EntryResult
     ensures { λ r. ⌜ r ≡ idleAt g ⌝ }
 {
     EntryResult {
-        state: 0,
+        progress: Progress::Unable,
         lines: g.lines,
         used: g.used,
     }
@@ -41,7 +47,7 @@ pub fn full(g: Count) -> EntryResult
     ensures { λ r. ⌜ r ≡ fullAt g ⌝ }
 {
     EntryResult {
-        state: 2,
+        progress: Progress::Full,
         lines: g.lines,
         used: g.used,
     }

@@ -9,7 +9,40 @@ use Rattle.run_store.specs.declared.values.Val.{Val}
 use Rattle.run_store.specs.declared.head.Head.{Head}
 use Rattle.run_store.specs.StoreCode.{valueAt, putValue, putTop, slotAt, topAt, movedTo, stepped, pushed, popped}
 
--- the code that a function answers, 0 where the process went on and else a fault, and the words that it leaves
+-- What a step answers: the process went on; it does not run; a fault, by its own number; or it stands at an op that
+-- reaches beyond the process or writes a line, which is left to the run: 100 and the op's number, of RET only where the
+-- root frame returns.
+abbrev pub wentOn : ℕ
+wentOn = 0
+
+abbrev pub notRunning : ℕ
+notRunning = 1
+
+abbrev pub atNewQ : ℕ
+atNewQ = 107
+
+abbrev pub atNewC : ℕ
+atNewC = 108
+
+abbrev pub atGate : ℕ
+atGate = 110
+
+abbrev pub atMeas : ℕ
+atMeas = 111
+
+abbrev pub atLastRet : ℕ
+atLastRet = 113
+
+abbrev pub atFork : ℕ
+atFork = 114
+
+abbrev pub atSend : ℕ
+atSend = 115
+
+abbrev pub atRecv : ℕ
+atRecv = 116
+
+-- this answer, and the words that a function leaves
 pub record AfterStep : Type 0 where
   pub code : ℕ
   pub words : List ℕ
@@ -53,27 +86,27 @@ unfoldable pub signExtended : ℕ → ℕ
 signExtended a = cond (ltb a 32768) a (a + 4294901760)
 
 unfoldable pub intOp : List ℕ → List ℕ → Head → ℕ → AfterStep
-intOp p w h a = afterStep 0 (pushOn w h (intVal (signExtended a)))
+intOp p w h a = afterStep wentOn (pushOn w h (intVal (signExtended a)))
 
 unfoldable pub boolOp : List ℕ → List ℕ → Head → ℕ → AfterStep
-boolOp p w h a = afterStep 0 (pushOn w h (boolVal a))
+boolOp p w h a = afterStep wentOn (pushOn w h (boolVal a))
 
 unfoldable pub clearOp : List ℕ → List ℕ → Head → ℕ → AfterStep
-clearOp p w h a = afterStep 0 (inSlot w h a emptyVal)
+clearOp p w h a = afterStep wentOn (inSlot w h a emptyVal)
 
 unfoldable pub getOp : List ℕ → Head → ℕ → AfterStep
-getOp w h a = unlessEmpty (valueAt w (slotAt h a)) w (afterStep 0 (pushOn w h (valueAt w (slotAt h a))))
+getOp w h a = unlessEmpty (valueAt w (slotAt h a)) w (afterStep wentOn (pushOn w h (valueAt w (slotAt h a))))
 
 unfoldable pub putOp : List ℕ → Head → ℕ → AfterStep
-putOp w h a = unlessEmpty (valueAt w (topAt h 1)) w (afterStep 0 (inSlot w h a (valueAt w (topAt h 1))))
+putOp w h a = unlessEmpty (valueAt w (topAt h 1)) w (afterStep wentOn (inSlot w h a (valueAt w (topAt h 1))))
 
 unfoldable pub dropOp : List ℕ → Head → AfterStep
-dropOp w h = unlessEmpty (valueAt w (topAt h 1)) w (afterStep 0 (dropTop w h))
+dropOp w h = unlessEmpty (valueAt w (topAt h 1)) w (afterStep wentOn (dropTop w h))
 
 unfoldable pub endOp : List ℕ → Head → ℕ → AfterStep
 endOp w h a =
     unlessEmpty (valueAt w (topAt h 1)) w
-    (afterStep 0 (onTop w h (record { tag = 5 + a; number = valueAt w (topAt h 1) .number })))
+    (afterStep wentOn (onTop w h (record { tag = 5 + a; number = valueAt w (topAt h 1) .number })))
 
 -- jumps
 
@@ -81,7 +114,7 @@ unfoldable pub targetOf : List ℕ → Head → ℕ → ℕ
 targetOf p h a = offsetOf p (h .method) + a
 
 unfoldable pub jumpOp : List ℕ → List ℕ → Head → ℕ → AfterStep
-jumpOp p w h a = afterStep 0 (putTop w (movedTo h (targetOf p h a)))
+jumpOp p w h a = afterStep wentOn (putTop w (movedTo h (targetOf p h a)))
 
 -- the top one off, and the frame at instruction i
 unfoldable pub dropTo : List ℕ → Head → ℕ → List ℕ
@@ -91,8 +124,8 @@ unfoldable pub jfalseOp : List ℕ → List ℕ → Head → ℕ → AfterStep
 jfalseOp p w h a =
     unlessEmpty (valueAt w (topAt h 1)) w
     (cond (eqb (valueAt w (topAt h 1) .number) 0)
-    (afterStep 0 (dropTo w h (targetOf p h a)))
-    (afterStep 0 (dropTop w h)))
+    (afterStep wentOn (dropTo w h (targetOf p h a)))
+    (afterStep wentOn (dropTop w h)))
 
 -- numbers
 
@@ -104,7 +137,7 @@ biased x = (x + 2147483648) % 4294967296
 unfoldable pub resultOp : List ℕ → Head → ℕ → AfterStep
 resultOp w h s =
     cond (ltb s 2147483648) (afterStep 26 w)
-    (cond (leb 6442450944 s) (afterStep 26 w) (afterStep 0 (overTwo w h (intVal (s % 4294967296)))))
+    (cond (leb 6442450944 s) (afterStep 26 w) (afterStep wentOn (overTwo w h (intVal (s % 4294967296)))))
 
 -- two operands, the deeper first: one of them is emptied; their numbers
 unfoldable pub emptyTwo : List ℕ → Head → Bool
@@ -124,12 +157,12 @@ bit true = 1
 bit false = 0
 
 unfoldable pub eqOp : List ℕ → Head → AfterStep
-eqOp w h = twoOp w h (λ x y. afterStep 0 (overTwo w h (boolVal (bit (eqb x y)))))
+eqOp w h = twoOp w h (λ x y. afterStep wentOn (overTwo w h (boolVal (bit (eqb x y)))))
 
 unfoldable pub lessOp : List ℕ → Head → AfterStep
-lessOp w h = twoOp w h (λ x y. afterStep 0 (overTwo w h (boolVal (bit (ltb (biased x) (biased y))))))
+lessOp w h = twoOp w h (λ x y. afterStep wentOn (overTwo w h (boolVal (bit (ltb (biased x) (biased y))))))
 
 unfoldable pub notOp : List ℕ → Head → AfterStep
 notOp w h =
     unlessEmpty (valueAt w (topAt h 1)) w
-    (afterStep 0 (onTop w h (boolVal (bit (eqb (valueAt w (topAt h 1) .number) 0)))))
+    (afterStep wentOn (onTop w h (boolVal (bit (eqb (valueAt w (topAt h 1) .number) 0)))))

@@ -1,6 +1,8 @@
 // JUMP and JFALSE.
 ghost use mathlib.Core.Path.{_≡_};
 ghost use Rattle.run_values.specs.ValuesCode.{afterStep, targetOf, dropTo, jumpOp, jfalseOp};
+use super::codes::EMPTY;
+use super::codes::WENT_ON;
 use super::moves::discard;
 use run_store::head::Head;
 use run_store::head::put_top;
@@ -21,7 +23,7 @@ pub fn op_jump(p: &[u16], w: &mut [u32], h: Head, a: u16) -> u32
     ensures { λ r. ⌜ afterStep r (now (w .exit)) ≡ jumpOp (now (p .entry)) (now (w .entry)) h a ⌝ }
 {
     put_top(w, h.to(target(p, h, a)));
-    0
+    WENT_ON
 }
 
 // The top value off, and the frame at instruction `to`.
@@ -38,12 +40,12 @@ pub fn op_jfalse(p: &[u16], w: &mut [u32], h: Head, a: u16) -> u32
 {
     let v = value(w, h.top(1));
     if v.tag == 0 {
-        return 20;
+        return EMPTY;
     }
     if v.number == 0 {
         discard_to(w, h, target(p, h, a));
-        return 0;
+        return WENT_ON;
     }
     discard(w, h);
-    0
+    WENT_ON
 }

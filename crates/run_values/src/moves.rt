@@ -1,6 +1,8 @@
-// Values pushed, taken and stored. Each function that can fault answers 20 and changes nothing, or 0.
+// Values pushed, taken and stored. A function that can fault answers the fault and changes nothing.
 ghost use mathlib.Core.Path.{_≡_};
 ghost use Rattle.run_values.specs.ValuesCode.{afterStep, pushOn, onTop, dropTop, overTwo, inSlot, signExtended, intOp, boolOp, clearOp, getOp, putOp, dropOp, endOp};
+use super::codes::EMPTY;
+use super::codes::WENT_ON;
 use run_store::head::Head;
 use run_store::head::put_top;
 use run_store::values::Val;
@@ -71,7 +73,7 @@ pub fn op_int(p: &[u16], w: &mut [u32], h: Head, a: u16) -> u32
             number: extend(a),
         },
     );
-    0
+    WENT_ON
 }
 
 pub fn op_bool(p: &[u16], w: &mut [u32], h: Head, a: u16) -> u32
@@ -85,7 +87,7 @@ pub fn op_bool(p: &[u16], w: &mut [u32], h: Head, a: u16) -> u32
             number: a as u32,
         },
     );
-    0
+    WENT_ON
 }
 
 // CLEAR: "empty it".
@@ -93,7 +95,7 @@ pub fn op_clear(p: &[u16], w: &mut [u32], h: Head, a: u16) -> u32
     ensures { λ r. ⌜ afterStep r (now (w .exit)) ≡ clearOp (now (p .entry)) (now (w .entry)) h a ⌝ }
 {
     store_slot(w, h, a, empty());
-    0
+    WENT_ON
 }
 
 // GET: "push its value".
@@ -102,10 +104,10 @@ pub fn op_get(w: &mut [u32], h: Head, a: u16) -> u32
 {
     let v = value(w, h.slot(a));
     if v.tag == 0 {
-        return 20;
+        return EMPTY;
     }
     push(w, h, v);
-    0
+    WENT_ON
 }
 
 // PUT: "store the top, leave it on top".
@@ -114,10 +116,10 @@ pub fn op_put(w: &mut [u32], h: Head, a: u16) -> u32
 {
     let v = value(w, h.top(1));
     if v.tag == 0 {
-        return 20;
+        return EMPTY;
     }
     store_slot(w, h, a, v);
-    0
+    WENT_ON
 }
 
 // DROP: "take the top away".
@@ -126,10 +128,10 @@ pub fn op_drop(w: &mut [u32], h: Head) -> u32
 {
     let v = value(w, h.top(1));
     if v.tag == 0 {
-        return 20;
+        return EMPTY;
     }
     discard(w, h);
-    0
+    WENT_ON
 }
 
 // END: "channel off, that end on". An end has the tag 5 or 6, by its side, and the channel's number.
@@ -138,7 +140,7 @@ pub fn op_end(w: &mut [u32], h: Head, a: u16) -> u32
 {
     let v = value(w, h.top(1));
     if v.tag == 0 {
-        return 20;
+        return EMPTY;
     }
     replace(
         w,
@@ -148,5 +150,5 @@ pub fn op_end(w: &mut [u32], h: Head, a: u16) -> u32
             number: v.number,
         },
     );
-    0
+    WENT_ON
 }

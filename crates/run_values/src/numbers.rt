@@ -4,6 +4,9 @@ ghost use mathlib.Core.Path.{_≡_};
 ghost use Prim.Native.Nat.{_+_, _-_, _<_};
 ghost use Rattle.run_store.specs.StoreCode.{valueAt, topAt};
 ghost use Rattle.run_values.specs.ValuesCode.{afterStep, boolVal, bit, biased, emptyTwo, resultOp, addOp, subOp, eqOp, lessOp, notOp};
+use super::codes::EMPTY;
+use super::codes::OUT_OF_RANGE;
+use super::codes::WENT_ON;
 use super::moves::replace;
 use super::moves::replace_two;
 use run_store::head::Head;
@@ -43,15 +46,15 @@ pub fn flag(b: bool) -> Val
     Val { tag: 2, number: 0 }
 }
 
-// The int whose number, moved up by 2^32, is s, in place of two operands; 26 where it is out of range.
+// The int whose number, moved up by 2^32, is s, in place of two operands, where it is in range.
 pub fn result(w: &mut [u32], h: Head, s: u64) -> u32
     ensures { λ r. ⌜ afterStep r (now (w .exit)) ≡ resultOp (now (w .entry)) h s ⌝ }
 {
     if s < 2147483648 {
-        return 26;
+        return OUT_OF_RANGE;
     }
     if 6442450944 <= s {
-        return 26;
+        return OUT_OF_RANGE;
     }
     replace_two(
         w,
@@ -61,14 +64,14 @@ pub fn result(w: &mut [u32], h: Head, s: u64) -> u32
             number: (s % 4294967296) as u32,
         },
     );
-    0
+    WENT_ON
 }
 
 pub fn op_add(w: &mut [u32], h: Head) -> u32
     ensures { λ r. ⌜ afterStep r (now (w .exit)) ≡ addOp (now (w .entry)) h ⌝ }
 {
     if two_empty(w, h) {
-        return 20;
+        return EMPTY;
     }
     let x = number(w, h, 2);
     let y = number(w, h, 1);
@@ -79,7 +82,7 @@ pub fn op_sub(w: &mut [u32], h: Head) -> u32
     ensures { λ r. ⌜ afterStep r (now (w .exit)) ≡ subOp (now (w .entry)) h ⌝ }
 {
     if two_empty(w, h) {
-        return 20;
+        return EMPTY;
     }
     let x = number(w, h, 2);
     let y = number(w, h, 1);
@@ -90,24 +93,24 @@ pub fn op_eq(w: &mut [u32], h: Head) -> u32
     ensures { λ r. ⌜ afterStep r (now (w .exit)) ≡ eqOp (now (w .entry)) h ⌝ }
 {
     if two_empty(w, h) {
-        return 20;
+        return EMPTY;
     }
     let x = number(w, h, 2);
     let y = number(w, h, 1);
     replace_two(w, h, flag(x == y));
-    0
+    WENT_ON
 }
 
 pub fn op_less(w: &mut [u32], h: Head) -> u32
     ensures { λ r. ⌜ afterStep r (now (w .exit)) ≡ lessOp (now (w .entry)) h ⌝ }
 {
     if two_empty(w, h) {
-        return 20;
+        return EMPTY;
     }
     let x = number(w, h, 2);
     let y = number(w, h, 1);
     replace_two(w, h, flag(bias(x) < bias(y)));
-    0
+    WENT_ON
 }
 
 pub fn op_not(w: &mut [u32], h: Head) -> u32
@@ -115,8 +118,8 @@ pub fn op_not(w: &mut [u32], h: Head) -> u32
 {
     let v = value(w, h.top(1));
     if v.tag == 0 {
-        return 20;
+        return EMPTY;
     }
     replace(w, h, flag(v.number == 0));
-    0
+    WENT_ON
 }

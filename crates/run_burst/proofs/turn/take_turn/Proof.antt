@@ -1,5 +1,8 @@
--- `take_turn` goes by what the entry came to.
-use Rattle.run_burst.proofs.Returns.{turn-full, turn-moves, turn-asks}
+-- `take_turn` goes by how far the entry comes.
+use mathlib.Core.Path.{refl}
+use Rattle.run_single.specs.declared.result.Progress.the-variants.{Unable, Taken, Full}
+use Rattle.run_burst.specs.TurnCode.{endAfter, knownAfter}
+use Rattle.run_burst.proofs.Returns.{turn-is}
 use borrow.Author.Needs.{needs}
 use Rattle.run_burst.proofs.turn.take_turn.Statement.{statement}
 use Rattle.run_burst.proofs.turn.take_turn.Tie as tie
@@ -7,8 +10,26 @@ use Rattle.run_burst.proofs.turn.take_turn.Tie as tie
 named-entry-requires : tie.Need-named-entry-requires
 named-entry-requires c κs = search needs
 
+enum-told : tie.Need-enum-told
+enum-told c = search needs
+
 nothing-known-requires : tie.Need-nothing-known-requires
 nothing-known-requires c κs = search needs
+
+enum-told-2 : tie.Need-enum-told-2
+enum-told-2 c = search needs
+
+known-after-entry-requires : tie.Need-known-after-entry-requires
+known-after-entry-requires c κs = search needs
+
+enum-told-3 : tie.Need-enum-told-3
+enum-told-3 c = search needs
+
+ending-requires : tie.Need-ending-requires
+ending-requires c κs = search needs
+
+with-idle-requires : tie.Need-with-idle-requires
+with-idle-requires c κs = search needs
 
 same-length : tie.Need-same-length
 same-length c = search needs
@@ -17,16 +38,14 @@ same-length-2 : tie.Need-same-length-2
 same-length-2 c = search needs
 
 returns : tie.Need-returns
+unfolding endAfter knownAfter
 returns c =
-    let at-if1 = c .before in
-    let at-named-entry = at-if1 .before .before .before .before .before .before in
+    let at-told = c .before in
+    let at-named-entry = at-told .before .before .before .before .before .before in
     let args = at-named-entry .before .before .before .before .before .before .before .args in
-    turn-full (args .p .now) (args .outcomes .now) (args .trace .now) (args .work .now) (args .room) (args .t .now)
+    turn-is (args .p .now) (args .outcomes .now) (args .trace .now) (args .work .now) (args .room) (args .t .now)
     (args .g) (args .n) (args .code) (args .offer) (args .known) (at-named-entry .named-entry .ensures)
-    (at-if1 .if1 .taken) (c .nothing-known .ensures)
-
-known-after-entry-requires : tie.Need-known-after-entry-requires
-known-after-entry-requires c κs = search needs
+    Full (at-told .enum-told .given .1) refl (c .nothing-known .ensures)
 
 same-length-3 : tie.Need-same-length-3
 same-length-3 c = search needs
@@ -35,20 +54,14 @@ same-length-4 : tie.Need-same-length-4
 same-length-4 c = search needs
 
 returns-2 : tie.Need-returns-2
+unfolding endAfter knownAfter
 returns-2 c =
-    let at-if2 = c .before .before in
-    let at-if1 = at-if2 .before .before in
-    let at-named-entry = at-if1 .before .before .before .before .before .before in
+    let at-told = c .before .before in
+    let at-named-entry = at-told .before .before .before .before .before .before in
     let args = at-named-entry .before .before .before .before .before .before .before .args in
-    turn-moves (args .p .now) (args .outcomes .now) (args .trace .now) (args .work .now) (args .room) (args .t .now)
+    turn-is (args .p .now) (args .outcomes .now) (args .trace .now) (args .work .now) (args .room) (args .t .now)
     (args .g) (args .n) (args .code) (args .offer) (args .known) (at-named-entry .named-entry .ensures)
-    (at-if1 .if1 .left) (at-if2 .if2 .taken) (c .known-after-entry .ensures)
-
-ending-requires : tie.Need-ending-requires
-ending-requires c κs = search needs
-
-with-idle-requires : tie.Need-with-idle-requires
-with-idle-requires c κs = search needs
+    Taken (at-told .enum-told2 .given .1) refl (c .known-after-entry .ensures)
 
 same-length-5 : tie.Need-same-length-5
 same-length-5 c = search needs
@@ -57,31 +70,33 @@ same-length-6 : tie.Need-same-length-6
 same-length-6 c = search needs
 
 returns-3 : tie.Need-returns-3
+unfolding endAfter knownAfter
 returns-3 c =
-    let at-ending = c .before in
-    let at-if2 = at-ending .before .before in
-    let at-if1 = at-if2 .before .before in
-    let at-named-entry = at-if1 .before .before .before .before .before .before in
+    let at-told = c .before .before .before in
+    let at-named-entry = at-told .before .before .before .before .before .before in
     let args = at-named-entry .before .before .before .before .before .before .before .args in
-    turn-asks (args .p .now) (args .outcomes .now) (args .trace .now) (args .work .now) (args .room) (args .t .now)
+    turn-is (args .p .now) (args .outcomes .now) (args .trace .now) (args .work .now) (args .room) (args .t .now)
     (args .g) (args .n) (args .code) (args .offer) (args .known) (at-named-entry .named-entry .ensures)
-    (at-if1 .if1 .left) (at-if2 .if2 .left) (at-ending .ending .ensures) (c .with-idle .ensures)
+    Unable (at-told .enum-told3 .given .1) (c .before .ending .ensures) (c .with-idle .ensures)
 
 pub take-turn-spec : {M : Type 1} → statement M
 take-turn-spec =
     tie.close
     (tie.spec
     named-entry-requires
+    enum-told
     nothing-known-requires
+    enum-told-2
+    known-after-entry-requires
+    enum-told-3
+    ending-requires
+    with-idle-requires
     same-length
     same-length-2
     returns
-    known-after-entry-requires
     same-length-3
     same-length-4
     returns-2
-    ending-requires
-    with-idle-requires
     same-length-5
     same-length-6
     returns-3)
