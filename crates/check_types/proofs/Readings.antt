@@ -37,16 +37,16 @@ both-pass true false false o = refl
 both-pass false y true o = refl
 both-pass false y false o = refl
 
-settle-passes : (g : Option (List ℕ)) (rest : List ℕ) (bare b : Bool)
+result-passes : (g : Option (List ℕ)) (rest : List ℕ) (bare b : Bool)
     → cond
     (not (isNone g) &&
     (leb (length (Option·getD g [] ++ rest)) 8 && ((not bare || isNil (Option·getD g [] ++ rest)) && b)))
     (some (Option·getD g [] ++ rest)) none
     ≡ cond b (ruleResult bare rest g) none
 unfolding ruleResult
-settle-passes none rest bare true = refl
-settle-passes none rest bare false = refl
-settle-passes (some gs) rest bare b =
+result-passes none rest bare true = refl
+result-passes none rest bare false = refl
+result-passes (some gs) rest bare b =
     both-pass (leb (length (gs ++ rest)) 8) (not bare || isNil (gs ++ rest)) b (some (gs ++ rest))
 
 -- those that the operands do not decide
@@ -56,7 +56,7 @@ free p i = (not (isTarget p i) || isNil (before p i)) && (not (isLast p i) || op
 read-on : (p : List ℕ) (i : ℕ)
     → readOn p i ≡ cond (free p i) (stepped p (ownerOf p i) (opAt p i) (argAt p i) (before p i)) none
 unfolding readOn reads after stepped stepOf givenAt takenAt
-read-on p i = settle-passes (givenAt p i (before p i)) (drop (takenAt p i) (before p i)) (opThere p i .bare) (free p i)
+read-on p i = result-passes (givenAt p i (before p i)) (drop (takenAt p i) (before p i)) (opThere p i .bare) (free p i)
 
 -- The same tests as the code puts them
 

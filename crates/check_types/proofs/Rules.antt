@@ -129,35 +129,35 @@ offs-found (w ∷ ws) (x ∷ xs) = rw (leb·suc-suc (length ws) (length xs)) (on
     on false ih = offs-none ws ∙ sym (cond-none enough)
 
 -- what stands once the operands are off
-settled : Bool → List ℕ → Option (List ℕ) → Option (List ℕ)
-settled bare gs none = none
-settled bare gs (some rest) = ruleResult bare rest (some gs)
+resultFrom : Bool → List ℕ → Option (List ℕ) → Option (List ℕ)
+resultFrom bare gs none = none
+resultFrom bare gs (some rest) = ruleResult bare rest (some gs)
 
-settle-taken : (bare : Bool) (gs rest : List ℕ) (b c : Bool)
-    → ruleResult bare rest (cond b (cond c (some gs) none) none) ≡ settled bare gs
+result-taken : (bare : Bool) (gs rest : List ℕ) (b c : Bool)
+    → ruleResult bare rest (cond b (cond c (some gs) none) none) ≡ resultFrom bare gs
     (cond b (cond c (some rest) none) none)
-unfolding ruleResult settled
-settle-taken bare gs rest true true = refl
-settle-taken bare gs rest true false = refl
-settle-taken bare gs rest false c = refl
+unfolding ruleResult resultFrom
+result-taken bare gs rest true true = refl
+result-taken bare gs rest true false = refl
+result-taken bare gs rest false c = refl
 
 step-wants : (ws gs : List ℕ) (bare : Bool) (ts : List ℕ)
-    → stepOf (length ws) (wants ws gs) bare ts ≡ settled bare gs (takeOffs ws (some ts))
+    → stepOf (length ws) (wants ws gs) bare ts ≡ resultFrom bare gs (takeOffs ws (some ts))
 unfolding stepOf
 step-wants ws gs bare ts =
-    settle-taken bare gs (drop (length ws) ts) (leb (length ws) (length ts)) (same (take (length ws) ts) ws)
-    ∙ ap (settled bare gs) (sym (offs-found ws ts))
+    result-taken bare gs (drop (length ws) ts) (leb (length ws) (length ts)) (same (take (length ws) ts) ws)
+    ∙ ap (resultFrom bare gs) (sym (offs-found ws ts))
 
-settled-value : (g : ℕ) (o : Option (List ℕ)) → settled false (g ∷ []) o ≡ putOn g o
-unfolding ruleResult settled putOn
-settled-value g none = refl
-settled-value g (some rest) = rw and-true
+result-value : (g : ℕ) (o : Option (List ℕ)) → resultFrom false (g ∷ []) o ≡ putOn g o
+unfolding ruleResult resultFrom putOn
+result-value g none = refl
+result-value g (some rest) = rw and-true
 
-settled-bare : (o : Option (List ℕ)) → settled true [] o ≡ bared o
-unfolding ruleResult settled bared
-settled-bare none = refl
-settled-bare (some []) = refl
-settled-bare (some (x ∷ xs)) = rw and-false
+result-bare : (o : Option (List ℕ)) → resultFrom true [] o ≡ bared o
+unfolding ruleResult resultFrom bared
+result-bare none = refl
+result-bare (some []) = refl
+result-bare (some (x ∷ xs)) = rw and-false
 
 -- at most eight values
 abbrev Few : Option (List ℕ) → Type 0
@@ -175,28 +175,28 @@ unfolding takeOffs
 few-offs [] o h = h
 few-offs (w ∷ ws) o h = few-offs ws (takeOff w o) (few-off w o h)
 
-settled-plain : (o : Option (List ℕ)) → Few o → settled false [] o ≡ o
-unfolding ruleResult settled
-settled-plain none h = refl
-settled-plain (some rest) h = rw (le-leb (length rest) 8 h)
+result-plain : (o : Option (List ℕ)) → Few o → resultFrom false [] o ≡ o
+unfolding ruleResult resultFrom
+result-plain none h = refl
+result-plain (some rest) h = rw (le-leb (length rest) 8 h)
 
 -- The rules of their own kind
 
 drop-rule : (ts : List ℕ) → droppedOne (some ts) ≡ stepOf 1 (λ xs. some []) true ts
-unfolding droppedOne stepOf ruleResult settled
+unfolding droppedOne stepOf ruleResult resultFrom
 drop-rule [] = refl
-drop-rule (x ∷ xs) = rw (leb·suc-suc 0 (length xs), leb·zero (length xs)) (sym (settled-bare (some xs)))
+drop-rule (x ∷ xs) = rw (leb·suc-suc 0 (length xs), leb·zero (length xs)) (sym (result-bare (some xs)))
 
 top-rule : (test : ℕ → Bool) (f : ℕ → ℕ) → test 0 ≡ false → (ts : List ℕ)
     → cond (test (topOf (some ts))) (putOn (f (topOf (some ts))) (takeOff (topOf (some ts)) (some ts))) none
     ≡ stepOf 1 (λ xs. cond (test (getD xs 0 0)) (some (f (getD xs 0 0) ∷ [])) none) false ts
-unfolding topOf takeOff stepOf ruleResult settled
+unfolding topOf takeOff stepOf ruleResult resultFrom
 top-rule test f e [] = rw e
 top-rule test f e (x ∷ xs) =
     rw (eq-eqb x x refl, leb·suc-suc 0 (length xs), leb·zero (length xs)) (by (test x))
   where
     by : (b : Bool) → cond b (putOn (f x) (some xs)) none ≡ ruleResult false xs (cond b (some (f x ∷ [])) none)
-    by true = sym (settled-value (f x) (some xs))
+    by true = sym (result-value (f x) (some xs))
     by false = refl
 
 -- a value and the end that carries it
@@ -226,7 +226,7 @@ none-carried x y e =
 
 send-rule : (ts : List ℕ) → sent (some ts)
     ≡ stepOf 2 (λ xs. cond (isEnd (getD xs 1 0) && eqb (getD xs 0 0) (carriedBy (getD xs 1 0))) (some []) none) true ts
-unfolding sent topOf takeOff bared stepOf ruleResult settled
+unfolding sent topOf takeOff bared stepOf ruleResult resultFrom
 send-rule [] = refl
 send-rule (x ∷ []) = rw (eq-eqb x x refl) (cond-none (isCarried x))
 send-rule (x ∷ y ∷ zs) =
@@ -234,7 +234,7 @@ send-rule (x ∷ y ∷ zs) =
     (whether (isCarried x) refl)
   where
     by : (b : Bool) → bared (cond b (some zs) none) ≡ ruleResult true zs (cond b (some []) none)
-    by true = sym (settled-bare (some zs))
+    by true = sym (result-bare (some zs))
     by false = refl
 
     whether : (b : Bool) → isCarried x ≡ b → cond b (bared (cond (eqb y (x + 32)) (some zs) none)) none
@@ -260,19 +260,19 @@ module _ (q : Pending) (few : q .count ≤ 8) where
       → putOn g (takeOffs ws (resultIn q)) ≡ stepOf (length ws) (wants ws (g ∷ [])) false (typesOf q)
   gives-value ws g =
       ap (λ o. putOn g (takeOffs ws o)) found
-      ∙ sym (step-wants ws (g ∷ []) false (typesOf q) ∙ settled-value g (takeOffs ws (some (typesOf q))))
+      ∙ sym (step-wants ws (g ∷ []) false (typesOf q) ∙ result-value g (takeOffs ws (some (typesOf q))))
 
   pub gives-nothing : (ws : List ℕ) → takeOffs ws (resultIn q) ≡ stepOf (length ws) (wants ws []) false (typesOf q)
   gives-nothing ws =
       let low : length (typesOf q) ≤ 8 = omega (arith, types-length (q .count) (q .types)) in
       ap (takeOffs ws) found
-      ∙ sym (step-wants ws [] false (typesOf q) ∙ settled-plain _ (few-offs ws (some (typesOf q)) low))
+      ∙ sym (step-wants ws [] false (typesOf q) ∙ result-plain _ (few-offs ws (some (typesOf q)) low))
 
   pub leaves-nothing : (ws : List ℕ)
       → bared (takeOffs ws (resultIn q)) ≡ stepOf (length ws) (wants ws []) true (typesOf q)
   leaves-nothing ws =
       ap (λ o. bared (takeOffs ws o)) found
-      ∙ sym (step-wants ws [] true (typesOf q) ∙ settled-bare (takeOffs ws (some (typesOf q))))
+      ∙ sym (step-wants ws [] true (typesOf q) ∙ result-bare (takeOffs ws (some (typesOf q))))
 
   -- DROP
   pub drops-one : droppedOne (resultIn q) ≡ stepOf 1 (λ xs. some []) true (typesOf q)

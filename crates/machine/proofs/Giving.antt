@@ -69,8 +69,8 @@ things-cover (ref t ∷ vs) x r =
 -- the giver
 
 -- a value that is left reaches what it reached, and nothing that was given
-abbrev Left : List Value → List Thing → Thing → Value → Type 0
-Left ys ts x v = T (names x v) → InReach ys x × (T (covered ts x) → ⊥)
+abbrev Remains : List Value → List Thing → Thing → Value → Type 0
+Remains ys ts x v = T (names x v) → InReach ys x × (T (covered ts x) → ⊥)
 
 -- a given thing that covers what v reaches takes v with it
 lost-common : (ts : List Thing) (x : Thing) (v : Value) → T (names x v) → T (covered ts x)
@@ -84,27 +84,27 @@ lost-common ts x (ref w) r c =
     (λ t u. ⊎-elim (or-left (covers t w) (covers w t)) (or-right (covers t w) (covers w t)) (covers-common t w x u r))
     ts c
 
-value-left : (ys : List Value) (ts : List Thing) (x : Thing) (v : Value) → Within ys v → Left ys ts x (without ts v)
+value-remains : (ys : List Value) (ts : List Thing) (x : Thing) (v : Value) → Within ys v → Remains ys ts x (without ts v)
 unfolding without names
-value-left ys ts x v w =
-    cond-each (Left ys ts x) (any (λ t. lostWith t v) ts) (λ e r. absurd r)
+value-remains ys ts x v w =
+    cond-each (Remains ys ts x) (any (λ t. lostWith t v) ts) (λ e r. absurd r)
     (λ e r. (w x r, λ c. clash e (lost-common ts x v r c)))
 
 pub giver-left : (ys : List Value) (ts : List Thing) (fs : List Frame) → FramesWithin ys fs → (x : Thing)
     → InReach (valuesOf (framesWithout ts fs)) x → InReach ys x × (T (covered ts x) → ⊥)
 unfolding framesWithout frameWithout
 giver-left ys ts fs h x r =
-    any-elim (names x) (Left ys ts x) (InReach ys x × (T (covered ts x) → ⊥)) (λ v l u. l u)
+    any-elim (names x) (Remains ys ts x) (InReach ys x × (T (covered ts x) → ⊥)) (λ v l u. l u)
     (valuesOf (framesWithout ts fs))
-    (All-values (Left ys ts x) (framesWithout ts fs)
-    (All-map (λ f. All (Left ys ts x) (f .slots) × All (Left ys ts x) (f .pending)) (frameWithout ts) fs
+    (All-values (Remains ys ts x) (framesWithout ts fs)
+    (All-map (λ f. All (Remains ys ts x) (f .slots) × All (Remains ys ts x) (f .pending)) (frameWithout ts) fs
     (All-implies (FrameWithin ys) _ (λ f w. (each (f .slots) (w .slots), each (f .pending) (w .pending))) fs h)))
     r
   where
-    each : (vs : List Value) → All (Within ys) vs → All (Left ys ts x) (map (without ts) vs)
+    each : (vs : List Value) → All (Within ys) vs → All (Remains ys ts x) (map (without ts) vs)
     each vs a =
-        All-map (Left ys ts x) (without ts) vs
-        (All-implies (Within ys) (λ v. Left ys ts x (without ts v)) (value-left ys ts x) vs a)
+        All-map (Remains ys ts x) (without ts) vs
+        (All-implies (Within ys) (λ v. Remains ys ts x (without ts v)) (value-remains ys ts x) vs a)
 
 -- the new holder
 

@@ -3,8 +3,8 @@
 -- What moved is the bound of question 6: byte 2 was refused and is now an outcome. Document 01's rule of MEAS knows the
 -- outcomes 0 and 1 alone. For an outcome list of 0s and 1s the questions answer as they did (`asked-before`), every
 -- process would do what it would by that rule (`acts-before`), and so the run, with its lines, counts, end and
--- configuration, is the same one (`ran-before`), and the answer too (`answered-before`). A byte 2 is told apart: there
--- question 6 said no, and says yes now (`two-allowed`).
+-- configuration, is the same one (`ran-before`), and the answer too (`answered-before`). A byte 2 makes a difference:
+-- there question 6 said no, and says yes now (`two-allowed`).
 use Prim.Native.Nat.{ℕ, _≤_}
 use mathlib.Core.Path.{_≡_, refl, sym, _∙_, ap, ap₂}
 use mathlib.Core.Logic.{⊎-elim}

@@ -40,7 +40,7 @@ pub record Kept (c : Config) (ls : List Line) : Type 0 where
 
 -- What an entry does to ownership: the things ts go to process q by its lines. Beyond what they cover, a process
 -- reaches only what it reached, and of that nothing that they cover unless it is q.
-record Moved (c c′ : Config) (ls new : List Line) (q : ℕ) (ts : List Thing) : Type 0 where
+record Transfer (c c′ : Config) (ls new : List Line) (q : ℕ) (ts : List Thing) : Type 0 where
   reach : (m : ℕ) (x : Thing) → T (reaches (processAt c′ m) x)
       → ((m ≡ q) × T (covered ts x)) ⊎ (T (reaches (processAt c m) x) × ((m ≡ q) ⊎ (T (covered ts x) → ⊥)))
   still : (x : Thing) → Made c x → Made c′ x
@@ -68,9 +68,9 @@ choice-some false h q (inl w) = w
 choice-some false h q (inr t) = absurd t
 
 -- any entry keeps the invariant
-moved-keeps : (c c′ : Config) (ls new : List Line) (q : ℕ) (ts : List Thing) → Moved c c′ ls new q ts → Kept c ls
+transfer-keeps : (c c′ : Config) (ls new : List Line) (q : ℕ) (ts : List Thing) → Transfer c c′ ls new q ts → Kept c ls
     → Kept c′ (ls ++ new)
-moved-keeps c c′ ls new q ts v h = record {
+transfer-keeps c c′ ls new q ts v h = record {
   named = λ x n r. v .holders x ∙ ⊎-elim (given x n) (stayed x n) (v .reach n x r);
   made = λ x n r. ⊎-elim (λ g. v .fresh x (g .1)) (λ o. v .still x (h .made x n (o .0))) (v .reach n x r);
   held = λ x m.
@@ -117,8 +117,8 @@ still-joined c pr (qubit k) h = h
 still-joined c pr (channel k) h = h
 still-joined c pr (end k s) h = h
 
-moved-nothing : (c : Config) (ls : List Line) → Moved c c ls [] 0 []
-moved-nothing c ls = record {
+transfer-nothing : (c : Config) (ls : List Line) → Transfer c c ls [] 0 []
+transfer-nothing c ls = record {
   reach = λ m x r. inr (r, inr (λ b. b));
   still = λ x h. h;
   fresh = λ x b. absurd b;
@@ -133,7 +133,7 @@ module _ (c : Config) (ls : List Line) (h : Kept c ls) (k n : ℕ) where
   own = valuesOf (processAt c n .frames)
 
   moved-within : (pr : Process) (es : List Event) → FramesWithin own (pr .frames) → All (Quiet own) es
-      → Moved c (setProcess c n pr) ls (map (lineOf k n) es) n []
+      → Transfer c (setProcess c n pr) ls (map (lineOf k n) es) n []
   unfolding reaches
   moved-within pr es w q = record {
     reach = λ m x r.
@@ -231,7 +231,7 @@ module _ (c : Config) (ls : List Line) (h : Kept c ls) (k n : ℕ) where
       line-free ls (lineOf k n (making (end a s))) (omega arith) (omega arith) (omega arith) (omega arith)
 
   moved-making : (t : Thing) (fs : List Frame) → Next (c .qubits) (c .channels) t → FramesWithin (ref t ∷ own) fs
-      → Moved c (counted t (setProcess c n (runs fs))) ls (lineOf k n (making t) ∷ []) n (t ∷ [])
+      → Transfer c (counted t (setProcess c n (runs fs))) ls (lineOf k n (making t) ∷ []) n (t ∷ [])
   unfolding reaches names
   moved-making t fs e w = record {
     reach = λ m x r.
@@ -289,7 +289,7 @@ module _ (c : Config) (ls : List Line) (h : Kept c ls) (k n : ℕ) where
 
   moved-forking : Dated k ls → (p : List ℕ) (m : ℕ) (args : List Value) (fs : List Frame) (params : ℕ)
       → All (Within own) args → FramesWithin own fs
-      → Moved c (joined (setProcess c n (runs (framesWithout (thingsOf args) fs))) (runs (started p m args ∷ []))) ls
+      → Transfer c (joined (setProcess c n (runs (framesWithout (thingsOf args) fs))) (runs (started p m args ∷ []))) ls
       (map (lineOf k n) (forked (length (c .processes)) m params ∷ map (gave (length (c .processes))) (thingsOf args)))
       (length (c .processes))
       (thingsOf args)
@@ -348,7 +348,7 @@ module _ (c : Config) (ls : List Line) (h : Kept c ls) (k n : ℕ) where
 
   moved-meeting : Dated k ls → (q ch : ℕ) (d : Bool) (v : Value) (fs gs : List Frame) → n ≢ q
       → OfferWithin own (sends ch d v fs) → OfferWithin (valuesOf (processAt c q .frames)) (receives ch (not d) gs)
-      → Moved c (setProcess (setProcess c n (runs (framesWithout (thingsOf (v ∷ [])) fs))) q (runs (pushTop v gs))) ls
+      → Transfer c (setProcess (setProcess c n (runs (framesWithout (thingsOf (v ∷ [])) fs))) q (runs (pushTop v gs))) ls
       (map (lineOf k n) (met q ch d ∷ handing q v))
       q
       (thingsOf (v ∷ []))
@@ -406,13 +406,13 @@ cond-some false x e h = absurd (Option·none-ne-some e h)
 pub opposite : (c c′ : ℕ) (d d′ : Bool) → T (eqb c c′ && Bool·beq d (not d′)) → end c (not d) ≡ end c′ d′
 opposite c c′ d d′ t =
     ap (λ (i : ℕ). end i (not d)) (eqb→eq c c′ (and-left (eqb c c′) (Bool·beq d (not d′)) t))
-    ∙ ap (λ (b : Bool). end c′ b) (turned d d′ (and-right (eqb c c′) (Bool·beq d (not d′)) t))
+    ∙ ap (λ (b : Bool). end c′ b) (other-side d d′ (and-right (eqb c c′) (Bool·beq d (not d′)) t))
   where
-    turned : (d d′ : Bool) → T (Bool·beq d (not d′)) → not d ≡ d′
-    turned true true t = absurd t
-    turned true false t = refl
-    turned false true t = refl
-    turned false false t = absurd t
+    other-side : (d d′ : Bool) → T (Bool·beq d (not d′)) → not d ≡ d′
+    other-side true true t = absurd t
+    other-side true false t = refl
+    other-side false true t = refl
+    other-side false false t = absurd t
 
 joins-within : (c : Config) (n q : ℕ) (o r : Offer) (e : Meeting) → n ≢ q
     → OfferWithin (valuesOf (processAt c n .frames)) o
@@ -482,8 +482,8 @@ meeting-joined p outcomes s n o e ho h = found (firstSome-found _ (length (s .co
 -- every entry
 
 -- some things moved to some process
-abbrev SomeMoved : State → Effect → Type 0
-SomeMoved s e = (q : ℕ) × (ts : List Thing) × Moved (s .config) (e .config) (s .lines) (e .lines) q ts
+abbrev SomeTransfer : State → Effect → Type 0
+SomeTransfer s e = (q : ℕ) × (ts : List Thing) × Transfer (s .config) (e .config) (s .lines) (e .lines) q ts
 
 quiet-stops : (ys : List Value) (f : ℕ) → Quiet ys (stops f)
 quiet-stops ys f = record {
@@ -507,9 +507,9 @@ quiet-finishes ys = record {
 
 moved-met : (p outcomes : List ℕ) (k : ℕ) (s : State) (o : Option Meeting) → Dated k (s .lines)
     → Kept (s .config) (s .lines)
-    → ((e : Meeting) → o ≡ some e → Joined (s .config) e) → SomeMoved s (meetIfIn (tableMachine p outcomes) k s o)
+    → ((e : Meeting) → o ≡ some e → Joined (s .config) e) → SomeTransfer s (meetIfIn (tableMachine p outcomes) k s o)
 unfolding meetIfIn meetIn
-moved-met p outcomes k s none dated h j = (0, [], moved-nothing (s .config) (s .lines))
+moved-met p outcomes k s none dated h j = (0, [], transfer-nothing (s .config) (s .lines))
 moved-met p outcomes k s (some e) dated h j =
     let w = j e refl in (
       e .receiver,
@@ -522,10 +522,10 @@ moved-met p outcomes k s (some e) dated h j =
 applied-moved : (p outcomes : List ℕ) (k : ℕ) (s : State) (n : ℕ) → Dated k (s .lines) → Kept (s .config) (s .lines)
     → (act : Act)
     → ActWithin (valuesOf (processAt (s .config) n .frames)) (s .config .qubits) (s .config .channels) act
-    → SomeMoved s (applied p outcomes k s n act)
+    → SomeTransfer s (applied p outcomes k s n act)
 unfolding appliedIn forkingIn
-applied-moved p outcomes k s n dated h idle w = (0, [], moved-nothing (s .config) (s .lines))
-applied-moved p outcomes k s n dated h stuck w = (0, [], moved-nothing (s .config) (s .lines))
+applied-moved p outcomes k s n dated h idle w = (0, [], transfer-nothing (s .config) (s .lines))
+applied-moved p outcomes k s n dated h stuck w = (0, [], transfer-nothing (s .config) (s .lines))
 applied-moved p outcomes k s n dated h (faults f) w = (
   n,
   [],
@@ -556,7 +556,7 @@ pub entry-kept : (p outcomes : List ℕ) (k : ℕ) (s : State) (n : ℕ) → Dat
 unfolding effectIn
 entry-kept p outcomes k s n dated h =
     let w = applied-moved p outcomes k s n dated h (judged s n (actOf p outcomes s n)) (judged-within p outcomes s n) in
-    moved-keeps (s .config) (effectOf p outcomes k s n .config) (s .lines) (effectOf p outcomes k s n .lines) (w .0)
+    transfer-keeps (s .config) (effectOf p outcomes k s n .config) (s .lines) (effectOf p outcomes k s n .lines) (w .0)
     (w .1) (w .2) h
 
 -- the run

@@ -1,7 +1,7 @@
 -- Values and references. "As in document 000, a reference says which it is: quantum, channel or channel end, and one
 -- never stands for another."
 --
--- Choices: the two ends of a channel are told apart by a boolean (side 1 is true), so that a channel has two ends by
+-- Choices: the two ends of a channel differ by a boolean (side 1 is true), so that a channel has two ends by
 -- its type; an int is a signed integer, its range being the ops' concern; an emptied slot or pending value is a value
 -- of its own, because it keeps its place.
 use Prim.Native.Nat.{ℕ, suc, _+_, _-_}

@@ -38,7 +38,7 @@ use Rattle.run_store.specs.declared.values.Val.{Val}
 use Rattle.run_store.specs.declared.head.Head.{Head}
 use Rattle.run_store.specs.StoreCode.{valueAt, topAt}
 use Rattle.run_values.specs.ValuesCode.{emptyTwo}
-use Rattle.run_values.specs.ValuesCode as did
+use Rattle.run_values.specs.ValuesCode as valuesCode
 use Rattle.run_values.proofs.Places.{headIn, head-is}
 use Rattle.run_store.proofs.Vals.{valOf}
 use Rattle.run_parts.specs.PartsCode.{partOf}

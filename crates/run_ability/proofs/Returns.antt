@@ -86,11 +86,11 @@ module _ (p work : List ℕ) (t : List (List ℕ)) (n : ℕ) where
   no-offer {a} e h = took _ _ _ refl (lt-ltb (a .kind) 2 h) refl ∙ ap (abilityOf p work t n) e
 
   module _ {a : Readiness} (stands : a ≡ readinessOp p (partOf work n)) (offer : 2 ≤ a .kind) {b : Bool}
-      (told : b ≡ isMoving (partnerOp p work t n a)) where
+      (tested : b ≡ isMoving (partnerOp p work t n a)) where
     offers-so : cond {A = ℕ} b 1 2 ≡ abilityOp p work t n
     unfolding abilityOp abilityOf
     offers-so =
-        passed-by _ _ _ refl (le-ltb (a .kind) 2 offer) (ap (λ (y : Bool). cond {A = ℕ} y 1 2) told)
+        passed-by _ _ _ refl (le-ltb (a .kind) 2 offer) (ap (λ (y : Bool). cond {A = ℕ} y 1 2) tested)
         ∙ ap (abilityOf p work t n) stands
 
     pub met : b ≡ true → 1 ≡ abilityOp p work t n
@@ -112,20 +112,20 @@ module _ (p work : List ℕ) (n : ℕ) (a : Readiness) (q : ℕ) {r : Pairing} w
       unfolding pairWith
       pairs-over k e = passed-by _ _ _ other no (took _ _ _ (kind-test stands) (eq-eqb (b .kind) 0 k) e)
 
-      module _ (going : b .kind ≡ 0 → ⊥) {m : Bool} (told : m ≡ meetsOp a b) where
+      module _ (going : b .kind ≡ 0 → ⊥) {m : Bool} (tested : m ≡ meetsOp a b) where
         pub pairs-with : m ≡ true → r ≡ pairedOf n a q b → r ≡ pairWith p work n a q
         unfolding pairWith
         pairs-with h e =
             passed-by _ _ _ other no
             (passed-by _ _ _ (kind-test stands) (ne-eqb (b .kind) 0 going)
-            (took _ _ _ (told ∙ ap (meetsOp a) stands) h (e ∙ ap (pairedOf n a q) stands)))
+            (took _ _ _ (tested ∙ ap (meetsOp a) stands) h (e ∙ ap (pairedOf n a q) stands)))
 
         pub pairs-not : m ≡ false → r ≡ unpaired 1 → r ≡ pairWith p work n a q
         unfolding pairWith
         pairs-not h e =
             passed-by _ _ _ other no
             (passed-by _ _ _ (kind-test stands) (ne-eqb (b .kind) 0 going)
-            (passed-by _ _ _ (told ∙ ap (meetsOp a) stands) h e))
+            (passed-by _ _ _ (tested ∙ ap (meetsOp a) stands) h e))
 
 module _ (p work : List ℕ) (t : List (List ℕ)) (n code : ℕ) {a : Readiness}
     (stands : a ≡ offerOf (partOf work n) code) {r : Pairing} where

@@ -10,7 +10,7 @@ use Rattle.run_single.specs.declared.result.Progress.{Progress}
 use Rattle.run_single.specs.declared.result.EntryResult.{EntryResult}
 use Rattle.run_single.specs.ResultCode.{AfterEntry, afterEntry, idleAt}
 use Rattle.run_entry.specs.EntryCode.{entryOp}
-use Rattle.run_single.proofs.Returns.{came-to}
+use Rattle.run_single.proofs.Returns.{entry-same}
 use Rattle.run_burst.specs.declared.knowledge.Knowledge.{Knowledge}
 use Rattle.run_burst.specs.TurnCode.{afterTurn, namedEntryOp, endAfter, knownAfter, turnBy, turnOp}
 
@@ -20,7 +20,7 @@ module _ (p outcomes trace work : List ℕ) (room : ℕ) (g : Count) (n code : �
   pub names-none : {m : EntryResult} → 8 ≤ n → m ≡ idleAt g
       → afterEntry m trace work ≡ namedEntryOp p outcomes trace work room g n code offer
   unfolding namedEntryOp
-  names-none h e = took _ _ _ refl (le-leb 8 n h) (came-to e refl refl)
+  names-none h e = took _ _ _ refl (le-leb 8 n h) (entry-same e refl refl)
 
   pub names-one : {c : AfterEntry} → n < 8 → c ≡ entryOp p outcomes trace work room g n code offer
       → c ≡ namedEntryOp p outcomes trace work room g n code offer

@@ -18,7 +18,7 @@ use Rattle.run_ability.specs.PairingCode.{unpaired, pairingOp}
 use Rattle.run_single.specs.declared.result.Count.{Count}
 use Rattle.run_single.specs.declared.result.EntryResult.{EntryResult}
 use Rattle.run_single.specs.ResultCode.{afterEntry, takenTo, idleAt, fullAt}
-use Rattle.run_single.proofs.Returns.{came-to}
+use Rattle.run_single.proofs.Returns.{entry-same}
 use Rattle.run_single.specs.SingleCode.{singleOp}
 use Rattle.run_transfer.specs.ForkLinesCode.{forkWritten}
 use Rattle.run_transfer.specs.MeetingLinesCode.{metWritten}
@@ -35,7 +35,7 @@ module _ (p trace work : List ℕ) (room : ℕ) (g : Count) (n child method args
   unfolding startOp
   fork-full h e =
       took _ _ _ (ap (λ (i : ℕ). ltb room (g .lines + 1 + i)) count) (lt-ltb room (g .lines + 1 + things) h)
-      (came-to e refl refl)
+      (entry-same e refl refl)
 
   pub fork-starts : {next : ℕ} {ts w : List ℕ} {m : EntryResult} → g .lines + 1 + things ≤ room
       → gifts next ts ≡ forkWritten trace work (g .lines) (g .entry) n child method args
@@ -44,7 +44,7 @@ module _ (p trace work : List ℕ) (room : ℕ) (g : Count) (n child method args
   unfolding startOp forkDone
   fork-starts h written forked moved =
       passed-by _ _ _ (ap (λ (i : ℕ). ltb room (g .lines + 1 + i)) count) (le-ltb room (g .lines + 1 + things) h)
-      (came-to moved refl forked ∙ ap (λ (ls : Gifts). forkDone p work g ls n child method args) written)
+      (entry-same moved refl forked ∙ ap (λ (ls : Gifts). forkDone p work g ls n child method args) written)
 
 module _ (p outcomes trace work : List ℕ) (room : ℕ) (g : Count) (n method args : ℕ) {b : Bool} {x : EntryResult}
     {ts ws : List ℕ} (e : b ≡ emptyIn (partOf work n) args) where
@@ -82,14 +82,14 @@ module _ (trace work : List ℕ) (room : ℕ) (g : Count) (sender receiver : ℕ
   pub exchange-full : {m : EntryResult} → room < g .lines + 2 → m ≡ fullAt g
       → afterEntry m trace work ≡ exchangeOp trace work room g sender receiver e v
   unfolding exchangeOp
-  exchange-full h q = took _ _ _ refl (lt-ltb room (g .lines + 2) h) (came-to q refl refl)
+  exchange-full h q = took _ _ _ refl (lt-ltb room (g .lines + 2) h) (entry-same q refl refl)
 
   pub exchanged : {ts w : List ℕ} {m : EntryResult} → g .lines + 2 ≤ room
       → ts ≡ metWritten trace (g .lines) (g .entry) sender receiver e v → w ≡ metWords work sender receiver v
       → m ≡ takenTo (g .lines + 2) (g .used) → afterEntry m ts w ≡ exchangeOp trace work room g sender receiver e v
   unfolding exchangeOp
   exchanged h written met moved =
-      passed-by _ _ _ refl (le-ltb room (g .lines + 2) h) (came-to moved written met)
+      passed-by _ _ _ refl (le-ltb room (g .lines + 2) h) (entry-same moved written met)
 
 module _ (p outcomes trace work : List ℕ) (room : ℕ) (g : Count) (n : ℕ) (m : Pairing) where
   pub meet-faults : {x : EntryResult} {ts ws : List ℕ} → m .kind ≡ 0
@@ -103,7 +103,7 @@ module _ (p outcomes trace work : List ℕ) (room : ℕ) (g : Count) (n : ℕ) (
         → afterEntry x trace work ≡ meetBy p outcomes trace work room g n m
     unfolding meetBy
     meet-waits h q =
-        passed-by _ _ _ refl (ne-eqb (m .kind) 0 offers) (took _ _ _ refl (eq-eqb (m .kind) 1 h) (came-to q refl refl))
+        passed-by _ _ _ refl (ne-eqb (m .kind) 0 offers) (took _ _ _ refl (eq-eqb (m .kind) 1 h) (entry-same q refl refl))
 
     pub meet-gone : {x : EntryResult} {ts ws : List ℕ} → (m .kind ≡ 1 → ⊥) → m .kind ≡ 3
         → afterEntry x ts ws ≡ singleOp p outcomes trace work room g n 33
@@ -137,22 +137,22 @@ module _ (p work : List ℕ) (t : List (List ℕ)) (n code : ℕ) {m : Pairing} 
   unfolding offerAt
   offer-over h e = took _ _ _ refl (eq-eqb code 1 h) e
 
-  module _ (other : code ≡ 1 → ⊥) {b : Bool} (told : b ≡ isOffer code) where
+  module _ (other : code ≡ 1 → ⊥) {b : Bool} (tested : b ≡ isOffer code) where
     pub offer-paired : (b && ltb n 8) ≡ true → m ≡ pairingOp p work t n code → m ≡ offerAt p work t n code
     unfolding offerAt
     offer-paired h e =
-        passed-by _ _ _ refl (ne-eqb code 1 other) (took _ _ _ (ap (λ (x : Bool). x && ltb n 8) told) h e)
+        passed-by _ _ _ refl (ne-eqb code 1 other) (took _ _ _ (ap (λ (x : Bool). x && ltb n 8) tested) h e)
 
     pub offer-none : (b && ltb n 8) ≡ false → m ≡ unpaired 0 → m ≡ offerAt p work t n code
     unfolding offerAt
     offer-none h e =
-        passed-by _ _ _ refl (ne-eqb code 1 other) (passed-by _ _ _ (ap (λ (x : Bool). x && ltb n 8) told) h e)
+        passed-by _ _ _ refl (ne-eqb code 1 other) (passed-by _ _ _ (ap (λ (x : Bool). x && ltb n 8) tested) h e)
 
 module _ (p outcomes trace work : List ℕ) (room : ℕ) (g : Count) (n code : ℕ) (m : Pairing) where
   pub entry-stays : {x : EntryResult} → code ≡ 1 → x ≡ idleAt g
       → afterEntry x trace work ≡ entryOp p outcomes trace work room g n code m
   unfolding entryOp
-  entry-stays k e = rw (eq-eqb code 1 k) (came-to e refl refl)
+  entry-stays k e = rw (eq-eqb code 1 k) (entry-same e refl refl)
 
   module _ {x : EntryResult} {ts ws : List ℕ} (a : code ≡ 1 → ⊥) where
     pub entry-forks : code ≡ 114 → afterEntry x ts ws ≡ forkOp p outcomes trace work room g n
@@ -160,15 +160,15 @@ module _ (p outcomes trace work : List ℕ) (room : ℕ) (g : Count) (n code : �
     unfolding entryOp
     entry-forks k q = rw (ne-eqb code 1 a, eq-eqb code 114 k) q
 
-    module _ (b : code ≡ 114 → ⊥) {o : Bool} (told : o ≡ isOffer code) where
+    module _ (b : code ≡ 114 → ⊥) {o : Bool} (tested : o ≡ isOffer code) where
       pub entry-offers : o ≡ true → afterEntry x ts ws ≡ meetBy p outcomes trace work room g n m
           → afterEntry x ts ws ≡ entryOp p outcomes trace work room g n code m
       unfolding entryOp
       entry-offers h q =
-          passed-by _ _ _ refl (ne-eqb code 1 a) (passed-by _ _ _ refl (ne-eqb code 114 b) (took _ _ _ told h q))
+          passed-by _ _ _ refl (ne-eqb code 1 a) (passed-by _ _ _ refl (ne-eqb code 114 b) (took _ _ _ tested h q))
 
       pub entry-single : o ≡ false → afterEntry x ts ws ≡ singleOp p outcomes trace work room g n (code % 65536)
           → afterEntry x ts ws ≡ entryOp p outcomes trace work room g n code m
       unfolding entryOp
       entry-single h q =
-          passed-by _ _ _ refl (ne-eqb code 1 a) (passed-by _ _ _ refl (ne-eqb code 114 b) (passed-by _ _ _ told h q))
+          passed-by _ _ _ refl (ne-eqb code 1 a) (passed-by _ _ _ refl (ne-eqb code 114 b) (passed-by _ _ _ tested h q))

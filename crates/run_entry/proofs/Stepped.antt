@@ -39,7 +39,7 @@ use Rattle.run_ops.proofs.Meaning.{Agrees, Height, isLeft, step-agrees, step-le
 use Rattle.run_parts.specs.PartsCode.{partOf, withPart}
 use Rattle.run_parts.proofs.Encoded.{part-is, part-put, part-unmade}
 use Rattle.run_events.specs.ConcludeCode.{concludeOp}
-use Rattle.run_events.proofs.Concluding.{isTelling, Concluded, concluded-op}
+use Rattle.run_events.proofs.Concluding.{writesLine, Concluded, concluded-op}
 use Rattle.run_holders.proofs.Holding.{Holding}
 use Rattle.run_parts.proofs.Alone.{Alone, frame-alone}
 use Rattle.run_ability.specs.declared.pairing.Pairing.{Pairing}
@@ -83,36 +83,36 @@ module _ (p : List ℕ) (kept : Kept p) where
   height-of ks q n (offers o) h = tt
 
 -- the ops that are left to the entry are those with one line, FORK, SEND and RECV
-left-tells : (op : ℕ) → isLeft op ≡ true → op ≢ 14 → op ≢ 15 → op ≢ 16 → isTelling op ≡ true
-left-tells zero t a b c = absurd (true≢false (sym t))
-left-tells (suc zero) t a b c = absurd (true≢false (sym t))
-left-tells (suc (suc zero)) t a b c = absurd (true≢false (sym t))
-left-tells (suc (suc (suc zero))) t a b c = absurd (true≢false (sym t))
-left-tells (suc (suc (suc (suc zero)))) t a b c = absurd (true≢false (sym t))
-left-tells (suc (suc (suc (suc (suc zero))))) t a b c = absurd (true≢false (sym t))
-left-tells (suc (suc (suc (suc (suc (suc zero)))))) t a b c = absurd (true≢false (sym t))
-left-tells (suc (suc (suc (suc (suc (suc (suc zero))))))) t a b c = refl
-left-tells (suc (suc (suc (suc (suc (suc (suc (suc zero)))))))) t a b c = refl
-left-tells (suc (suc (suc (suc (suc (suc (suc (suc (suc zero))))))))) t a b c = absurd (true≢false (sym t))
-left-tells (suc (suc (suc (suc (suc (suc (suc (suc (suc (suc zero)))))))))) t a b c = refl
-left-tells (suc (suc (suc (suc (suc (suc (suc (suc (suc (suc (suc zero))))))))))) t a b c = refl
-left-tells (suc (suc (suc (suc (suc (suc (suc (suc (suc (suc (suc (suc zero)))))))))))) t a b c =
+left-writes-line : (op : ℕ) → isLeft op ≡ true → op ≢ 14 → op ≢ 15 → op ≢ 16 → writesLine op ≡ true
+left-writes-line zero t a b c = absurd (true≢false (sym t))
+left-writes-line (suc zero) t a b c = absurd (true≢false (sym t))
+left-writes-line (suc (suc zero)) t a b c = absurd (true≢false (sym t))
+left-writes-line (suc (suc (suc zero))) t a b c = absurd (true≢false (sym t))
+left-writes-line (suc (suc (suc (suc zero)))) t a b c = absurd (true≢false (sym t))
+left-writes-line (suc (suc (suc (suc (suc zero))))) t a b c = absurd (true≢false (sym t))
+left-writes-line (suc (suc (suc (suc (suc (suc zero)))))) t a b c = absurd (true≢false (sym t))
+left-writes-line (suc (suc (suc (suc (suc (suc (suc zero))))))) t a b c = refl
+left-writes-line (suc (suc (suc (suc (suc (suc (suc (suc zero)))))))) t a b c = refl
+left-writes-line (suc (suc (suc (suc (suc (suc (suc (suc (suc zero))))))))) t a b c = absurd (true≢false (sym t))
+left-writes-line (suc (suc (suc (suc (suc (suc (suc (suc (suc (suc zero)))))))))) t a b c = refl
+left-writes-line (suc (suc (suc (suc (suc (suc (suc (suc (suc (suc (suc zero))))))))))) t a b c = refl
+left-writes-line (suc (suc (suc (suc (suc (suc (suc (suc (suc (suc (suc (suc zero)))))))))))) t a b c =
     absurd (true≢false (sym t))
-left-tells (suc (suc (suc (suc (suc (suc (suc (suc (suc (suc (suc (suc (suc zero))))))))))))) t a b c =
+left-writes-line (suc (suc (suc (suc (suc (suc (suc (suc (suc (suc (suc (suc (suc zero))))))))))))) t a b c =
     absurd (true≢false (sym t))
-left-tells (suc (suc (suc (suc (suc (suc (suc (suc (suc (suc (suc (suc (suc (suc zero)))))))))))))) t a b c =
+left-writes-line (suc (suc (suc (suc (suc (suc (suc (suc (suc (suc (suc (suc (suc (suc zero)))))))))))))) t a b c =
     absurd (a refl)
-left-tells (suc (suc (suc (suc (suc (suc (suc (suc (suc (suc (suc (suc (suc (suc (suc zero))))))))))))))) t a b c =
+left-writes-line (suc (suc (suc (suc (suc (suc (suc (suc (suc (suc (suc (suc (suc (suc (suc zero))))))))))))))) t a b c =
     absurd (b refl)
-left-tells (suc (suc (suc (suc (suc (suc (suc (suc (suc (suc (suc (suc (suc (suc (suc (suc zero)))))))))))))))) t a b c = absurd (c refl)
-left-tells (suc (suc (suc (suc (suc (suc (suc (suc (suc (suc (suc (suc (suc (suc (suc (suc (suc op))))))))))))))))) t a b c = absurd (true≢false (sym t))
+left-writes-line (suc (suc (suc (suc (suc (suc (suc (suc (suc (suc (suc (suc (suc (suc (suc (suc zero)))))))))))))))) t a b c = absurd (c refl)
+left-writes-line (suc (suc (suc (suc (suc (suc (suc (suc (suc (suc (suc (suc (suc (suc (suc (suc (suc op))))))))))))))))) t a b c = absurd (true≢false (sym t))
 
-telling-small : (op : ℕ) → isTelling op ≡ true → op < 12
-telling-small op t =
+writes-line-small : (op : ℕ) → writesLine op ≡ true → op < 12
+writes-line-small op t =
     ⊎-elim (λ h. ltb-true op 12 h) (λ h. absurd (true≢false (sym t ∙ beyond op (ltb-false op 12 h))))
     (decide (ltb op 12))
   where
-    beyond : (op : ℕ) → 12 ≤ op → isTelling op ≡ false
+    beyond : (op : ℕ) → 12 ≤ op → writesLine op ≡ false
     beyond zero h = absurd (omega (arith, h))
     beyond (suc zero) h = absurd (omega (arith, h))
     beyond (suc (suc zero)) h = absurd (omega (arith, h))
@@ -306,24 +306,24 @@ module _ {p outcomes : List ℕ} {s : State} {t0 : List ℕ} {room : ℕ} (here 
     quiet (offers o) i ty g = absurd g
 
     -- an op with one line
-    loud : (code : ℕ) (a : Act) → atFrame p outcomes s f fs ≡ a
+    one-line : (code : ℕ) (a : Act) → atFrame p outcomes s f fs ≡ a
         → ActTyped p (reached .kinds) (c .qubits) (length (c .processes)) a
         → ActWithin (valuesOf (processAt c n .frames)) (c .qubits) (c .channels) a → Alone a
         → Concluded outcomes s (live .busy) (sound here rest k n .qubitCount) a
         (concludeOp p words code (c .qubits) (c .channels) outcomes (s .used))
         → singleOp p outcomes lines store room counted n code ≡ comes a
     unfolding movesIn judged
-    loud code idle i ty wi al g = absurd g
-    loud code stuck i ty wi al g = absurd ty
-    loud code (faults m) i ty wi al g =
+    one-line code idle i ty wi al g = absurd g
+    one-line code stuck i ty wi al g = absurd ty
+    one-line code (faults m) i ty wi al g =
         fault-as here rest k n live code m (inl ty) g
-    loud code (goes gs [] u) i ty wi al g = absurd g
-    loud code (goes gs (e ∷ []) u) i ty wi al g =
+    one-line code (goes gs [] u) i ty wi al g = absurd g
+    one-line code (goes gs (e ∷ []) u) i ty wi al g =
         line-law here rest k n live code gs e u (act-here ∙ i) g
         (wi .1 .0 .notMade .0) (wi .1 .0 .notMade .1) (al .1)
-    loud code (goes gs (e ∷ g ∷ es) u) i ty wi al h = absurd h
-    loud code ends i ty wi al g = ends-as here rest k n live code g
-    loud code (makes (qubit q) gs) i ty wi al g =
+    one-line code (goes gs (e ∷ g ∷ es) u) i ty wi al h = absurd h
+    one-line code ends i ty wi al g = ends-as here rest k n live code g
+    one-line code (makes (qubit q) gs) i ty wi al g =
         made-law here rest k n live code (qubit q) gs (act-here ∙ i) g (λ j d e. not-end e)
       where
         not-end : {j : ℕ} {d : Bool} → qubit q ≡ end j d → ⊥
@@ -333,7 +333,7 @@ module _ {p outcomes : List ℕ} {s : State} {t0 : List ℕ} {room : ℕ} (here 
             is-qubit (qubit x) = Unit {0}
             is-qubit (channel x) = ⊥
             is-qubit (end x y) = ⊥
-    loud code (makes (channel q) gs) i ty wi al g =
+    one-line code (makes (channel q) gs) i ty wi al g =
         made-law here rest k n live code (channel q) gs (act-here ∙ i) g (λ j d e. not-end e)
       where
         not-end : {j : ℕ} {d : Bool} → channel q ≡ end j d → ⊥
@@ -343,17 +343,17 @@ module _ {p outcomes : List ℕ} {s : State} {t0 : List ℕ} {room : ℕ} (here 
             is-channel (qubit x) = ⊥
             is-channel (channel x) = Unit {0}
             is-channel (end x y) = ⊥
-    loud code (makes (end q d) gs) i ty wi al g = absurd ty
-    loud code (forks m args gs) i ty wi al g = absurd g
-    loud code (offers o) i ty wi al g = absurd g
+    one-line code (makes (end q d) gs) i ty wi al g = absurd ty
+    one-line code (forks m args gs) i ty wi al g = absurd g
+    one-line code (offers o) i ty wi al g = absurd g
 
-    tells : (op : ℕ) → opAt p (f .place) ≡ op → isTelling op ≡ true → stepOp p words ≡ afterStep (100 + op) words → Law
-    tells op e h g =
-        let less = telling-small op h in
+    left-one-line : (op : ℕ) → opAt p (f .place) ≡ op → writesLine op ≡ true → stepOp p words ≡ afterStep (100 + op) words → Law
+    left-one-line op e h g =
+        let less = writes-line-small op h in
         single-other (100 + op) g (λ z. absurd (omega (arith, z))) (λ z. absurd (omega (arith, z)))
         (λ z. absurd (omega (arith, z, less)))
         (λ z. absurd (omega (arith, z, less))) (λ z. absurd (omega (arith, z, less))) (omega (arith, less))
-        (loud (100 + op) (atFrame p outcomes s f fs) refl typed-act within-act
+        (one-line (100 + op) (atFrame p outcomes s f fs) refl typed-act within-act
         (frame-alone p outcomes s f fs (λ z. absurd (omega (arith, z, e, less)))
         (λ z. absurd (omega (arith, z, e, less))))
         (concluded-op outcomes s (live .busy) (sound here rest k n .qubitCount) (here .reached .bytes) op e h high)
@@ -408,8 +408,8 @@ module _ {p outcomes : List ℕ} {s : State} {t0 : List ℕ} {room : ℕ} (here 
             other 116 (at-op 16 h e) (λ z. absurd (omega (arith, z)))
             (paired 116
             ∙ receive-law here rest k n owned t holding live e going near))
-            (λ j. tells (opAt p (f .place)) refl
-            (left-tells (opAt p (f .place)) h x (eqb-false (opAt p (f .place)) 15 i)
+            (λ j. left-one-line (opAt p (f .place)) refl
+            (left-writes-line (opAt p (f .place)) h x (eqb-false (opAt p (f .place)) 15 i)
             (eqb-false (opAt p (f .place)) 16 j)) (stepped h))
             (decide (eqb (opAt p (f .place)) 16)))
             (decide (eqb (opAt p (f .place)) 15))

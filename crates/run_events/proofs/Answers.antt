@@ -102,26 +102,26 @@ module _ {p : List ℕ} (outcomes : List ℕ) (s : State) {f : Frame} {fs : List
   -- NEWQ and NEWC
 
   -- a thing made and pushed, or the fault of one too many
-  made-tells : (t : Thing) (tag kind fault n : ℕ) → valOf (ref t) ≡ record { tag = tag; number = n }
+  made-line : (t : Thing) (tag kind fault n : ℕ) → valOf (ref t) ≡ record { tag = tag; number = n }
       → eventOf 0 (making t) ≡ lineEvent kind n 65535 65535 → (b : Bool)
       → Good (cond b (makes t (push (ref t) (passedBy 0 f) ∷ fs)) (faults fault))
       (cond b (afterEvent (lineEvent kind n 65535 65535) (pushOn words top (record { tag = tag; number = n }))) (afterEvent (faultEvent fault) words))
   unfolding passedBy
-  made-tells t tag kind fault n v l true h =
+  made-line t tag kind fault n v l true h =
       ap₂ afterEvent (sym l) (ap (pushOn words top) (sym v) ∙ push-words (busy .stack) (ref t) h)
-  made-tells t tag kind fault n v l false h = refl
+  made-line t tag kind fault n v l false h = refl
 
   pub newq-event : opAt p (f .place) ≡ 7 → Good does (newqOp words top (s .config .qubits))
   unfolding newqOp doingOf doings doNewQ opOf ops opNewQ passedBy making valOf tagOf numberOf valueWords
   newq-event e =
       by (act-zero outcomes s busy 7 e (taken-by outcomes s busy 7 e)) refl
-      (made-tells (qubit (s .config .qubits)) 3 1 22 (s .config .qubits) refl refl (ltb (s .config .qubits) 32))
+      (made-line (qubit (s .config .qubits)) 3 1 22 (s .config .qubits) refl refl (ltb (s .config .qubits) 32))
 
   pub newc-event : opAt p (f .place) ≡ 8 → Good does (newcOp words top (s .config .channels))
   unfolding newcOp doingOf doings doNewC opOf ops opNewC passedBy making valOf tagOf numberOf valueWords
   newc-event e =
       by (act-zero outcomes s busy 8 e (taken-by outcomes s busy 8 e)) refl
-      (made-tells (channel (s .config .channels)) 4 2 21 (s .config .channels) refl refl (ltb (s .config .channels) 16))
+      (made-line (channel (s .config .channels)) 4 2 21 (s .config .channels) refl refl (ltb (s .config .channels) 16))
 
   -- GATE
 

@@ -29,8 +29,8 @@ use Rattle.run_events.proofs.Ended.{stopped-words, finished-words}
 use Rattle.run_events.proofs.Returns.{event-end, event-fault, status-stopped, status-finished, status-as-left}
 
 -- the ops that write one line and stay within their process: NEWQ, NEWC, GATE and MEAS
-abbrev pub isTelling : ℕ → Bool
-isTelling op =
+abbrev pub writesLine : ℕ → Bool
+writesLine op =
     getD (false ∷ false ∷ false ∷ false ∷ false ∷ false ∷ false ∷ true ∷ true ∷ false ∷ true ∷ true ∷ []) op false
 
 -- their answer has a fault's number, or a line that is none of a process's end
@@ -115,36 +115,36 @@ module _ {p : List ℕ} (outcomes : List ℕ) (s : State) {f : Frame} {fs : List
   Concluded (offers o) d = ⊥
 
   -- an answer that agrees with an act leaves the status that the act says
-  settles : (x : Act) (d : AfterEvent) → Apart d → EventAgrees x words d → Concluded x (withStatus d)
+  concludes : (x : Act) (d : AfterEvent) → Apart d → EventAgrees x words d → Concluded x (withStatus d)
   unfolding withStatus
-  settles idle d h q = absurd q
-  settles stuck d h q = tt
-  settles (faults n) d h q =
+  concludes idle d h q = absurd q
+  concludes stuck d h q = tt
+  concludes (faults n) d h q =
       ap withStatus q
       ∙ ap (afterEvent (faultEvent n))
       (status-stopped words (faultEvent n) (λ e. subst Apart q h e .1 refl) ∙ stopped-words (busy .stack) n)
-  settles (goes gs [] u) d h q = absurd q
-  settles (goes gs (e ∷ []) u) d h q =
+  concludes (goes gs [] u) d h q = absurd q
+  concludes (goes gs (e ∷ []) u) d h q =
       ap withStatus q
       ∙ ap (afterEvent (eventOf u e))
       (status-as-left (processWords (runs gs)) (eventOf u e) refl (subst Apart q h refl .0))
-  settles (goes gs (e ∷ g ∷ es) u) d h q = absurd q
-  settles ends d h q = absurd q
-  settles (makes t gs) d h q =
+  concludes (goes gs (e ∷ g ∷ es) u) d h q = absurd q
+  concludes ends d h q = absurd q
+  concludes (makes t gs) d h q =
       ap withStatus q
       ∙ ap (afterEvent (eventOf 0 (making t)))
       (status-as-left (processWords (runs gs)) (eventOf 0 (making t)) refl (subst Apart q h refl .0))
-  settles (forks m args gs) d h q = absurd q
-  settles (offers o) d h q = absurd q
+  concludes (forks m args gs) d h q = absurd q
+  concludes (offers o) d h q = absurd q
 
   -- the op's answer over the head that is read is the one over the top frame
   by-head : (answer : Head → AfterEvent) → Apart (answer top) → EventAgrees does words (answer top)
       → Concluded does (withStatus (answer (headOf words)))
   by-head answer a t =
       subst (λ (h : Head). Concluded does (withStatus (answer h))) (sym (head-is (busy .stack)))
-      (settles does (answer top) a t)
+      (concludes does (answer top) a t)
 
-  pub concluded-op : All (λ o. o ≤ 2) outcomes → (k : ℕ) → opAt p (f .place) ≡ k → isTelling k ≡ true
+  pub concluded-op : All (λ o. o ≤ 2) outcomes → (k : ℕ) → opAt p (f .place) ≡ k → writesLine k ≡ true
       → Height (atFrame p outcomes s f fs)
       → Concluded (atFrame p outcomes s f fs)
       (concludeOp p (processWords (runs (f ∷ fs))) (100 + k) (s .config .qubits) (s .config .channels) outcomes

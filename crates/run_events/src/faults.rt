@@ -1,5 +1,5 @@
-// The numbers of faults, as a line has them: an emptied value; a channel beyond 16, a qubit beyond 32, a process beyond 8;
-// no outcome left; a two-qubit gate on one qubit; an offer whose partner has gone (Paper 6).
+// The numbers of faults, as a line has them: an emptied value; a channel beyond 16, a qubit beyond 32, a process beyond
+// 8; no outcome left; a two-qubit gate on one qubit; an offer whose partner has gone (Paper 6).
 pub const EMPTY: u16 = 20;
 
 pub const CHANNEL_BEYOND_16: u16 = 21;

@@ -173,11 +173,11 @@ module _ {p : List ℕ} {c : Config} {f : Frame} {fs : List Frame} (stack : Stac
       ∙ drop-to-words (stack-left j) (getD (f .pending) j empty) (drop (suc j) (f .pending)) (f .place)
       (drop-cons (f .pending) j empty h)
 
-  retired-by : (j : ℕ) → j ≤ length (f .pending)
+  popped-by : (j : ℕ) → j ≤ length (f .pending)
       → poppedBy (processWords (runs (f ∷ fs))) j ≡ processWords (runs (left j ∷ fs))
   unfolding poppedBy
-  retired-by zero h = refl
-  retired-by (suc j) h = ap poppedOnce (retired-by j (omega arith)) ∙ once j h
+  popped-by zero h = refl
+  popped-by (suc j) h = ap poppedOnce (popped-by j (omega arith)) ∙ once j h
 
   stayed-words : (j : ℕ) → stayed (processWords (runs (left j ∷ fs))) ≡ processWords (runs (passedBy j f ∷ fs))
   unfolding stayed passedBy stepped movedTo putTop
@@ -190,7 +190,7 @@ module _ {p : List ℕ} {c : Config} {f : Frame} {fs : List Frame} (stack : Stac
   pub operands-off : (n : ℕ) → n ≤ length (f .pending)
       → argumentsPopped (processWords (runs (f ∷ fs))) n ≡ processWords (runs (passedBy n f ∷ fs))
   unfolding argumentsPopped
-  operands-off n h = ap stayed (retired-by n h) ∙ stayed-words n
+  operands-off n h = ap stayed (popped-by n h) ∙ stayed-words n
 
 -- SEND: both operands off, and the value given away
 pub value-sent :

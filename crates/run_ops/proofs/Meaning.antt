@@ -199,8 +199,8 @@ module _ {p : List ℕ} (outcomes : List ℕ) (s : State) {f : Frame} {fs : List
   pub by : {x y : Act} {d e : AfterStep} → x ≡ y → d ≡ e → Good y e → Good x d
   by p q g = subst₂ Good (sym p) (sym q) g
 
-  pub as-did : (x : Act) {d e : AfterStep} → d ≡ e → Good x e → Good x d
-  as-did x q g = subst (Good x) (sym q) g
+  pub answer-as : (x : Act) {d e : AfterStep} → d ≡ e → Good x e → Good x d
+  answer-as x q g = subst (Good x) (sym q) g
 
   -- an op of one operand, and of two
   pub one-op : (k : ℕ) (d : AfterStep) → opAt p (f .place) ≡ k → takenAt p (f .place) ≡ 1
@@ -253,7 +253,7 @@ module _ {p : List ℕ} (outcomes : List ℕ) (s : State) {f : Frame} {fs : List
       → Good act (unlessEmpty (valueAt w (topAt hd 1)) w (d (valueAt w (topAt hd 1))))
   top-op k d e t g =
       one-op k (unlessEmpty (valueAt w (topAt hd 1)) w (d (valueAt w (topAt hd 1)))) e t
-      (λ u us q. as-did (cond (isEmpty u || false) (faults 20) (doingOf k (scene 1 (u ∷ us))))
+      (λ u us q. answer-as (cond (isEmpty u || false) (faults 20) (doingOf k (scene 1 (u ∷ us))))
       (unless-read (valueAt w (topAt hd 1)) u w (d (valueAt w (topAt hd 1))) (read-top u us q)
       ∙ ap (λ (v : Val). cond (isEmpty u) (afterStep 20 w) (d v)) (read-top u us q))
       (unless-good u (doingOf k (scene 1 (u ∷ us))) (d (valOf u)) (g u us q)))
@@ -415,7 +415,7 @@ module _ {p : List ℕ} (outcomes : List ℕ) (s : State) {f : Frame} {fs : List
   unfolding valOf numberOf valueWords
   ints-op k act-of g e t is both =
       two-op k (twoOp w hd g) e t
-      (λ y x us q. as-did (cond (isEmpty y || (isEmpty x || false)) (faults 20) (doingOf k (scene 2 (y ∷ x ∷ us))))
+      (λ y x us q. answer-as (cond (isEmpty y || (isEmpty x || false)) (faults 20) (doingOf k (scene 2 (y ∷ x ∷ us))))
       (read-two y x us g q)
       (by (ap (λ (z : Act). cond (isEmpty y || (isEmpty x || false)) (faults 20) z) (is (scene 2 (y ∷ x ∷ us)))) refl
       (values y x us q)))
@@ -683,7 +683,7 @@ module _ {p : List ℕ} (outcomes : List ℕ) (s : State) {f : Frame} where
 
       valued : eqb (returnOf p (f .method)) 0 ≡ false → Good outcomes s busy (atFrame p outcomes s f fs) (retOp p w hd)
       valued t =
-          as-did outcomes s busy (atFrame p outcomes s f fs)
+          answer-as outcomes s busy (atFrame p outcomes s f fs)
           (ap
           (λ (b : Bool). cond b (cond (eqb (suc (length fs)) 1) (afterStep 113 w) (afterStep 0 (closed w hd)))
           (unlessEmpty (valueAt w (topAt hd 1)) w

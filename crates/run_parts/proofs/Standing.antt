@@ -25,7 +25,7 @@ use Rattle.run_store.specs.declared.head.Head.{Head}
 use Rattle.run_store.specs.StoreCode.{headOf}
 use Rattle.run_store.proofs.Vals.{valOf}
 use Rattle.run_values.specs.ValuesCode.{emptyTwo}
-use Rattle.run_values.specs.ValuesCode as did
+use Rattle.run_values.specs.ValuesCode as valuesCode
 use Rattle.run_values.proofs.Places.{head-is}
 use Rattle.run_ops.proofs.Meaning.{w, hd, scene, act, act-one, act-two, act-short, taken-by, tag-test, read-top, read-second}
 use Rattle.run_parts.specs.declared.readiness.Readiness.{Readiness}
@@ -42,7 +42,7 @@ Stands ends st = st ≡ noOffer 1
 Stands (makes t fs) st = st ≡ noOffer 1
 Stands (forks m args fs) st = st ≡ noOffer 1
 Stands (offers (sends c d v gs)) st = st ≡ record { kind = 2; end = valOf (ref (end c d)); value = valOf v }
-Stands (offers (receives c d gs)) st = st ≡ record { kind = 3; end = valOf (ref (end c d)); value = did.emptyVal }
+Stands (offers (receives c d gs)) st = st ≡ record { kind = 3; end = valOf (ref (end c d)); value = valuesCode.emptyVal }
 
 alone-stands : (x : Act) → Alone x → Stands x (noOffer 1)
 alone-stands idle h = absurd h
@@ -193,7 +193,7 @@ module _ {p : List ℕ} (outcomes : List ℕ) (s : State) {f : Frame} {fs : List
 
   received : (u : Value) (us : List Value) → f .pending ≡ u ∷ us
       → Good (cond (isEmpty u || false) (faults 20) (doRecv (stage 1 (u ∷ us))))
-      (cond (isEmpty u) (noOffer 1) (record { kind = 3; end = valOf u; value = did.emptyVal }))
+      (cond (isEmpty u) (noOffer 1) (record { kind = 3; end = valOf u; value = valuesCode.emptyVal }))
   unfolding doRecv
   received empty us q = (refl, tt)
   received (int z) us q = (tt, tt)
@@ -203,12 +203,12 @@ module _ {p : List ℕ} (outcomes : List ℕ) (s : State) {f : Frame} {fs : List
   received (ref (end n r)) us q = (refl, (us, q, refl))
 
   read-receive : (u : Value) (us : List Value) → f .pending ≡ u ∷ us
-      → receiveOf words top ≡ cond (isEmpty u) (noOffer 1) (record { kind = 3; end = valOf u; value = did.emptyVal })
+      → receiveOf words top ≡ cond (isEmpty u) (noOffer 1) (record { kind = 3; end = valOf u; value = valuesCode.emptyVal })
   unfolding receiveOf
   read-receive u us q =
-      ap (λ (v : Val). cond (eqb (v .tag) 0) (noOffer 1) (record { kind = 3; end = v; value = did.emptyVal }))
+      ap (λ (v : Val). cond (eqb (v .tag) 0) (noOffer 1) (record { kind = 3; end = v; value = valuesCode.emptyVal }))
       (read-top outcomes s busy u us q)
-      ∙ ap (λ (b : Bool). cond b (noOffer 1) (record { kind = 3; end = valOf u; value = did.emptyVal })) (tag-test u)
+      ∙ ap (λ (b : Bool). cond b (noOffer 1) (record { kind = 3; end = valOf u; value = valuesCode.emptyVal })) (tag-test u)
 
   at-receive : opAt p (f .place) ≡ 16 → Good does (receiveOf words top)
   unfolding doingOf doings opOf ops opRecv

@@ -31,7 +31,7 @@ use Rattle.run_burst.specs.BurstCode.{Stop, stopsAt, namedOp, isDone, namedBefo
 use Rattle.run_burst.specs.TurnCode.{namedEntryOp}
 use Rattle.run_burst.proofs.Knowing.{alone-so, ends-alone, still-some, still-alone}
 use Rattle.run_burst.proofs.Steps.{done-so, stops-so}
-use Rattle.run_schedule.proofs.Ready.{Inputs, Stands, at, Idle, Ready, reached, owned, named, ready-plain, ready-idle, trace₀, work₀, count₀, comesTo, Stepped, Stopped, far-law, near-law, ready-as, ready-there, came-as, idle-unable, known-idle, idle-more, long, same-long, moved-idle, moved-goes}
+use Rattle.run_schedule.proofs.Ready.{Inputs, Stands, at, Idle, Ready, reached, owned, named, ready-plain, ready-idle, trace₀, work₀, count₀, comesTo, Stepped, Stopped, far-law, near-law, ready-as, ready-there, entry-as, idle-unable, known-idle, idle-more, long, same-long, moved-idle, moved-goes}
 
 module _ {p schedule outcomes t0 rest : List ℕ} {room : ℕ} (given : Inputs p schedule outcomes t0 rest room) where
   module _ (k : ℕ) where
@@ -139,10 +139,10 @@ module _ {p schedule outcomes t0 rest : List ℕ} {room : ℕ} (given : Inputs p
       hold : (d : AfterStep) → Stopped given k t d → Passes t known d
       hold d x = over (isDone (d .code) known) refl
         where
-          came-there :
+          entry-there :
               namedEntryOp p outcomes (trace₀ given k) (work₀ given k) room (count₀ given k) (named given k) (d .code)
               (offered t d) ≡ comesTo given k
-          came-there =
+          entry-there =
               ap
               (λ (w : List ℕ). namedEntryOp p outcomes (trace₀ given k) (work₀ given k) room (count₀ given k)
               (named given k) (d .code) (offerAt p w t (named given k) (d .code))) (x .words)
@@ -155,7 +155,7 @@ module _ {p schedule outcomes t0 rest : List ℕ} {room : ℕ} (given : Inputs p
 
           rests : isDone (d .code) known ≡ false → (b : Bool)
               → stopsHere p (d .words) schedule k known (offered t d) ≡ b → Waits t known d ⊎ Held t known d
-          rests more true s = inr (record { more = more; stops = s; words = x .words; entered = came-there })
+          rests more true s = inr (record { more = more; stops = s; words = x .words; entered = entry-there })
           rests more false s =
               let so = stops-so p (d .words) schedule k known (offered t d) s in
               let a = waits (so .0) in
@@ -280,5 +280,5 @@ module _ {p schedule outcomes t0 rest : List ℕ} {room : ℕ} (given : Inputs p
           good = record {
             ready = there;
             near = offer-near p (d .words) t (named given k) (d .code);
-            entered = λ i. came-as given k there (d .code) m (x .entered);
+            entered = λ i. entry-as given k there (d .code) m (x .entered);
           }

@@ -87,7 +87,7 @@ module _ {p schedule outcomes t0 rest : List ℕ} {room : ℕ} (given : Inputs p
     pub fewUsed : at k .used ≤ k
 
   -- the run is over before entry k
-  pub record Over (k end : ℕ) (work trace : List ℕ) (lines used : ℕ) : Type 0 where
+  pub record AtEnd (k end : ℕ) (work trace : List ℕ) (lines used : ℕ) : Type 0 where
     pub ends : run p outcomes room schedule ≡ ended end k (at k)
     pub store : work ≡ encode (at k .config) ++ rest
     pub written : trace ≡ traceAfter (at k .lines) t0
@@ -338,12 +338,12 @@ module _ {p schedule outcomes t0 rest : List ℕ} {room : ℕ} (given : Inputs p
         → Stands t known
     ready-there r = ready-as r (sym (r .store)) (sym (r .written)) (sym (r .counted)) (sym (r .drawn))
 
-    pub came-as : {work trace : List ℕ} {t : List (List ℕ)} {lines used : ℕ} {known : Knowledge}
+    pub entry-as : {work trace : List ℕ} {t : List (List ℕ)} {lines used : ℕ} {known : Knowledge}
         → Ready k work trace t lines used known → (code : ℕ) (m : Pairing)
         → namedEntryOp p outcomes trace₀ work₀ room count₀ named code m ≡ comesTo
         → namedEntryOp p outcomes trace work room (record { entry = k; lines = lines; used = used }) named code m
         ≡ comesTo
-    came-as r code m e =
+    entry-as r code m e =
         (λ i. namedEntryOp p outcomes (r .written i) (r .store i) room (record { entry = k; lines = r .counted i; used = r .drawn i }) named code m) ∙ e
 
     -- an entry whose offer comes to waiting is idle
@@ -455,7 +455,7 @@ module _ {p schedule outcomes t0 rest : List ℕ} {room : ℕ} (given : Inputs p
 
   pub ready-last : (k : ℕ) {work trace : List ℕ} {t : List (List ℕ)} {lines used : ℕ} {known : Knowledge}
       → Ready k work trace t lines used known → length schedule ≤ k
-      → Over k (endingOp p work t 8) work trace lines used
+      → AtEnd k (endingOp p work t 8) work trace lines used
   ready-last k {work} {trace} {t} r h = record {
     ends =
         r .runs ∙ at-last p outcomes room schedule k h

@@ -31,7 +31,7 @@ use Rattle.run_burst.specs.declared.knowledge.Knowledge.{Knowledge}
 use Rattle.run_burst.specs.KnowledgeCode.{nothingKnown, withIdle, alone, knownAfterStep, knownAfterEntry, unlessChanged}
 use Rattle.run_burst.specs.TurnCode.{AfterTurn, afterTurn, namedEntryOp, endAfter, knownAfter, turnBy, turnOp}
 use Rattle.run_burst.proofs.Knowing.{alone-so, entered-so}
-use Rattle.run_schedule.proofs.Ready.{Inputs, Stands, at, Idle, Ready, Over, reached, owned, named, effect, ready-next, ready-idle, trace₀, work₀, count₀, comes, comesTo, unmade, ready-there, not-able, idle-more, long, same-long, moved-idle, moved-goes}
+use Rattle.run_schedule.proofs.Ready.{Inputs, Stands, at, Idle, Ready, AtEnd, reached, owned, named, effect, ready-next, ready-idle, trace₀, work₀, count₀, comes, comesTo, unmade, ready-there, not-able, idle-more, long, same-long, moved-idle, moved-goes}
 
 module _ {p schedule outcomes t0 rest : List ℕ} {room : ℕ} (given : Inputs p schedule outcomes t0 rest room) (k : ℕ)
   where
@@ -42,7 +42,7 @@ module _ {p schedule outcomes t0 rest : List ℕ} {room : ℕ} (given : Inputs p
         × Ready given (suc k) (x .work) (x .trace) (holdersAfterLines t (x .trace) lines (x .turn .lines - lines))
         (x .turn .lines) (x .turn .used)
         (unlessChanged (x .turn .known) (changedFrom (x .trace) lines (x .turn .lines - lines))))
-        ⊎ ((x .turn .end ≢ 0) × Over given k (x .turn .end) (x .work) (x .trace) (x .turn .lines) (x .turn .used))
+        ⊎ ((x .turn .end ≢ 0) × AtEnd given k (x .turn .end) (x .work) (x .trace) (x .turn .lines) (x .turn .used))
 
     pub turn-law : {work trace : List ℕ} {t : List (List ℕ)} {lines used : ℕ} {known : Knowledge}
         → Ready given k work trace t lines used known → k < length schedule → (code : ℕ) (m : Pairing)
@@ -185,10 +185,10 @@ module _ {p schedule outcomes t0 rest : List ℕ} {room : ℕ} (given : Inputs p
                 (λ (x y : Bool). cond x nothingKnown
                 (cond y (knownAfterStep p work′ (named given k) known 0) nothingKnown) .idle) (so z .0) (so z .1)
 
-            came-so :
+            store-entered :
                 entryOp p outcomes (trace₀ given k) (work₀ given k) room (count₀ given k) (named given k) code m .work
                 ≡ work′
-            came-so =
+            store-entered =
                 sym (ap (λ (b : Bool). cond b (afterEntry (idleAt (count₀ given k)) (trace₀ given k) (work₀ given k))
                 (entryOp p outcomes (trace₀ given k) (work₀ given k) room (count₀ given k) (named given k) code m)
                 .work)
@@ -201,9 +201,9 @@ module _ {p schedule outcomes t0 rest : List ℕ} {room : ℕ} (given : Inputs p
             others : known′ .some ≡ true → (q : ℕ) → q < 8 → q ≢ named given k
                 → partOf work′ q ≡ partOf (work₀ given k) q
             others z q h ne =
-                ap (λ (w : List ℕ). partOf w q) (sym came-so)
+                ap (λ (w : List ℕ). partOf w q) (sym store-entered)
                 ∙ beside p outcomes (trace₀ given k) (work₀ given k) room (count₀ given k) (named given k) code m
-                (long given k) low (so z .1) (ap length came-so ∙ same-long given k) q h ne
+                (long given k) low (so z .1) (ap length store-entered ∙ same-long given k) q h ne
         go true false i j = inr (
           λ z. absurd (omega (arith, z)),
           record {

@@ -28,7 +28,7 @@ use Rattle.run_burst.specs.KnowledgeCode.{nothingKnown, withIdle, knownAfterSte
 use Rattle.run_burst.specs.BurstCode.{Stop, stopsAt, namedOp, isDone, stopsHere, burstOp}
 use Rattle.run_burst.specs.TurnCode.{afterTurn, turnAt}
 use Rattle.run_schedule.specs.SummaryCode.{afterRun, runLeaves}
-use Rattle.run_schedule.proofs.Ready.{Inputs, Ready, Over, ready-start, ready-last, state-sound}
+use Rattle.run_schedule.proofs.Ready.{Inputs, Ready, AtEnd, ready-start, ready-last, state-sound}
 use Rattle.run_schedule.proofs.Taking.{Turns, turn-law}
 use Rattle.run_schedule.proofs.Bursting.{Burst-good, burst-law}
 
@@ -111,7 +111,7 @@ module _ {p schedule outcomes : List ℕ} {room : ℕ} {t0 : List ℕ} where
 
     -- the words that a run leaves
     over-leaves : (w0 : List ℕ) → rest ≡ drop 8192 w0 → {at end : ℕ} {work′ trace′ : List ℕ} {lines′ used′ : ℕ}
-        → Over (g .given) at end work′ trace′ lines′ used′
+        → AtEnd (g .given) at end work′ trace′ lines′ used′
         → afterRun (record { end = end; entries = at; lines = lines′; used = used′ }) trace′ work′ ≡ runLeaves
         (run p outcomes room schedule) t0 w0
     unfolding runLeaves storeAfter

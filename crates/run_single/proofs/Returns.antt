@@ -18,8 +18,8 @@ use Rattle.run_single.specs.ResultCode.{afterEntry, takenTo, fullAt}
 use Rattle.run_single.specs.SingleCode.{inPart, countedWords, eventLine, recorded, concludedAt, singleOp}
 
 -- the answer, the trace and the store each for itself
-pub came-to : {m l : EntryResult} {t u v w : List ℕ} → m ≡ l → t ≡ u → v ≡ w → afterEntry m t v ≡ afterEntry l u w
-came-to {l = l} {u = u} {v = v} e f h =
+pub entry-same : {m l : EntryResult} {t u v w : List ℕ} → m ≡ l → t ≡ u → v ≡ w → afterEntry m t v ≡ afterEntry l u w
+entry-same {l = l} {u = u} {v = v} e f h =
     ap₂ (λ (x : EntryResult) (y : List ℕ). afterEntry x y v) e f ∙ ap (afterEntry l u) h
 
 -- the event of a part that was lent, as that of the store
@@ -58,7 +58,7 @@ module _ (p outcomes trace work : List ℕ) (room : ℕ) (g : Count) (n code : �
   pub single-full : {m : EntryResult} → room ≤ g .lines → m ≡ fullAt g
       → afterEntry m trace work ≡ singleOp p outcomes trace work room g n code
   unfolding singleOp
-  single-full h e = took _ _ _ refl (le-leb room (g .lines) h) (came-to e refl refl)
+  single-full h e = took _ _ _ refl (le-leb room (g .lines) h) (entry-same e refl refl)
 
   pub single-noted : {t : EventResult} {w v ts : List ℕ} {l : TraceLine} {u : ℕ} {m : EntryResult} → g .lines < room
       → afterEvent t w ≡ concludedAt p work n code outcomes (g .used) → v ≡ countedWords w (t .kind)
@@ -66,7 +66,7 @@ module _ (p outcomes trace work : List ℕ) (room : ℕ) (g : Count) (n code : �
       → ts ≡ withLine trace (g .lines) l → u ≡ (g .used + t .used) % 4294967296 → m ≡ takenTo (g .lines + 1) u
       → afterEntry m ts v ≡ singleOp p outcomes trace work room g n code
   unfolding singleOp recorded
-  single-noted h told counted lined written used moved =
+  single-noted h event-is counted lined written used moved =
       passed-by _ _ _ refl (lt-leb room (g .lines) h)
-      (came-to (moved ∙ ap (takenTo (g .lines + 1)) used) (written ∙ ap (withLine trace (g .lines)) lined) counted
-      ∙ ap (recorded trace g n) told)
+      (entry-same (moved ∙ ap (takenTo (g .lines + 1)) used) (written ∙ ap (withLine trace (g .lines)) lined) counted
+      ∙ ap (recorded trace g n) event-is)

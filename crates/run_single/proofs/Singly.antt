@@ -84,28 +84,28 @@ module _ {p outcomes : List ℕ} {s : State} {t0 : List ℕ} {room : ℕ} (here 
   -- one line
 
   module _ (made : n < length (config .processes)) where
-    single-law : (code : ℕ) (told : EventResult) (pr : Process) (ev : Event) (e : Effect)
-        → concludeOp p (partOf work n) code (config .qubits) (config .channels) outcomes (s .used) ≡ afterEvent told
+    single-law : (code : ℕ) (answer : EventResult) (pr : Process) (ev : Event) (e : Effect)
+        → concludeOp p (partOf work n) code (config .qubits) (config .channels) outcomes (s .used) ≡ afterEvent answer
         (processWords pr)
         → length (processWords pr) ≡ 512
-        → eventLine k n told ≡ written.lineOf (lineOf k n ev)
-        → e .lines ≡ lineOf k n ev ∷ [] → e .used ≡ told .used → told .used ≤ 1
-        → countedWords (encode (setProcess config n pr) ++ rest) (told .kind) ≡ encode (e .config) ++ rest
+        → eventLine k n answer ≡ written.lineOf (lineOf k n ev)
+        → e .lines ≡ lineOf k n ev ∷ [] → e .used ≡ answer .used → answer .used ≤ 1
+        → countedWords (encode (setProcess config n pr) ++ rest) (answer .kind) ≡ encode (e .config) ++ rest
         → singleOp p outcomes trace work room count n code ≡ tried e
     unfolding singleOp concludedAt inPart recorded fits
-    single-law code told pr ev e conc long line ls us one cw = go (leb room (length (s .lines))) refl
+    single-law code answer pr ev e conc long line ls us one cw = go (leb room (length (s .lines))) refl
       where
         stored : recorded trace count n (concludedAt p work n code outcomes (s .used))
-            ≡ afterEntry (takenTo (length (s .lines) + 1) ((s .used + told .used) % 4294967296))
-            (withLine trace (length (s .lines)) (eventLine k n told))
-            (countedWords (encode (setProcess config n pr) ++ rest) (told .kind))
+            ≡ afterEntry (takenTo (length (s .lines) + 1) ((s .used + answer .used) % 4294967296))
+            (withLine trace (length (s .lines)) (eventLine k n answer))
+            (countedWords (encode (setProcess config n pr) ++ rest) (answer .kind))
         stored =
             ap₂
             (λ (q c : ℕ). recorded trace count n
             (inPart work n (concludeOp p (partOf work n) code q c outcomes (s .used)))) (qubits-word config rest)
             (channels-word config rest)
             ∙ ap (λ (l : AfterEvent). recorded trace count n (inPart work n l)) conc
-            ∙ ap (λ (w : List ℕ). recorded trace count n (afterEvent told w)) (part-put config laid rest n pr made long)
+            ∙ ap (λ (w : List ℕ). recorded trace count n (afterEvent answer w)) (part-put config laid rest n pr made long)
 
         lines-count : length (s .lines) + 1 ≡ length (s .lines ++ e .lines)
         lines-count =
@@ -125,10 +125,10 @@ module _ {p outcomes : List ℕ} {s : State} {t0 : List ℕ} {room : ℕ} (here 
             (le-leb (length (s .lines) + length (e .lines)) room
             (omega (arith, leb-false room (length (s .lines)) h, ap length ls))))
           where
-            used-same : (s .used + told .used) % 4294967296 ≡ s .used + e .used
+            used-same : (s .used + answer .used) % 4294967296 ≡ s .used + e .used
             used-same = mod-eq-of-lt (omega (arith, here .small, one)) ∙ ap (λ (u : ℕ). s .used + u) (sym us)
 
-            trace-same : withLine trace (length (s .lines)) (eventLine k n told) ≡ traceAfter (s .lines ++ e .lines) t0
+            trace-same : withLine trace (length (s .lines)) (eventLine k n answer) ≡ traceAfter (s .lines ++ e .lines) t0
             trace-same =
                 ap (withLine trace (length (s .lines))) line
                 ∙ written.line-written (s .lines) t0 (lineOf k n ev)

@@ -291,9 +291,9 @@ module _ {p : List ℕ} {c : Config} (laid : Laid c) (rest : List ℕ) {n : ℕ}
   both-count : (j : ℕ) → length (with-both j .processes) ≡ length (with-child args .processes)
   both-count j = count-set (with-child args) n (parent j)
 
-  retired-store : argumentsPoppedAt (encode (with-child args) ++ rest) n args ≡ encode (with-both 0) ++ rest
+  popped-store : argumentsPoppedAt (encode (with-child args) ++ rest) n args ≡ encode (with-both 0) ++ rest
   unfolding argumentsPoppedAt parent thingsOf
-  retired-store =
+  popped-store =
       part-changed (with-child args) (child-laid args) rest n (λ w. argumentsPopped w args) (runs (f ∷ fs)) (parent 0)
       (parent-counted args)
       (joined-old c (begun-process args) n (live .made) ∙ (live .stands))
@@ -365,7 +365,7 @@ module _ {p : List ℕ} {c : Config} (laid : Laid c) (rest : List ℕ) {n : ℕ}
       ap (λ (w : List ℕ). argsGiven (argumentsPoppedAt (argsHanded w n child args args) n args) n child args)
       begun-store
       ∙ ap (λ (w : List ℕ). argsGiven (argumentsPoppedAt w n args) n child args) (all-handed args (omega arith))
-      ∙ ap (λ (w : List ℕ). argsGiven w n child args) retired-store
+      ∙ ap (λ (w : List ℕ). argsGiven w n child args) popped-store
       ∙ all-given args (omega arith)
       ∙ ap
       (λ (l : List Value). encode

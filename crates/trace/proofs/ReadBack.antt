@@ -71,9 +71,9 @@ module _ (q : ℕ) (ls : List Line) (l : Line) where
     enough =
         ap (λ (i : ℕ). holder (drop i more) (qubit q)) here
         ∙ ap (λ (ms : List Line). holder ms (qubit q)) (drop-append-seam ls (l ∷ []))
-        ∙ told []
-        ∙ sym (told ls);
-    somebody = λ _. told ls ∙ ap (λ (m : Line). some (named m)) (sym there);
+        ∙ by-last []
+        ∙ sym (by-last ls);
+    somebody = λ _. by-last ls ∙ ap (λ (m : Line). some (named m)) (sym there);
     nobody = λ n. absurd (true≢false (sym found ∙ n));
   }
     where
@@ -83,8 +83,8 @@ module _ (q : ℕ) (ls : List Line) (l : Line) where
       there : getD more (length more - 1) noLine ≡ l
       there = ap (λ (i : ℕ). getD more i noLine) here ∙ more-last
 
-      told : (ms : List Line) → holder (ms ++ (l ∷ [])) (qubit q) ≡ some (named l)
-      told ms = holder-last q ms l ∙ ap (λ (b : Bool). cond b (some (named l)) (holder ms (qubit q))) e
+      by-last : (ms : List Line) → holder (ms ++ (l ∷ [])) (qubit q) ≡ some (named l)
+      by-last ms = holder-last q ms l ∙ ap (λ (b : Bool). cond b (some (named l)) (holder ms (qubit q))) e
 
       found : any (decides q) more ≡ true
       found =

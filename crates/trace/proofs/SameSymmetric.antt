@@ -8,12 +8,12 @@ use Rattle.trace.specs.Trace.{linesOf, sameTimed, sameLines}
 use Rattle.trace.proofs.Gaps.{both-ways}
 use Rattle.trace.proofs.SameMeans.{same-means, means-same}
 
-turned : (ls ms : List Line) → sameTimed ls ms ≡ true → sameTimed ms ls ≡ true
-turned ls ms e =
+symmetric : (ls ms : List Line) → sameTimed ls ms ≡ true → sameTimed ms ls ≡ true
+symmetric ls ms e =
     let s = same-means ls ms e in
     means-same ms ls (record { lines = sym (s .lines); times = sym (s .times) })
 
 pub same-symmetric : (xs ys : List ℕ) → sameLines xs ys ≡ sameLines ys xs
 unfolding sameLines
 same-symmetric xs ys =
-    both-ways (sameLines xs ys) (sameLines ys xs) (turned (linesOf xs) (linesOf ys)) (turned (linesOf ys) (linesOf xs))
+    both-ways (sameLines xs ys) (sameLines ys xs) (symmetric (linesOf xs) (linesOf ys)) (symmetric (linesOf ys) (linesOf xs))

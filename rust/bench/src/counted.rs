@@ -79,7 +79,7 @@ fn callgrind(name: &str, count: usize, more: &[String]) -> Result<i64, String> {
 }
 
 /// The sum over the functions of what each runs itself: a line of a function
-/// is a place and a count, but the one behind `calls=` is the callee's.
+/// is a place and a count, but the one after `calls=` is the callee's.
 fn own_instructions(text: &str) -> i64 {
     let mut sum = 0;
     let mut counts = false;

@@ -38,7 +38,7 @@ impl Error {
     }
 }
 
-/// Line, column and message, to be put behind a file's name.
+/// Line, column and message, to be put after a file's name.
 impl fmt::Display for Error {
     fn fmt(&self, out: &mut fmt::Formatter) -> fmt::Result {
         let Place { line, column } = self.place;

@@ -66,7 +66,7 @@ impl Json {
         }
     }
 
-    /// Reads a value with nothing behind it; none where the text is no JSON, or
+    /// Reads a value with nothing after it; none where the text is no JSON, or
     /// has what results do not: fractions, or nesting beyond 32.
     pub fn read(text: &str) -> Option<Json> {
         let mut reader = Reader { rest: text };

@@ -9,7 +9,7 @@ pub struct MethodNames {
     pub name: String,
     /// One for each slot that can be named.
     pub slots: Vec<Option<String>>,
-    /// Labels with the instruction behind them, from the method's start.
+    /// Labels with the instruction after them, from the method's start.
     pub labels: Vec<(String, u16)>,
     /// Where the header stands, in the text or the listing.
     pub header: Option<Place>,

@@ -50,7 +50,7 @@ pub struct Arguments {
 }
 
 impl Arguments {
-    /// Reads the words behind a command's name.
+    /// Reads the words after a command's name.
     pub fn read(words: &[String], taken: &[&Opt]) -> Result<Arguments, Failure> {
         let mut arguments = Arguments::default();
         let mut words = words.iter();

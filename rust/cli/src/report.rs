@@ -181,7 +181,7 @@ fn value_json(value: &Value) -> Json {
 
 /// A number that tells inputs apart: FNV-1a, 64 bits, over the bytes of the
 /// table, the schedule, the outcomes and the trace's room where it is bounded,
-/// each behind its length.
+/// each after its length.
 pub fn digest(case: &Case, room: Option<usize>) -> String {
     let program: Vec<u8> = case.program.iter().flat_map(|word| word.to_le_bytes()).collect();
     let room: Vec<u8> = room.map(|lines| (lines as u64).to_le_bytes().to_vec()).unwrap_or_default();

@@ -164,7 +164,7 @@ fn names_given_twice() {
 #[test]
 fn sizes() {
     assert_eq!(told_of_body("# nothing"), "1:13: expected an op in method `main`, found none");
-    assert_eq!(told_of_body("  RET\n  end:"), "3:3: expected an op behind the label `end`");
+    assert_eq!(told_of_body("  RET\n  end:"), "3:3: expected an op after the label `end`");
     let methods: String = (1..33).map(|n| format!("method void m{n}()\n RET\n")).collect();
     assert_eq!(told_of_body(&format!("  RET\n{methods}")), "65:13: expected at most 32 methods, found one more");
     let code = "  RET\n".repeat(4_097);
@@ -213,7 +213,7 @@ schedule 0
     assert!(assemble(text).is_ok(), "{}", told(text));
 }
 
-/// Line ends of either kind, and none behind the last line.
+/// Line ends of either kind, and none after the last line.
 #[test]
 fn line_ends() {
     let text = "method void main()\n  INT 1 # one\n  DROP\n  RET";

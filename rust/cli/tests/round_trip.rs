@@ -77,7 +77,7 @@ fn generated_files_come_back() {
     assert!(counts[&("run".to_string(), true)] > 2_000, "{counts:?}");
 }
 
-/// Any words behind the pairs: types, ops and arguments of every kind.
+/// Any words after the pairs: types, ops and arguments of every kind.
 #[test]
 fn damaged_rows_and_code_come_back() {
     let mut random = Random::new(84);

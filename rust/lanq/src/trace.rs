@@ -57,7 +57,7 @@ impl Trace for Run {
 /// ```
 /// use lanq::{lines, Event};
 ///
-/// // Process 2 makes qubit 0; three words behind it are no line.
+/// // Process 2 makes qubit 0; three words after it are no line.
 /// let words = [0, 2, 1, 0, 65535, 65535, 7, 7, 7];
 /// let lines = lines(&words);
 /// assert_eq!(lines.len(), 1);

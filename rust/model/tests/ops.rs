@@ -164,10 +164,10 @@ fn call_and_return() {
     drive(&mut machine, &[0; 4]);
     let frames = &machine.config.processes[0].frames;
     assert_eq!(frames.len(), 2);
-    // The caller's place stands behind its CALL, its values stay pending.
+    // The caller's place stands after its CALL, its values stay pending.
     assert_eq!(frames[0].place, 4);
     assert_eq!(frames[0].pending, [Value::Int(1)]);
-    // Counted over the table, behind the eight instructions of main.
+    // Counted over the table, after the eight instructions of main.
     assert_eq!((frames[1].method, frames[1].place), (1, 8));
     assert_eq!(frames[1].slots[..3], [Value::Int(20), Value::Int(30), Value::Empty]);
     drive(&mut machine, &[0; 4]);
@@ -316,7 +316,7 @@ fn fault_20_of_a_value_returned() {
     let child = &run.configuration.processes[1];
     assert_eq!(child.state, State::Stopped(Fault::Empty));
     assert_eq!(child.frames[0].pending, [Value::Empty]);
-    // The fourth instruction behind the three of main.
+    // The fourth instruction after the three of main.
     assert_eq!(child.frames[0].place, 6);
 }
 

@@ -69,7 +69,7 @@ fn check_method(method: &Method) -> Result<(), Error> {
     let mut labels = method.labels.iter();
     match labels.find(|label| label.before == method.code.len()) {
         Some(label) => {
-            Err(Error::at(label.name.place, format!("expected an op behind the label `{}`", label.name.text)))
+            Err(Error::at(label.name.place, format!("expected an op after the label `{}`", label.name.text)))
         }
         None => Ok(()),
     }

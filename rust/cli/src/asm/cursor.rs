@@ -38,7 +38,7 @@ impl<'l, 't> Cursor<'l, 't> {
         word.filter(|_| !self.at_label()).map(|token| token.text)
     }
 
-    /// Whether a word with a colon behind it comes next.
+    /// Whether a word with a colon after it comes next.
     pub fn at_label(&self) -> bool {
         let mut ahead = self.line.tokens[self.index..].iter();
         let word = ahead.next().is_some_and(|token| token.kind == Kind::Word);
@@ -77,7 +77,7 @@ impl<'l, 't> Cursor<'l, 't> {
     }
 
     /// Takes a word or a number. Where `opens` says so, a word has another
-    /// phrase in parentheses behind it. Nothing nests deeper than three.
+    /// phrase in parentheses after it. Nothing nests deeper than three.
     pub fn phrase(&mut self, what: &str, opens: fn(&str) -> bool) -> Result<Phrase, Error> {
         self.nested_phrase(what, opens, 3)
     }

@@ -7,7 +7,7 @@ use crate::error::{Error, Place};
 pub enum Kind {
     /// A letter or `_`, then letters, digits and `_`.
     Word,
-    /// Digits, perhaps behind a minus sign.
+    /// Digits, perhaps after a minus sign.
     Number,
     /// One of `( ) , : * -`.
     Mark,
@@ -24,7 +24,7 @@ pub struct Token<'t> {
 #[derive(Clone, Debug)]
 pub struct Line<'t> {
     pub tokens: Vec<Token<'t>>,
-    /// Right behind the last token.
+    /// Right after the last token.
     pub end: Place,
 }
 

@@ -12,7 +12,7 @@ use crate::names::{MethodNames, Scope};
 const WIDTH: usize = 72;
 /// So many slots stand in a line.
 const SLOTS_IN_LINE: usize = 4;
-/// Instructions stand behind so many blanks.
+/// Instructions stand after so many blanks.
 const INDENT: &str = "    ";
 
 /// Methods as text, with the names made up for them and their places in it.
@@ -71,7 +71,7 @@ fn list_method(method: &Method, scope: Scope, lines: &mut Vec<String>) -> Lines 
     Lines { header, places }
 }
 
-/// The header, and the slots behind the parameters up to the last used one.
+/// The header, and the slots after the parameters up to the last used one.
 fn header_lines(method: &Method, names: &MethodNames) -> Vec<String> {
     let slots: Vec<String> = (0..SLOTS).map(|slot| slot_text(method, names, slot)).collect();
     let used = method.slots.iter().rposition(|kind| *kind != 0);

@@ -1,4 +1,4 @@
-//! A run in words: each line with a sentence and the holders behind it, every
+//! A run in words: each line with a sentence and the holders after it, every
 //! entry where that is asked for, then the end, the counts and each process.
 
 mod blocks;
@@ -13,7 +13,7 @@ use crate::holders::Holders;
 use crate::input::case::{Case, Given};
 use crate::sentence::sentence;
 
-/// Sentences start behind the numbers of most lines.
+/// Sentences start after the numbers of most lines.
 const INDENT: usize = 22;
 
 /// A run of more entries is gone through entry by entry only where all of them

@@ -21,8 +21,8 @@ pub fn printed(text: &str) -> Result<Vec<Line>, Error> {
     lines.collect()
 }
 
-/// Reads lines with commas behind a line of names; unused columns are empty, and
-/// columns behind the sixth are passed over.
+/// Reads lines with commas after a line of names; unused columns are empty, and
+/// columns after the sixth are passed over.
 pub fn csv(text: &str) -> Result<Vec<Line>, Error> {
     let lines = text.lines().zip(1..).skip(1).filter(|(line, _)| !line.trim().is_empty());
     let lines = lines.map(|(line, number)| read_line(number, columns(line, ',').into_iter().take(LINE_WORDS), ""));
