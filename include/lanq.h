@@ -28,7 +28,7 @@ extern "C" {
 /* ---- Sizes ---- */
 
 /* The least length of a work store, in words of 32 bits. */
-#define LANQ_WORK_WORDS 8192
+#define LANQ_WORK_WORDS 8256
 /* Words of 16 bits in a line of the trace. */
 #define LANQ_LINE_WORDS 6
 /* Words of a program table of so many methods and instructions. */
@@ -147,8 +147,10 @@ typedef struct {
 
 /* In a column that a line does not use. */
 #define LANQ_UNUSED 65535
-/* What lanq_holder answers where no process holds the qubit. */
+/* What lanq_holder answers where no process holds the qubit, and lanq_stored_holder where there is no such thing. */
 #define LANQ_NOBODY 65535
+/* What lanq_stored_holder answers of a thing that was not made. */
+#define LANQ_NOT_MADE 255
 
 /* A line of the trace: six words. `entry` counts the schedule's bytes from 0. */
 typedef struct {
@@ -169,7 +171,7 @@ enum LanqKind {
   LANQ_LINE_STOPPED = 10 /* a LANQ_FAULT_.. */
 };
 
-/* What is given, in b of LANQ_LINE_GAVE. */
+/* What is given, in b of LANQ_LINE_GAVE; the kinds that lanq_stored_holder takes, LANQ_THING_CHANNEL left out. */
 enum LanqThing { LANQ_THING_QUBIT = 3, LANQ_THING_CHANNEL = 4, LANQ_THING_END_0 = 5, LANQ_THING_END_1 = 6 };
 
 /* Why a process was stopped. It keeps what it had; the others go on. */
@@ -215,7 +217,8 @@ LanqAnswer lanq_check(const uint16_t *program, size_t program_len, const uint8_t
  *   has room for `trace_len` / LANQ_LINE_WORDS lines, rounded down;
  * - the first LANQ_WORK_WORDS words of the work store are the final configuration, with 0 in every unused place, and its
  *   other words are as they were. Word 0 is the number of processes made, word 1 of qubits, word 2 of channels; process n
- *   has the 512 words from word 512 * (n + 1) on (docs/LAYOUT.md has them all).
+ *   has the 512 words from word 512 * (n + 1) on, and the last 64 words say who holds each qubit and each channel end
+ *   (docs/LAYOUT.md has them all).
  * After a refusal every word of trace and work store is as it was.
  *
  * Lengths count elements: `trace_len` words of 16 bits, `work_len` words of 32. Neither trace nor work store may overlap
@@ -233,6 +236,13 @@ typedef struct {
  * backwards, up to the line that decides, which is counted; if none decides, every one is read. A part of a line at the end is
  * ignored. Any words, any k and any qubit number are answered. */
 LanqHolder lanq_holder(const uint16_t *trace, size_t trace_len, size_t k, uint16_t qubit);
+
+/* Who holds a qubit or a channel end after a run, by the work store that the run has left: `kind` is LANQ_THING_QUBIT,
+ * LANQ_THING_END_0 or LANQ_THING_END_1, `number` that of the qubit or of the channel. The answer is the process,
+ * LANQ_NOT_MADE where the thing was not made, and LANQ_NOBODY where there is no such thing or the store has fewer words than
+ * LANQ_WORK_WORDS. It equals what the lines of the run say, and takes the same time for every thing, however long the run
+ * was. A thing whose holder has finished or stopped is still its holder's. */
+uint16_t lanq_stored_holder(const uint32_t *work, size_t work_len, uint64_t kind, uint64_t number);
 
 /* Whether two traces have the same lines and the same timing. Columns 1 to 5 of each line are equal; of the entry's number
  * (column 0) it is the change from each line to the next that is equal, with its sign and never wrapped, so that a trace

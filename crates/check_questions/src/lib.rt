@@ -92,7 +92,7 @@ fn ask_inputs(schedule: &[u8], outcomes: &[u8], work: usize) -> Check
     if 65535 < schedule.len() {
         return Check::Schedule;
     }
-    if work < 8192 {
+    if work < 8256 {
         return Check::Work;
     }
     Check::Accepted

@@ -7,11 +7,13 @@ ghost use lib.ListN.{length};
 ghost use Rattle.machine.specs.Answer.{linesIn};
 ghost use Rattle.machine.specs.Answer as machine;
 ghost use Rattle.run.specs.Answers.{traceLeft, storeLeft};
+ghost use Rattle.store_read.specs.Stored.{storedHolder};
 ghost use Rattle.lanq.specs.Answers.{checkAnswer, runAnswer};
 use check_questions::Check;
 use check_questions::ask;
 use run::Answer;
 use run::run;
+use store_read::stored_holder;
 use trace::lookup::qubit_holder;
 use trace::same::same_lines;
 
@@ -118,6 +120,15 @@ pub extern "C" fn lanq_holder(trace: &[u16], k: usize, qubit: u16) -> LanqHolder
         holder: answer.holder as u64,
         read: answer.read as u64,
     }
+}
+
+// The holder of a thing as a run has stored it in the work store: kind 3 a qubit, 5 and 6 the ends of a channel. 255 where the thing
+// is not made, 65535 where the store is too short or there is no such thing.
+#[no_mangle]
+pub extern "C" fn lanq_stored_holder(work: &[u32], kind: u64, number: u64) -> u16
+    ensures { λ r. ⌜ r ≡ storedHolder (now (work .entry)) kind number ⌝ }
+{
+    stored_holder(work, kind, number)
 }
 
 // Whether two traces have the same lines, column 0 left out, and the same gaps from each line to the next.

@@ -5,3 +5,4 @@ pub mod Frames
 pub mod Process
 pub mod Whole
 pub mod Unused
+pub mod HolderWords

@@ -62,10 +62,6 @@ encode c =
     padded 512 (length (c .processes) ∷ c .qubits ∷ c .channels ∷ [])
     ++ padded 7680 (flatten (map processWords (c .processes)))
 
--- "the first 8,192 work words hold the final configuration .. words beyond kept"
-unfoldable pub storeAfter : Config → List ℕ → List ℕ
-storeAfter c work = encode c ++ drop 8192 work
-
 -- reading back
 
 unfoldable pub signed32 : ℕ → ℤ

@@ -1,6 +1,6 @@
 -- What a giving leaves in reach: nothing that the giver keeps is covered by a thing given, and what the new holder
 -- gets is covered by one.
-use Prim.Native.Nat.{ℕ, _<_, _≤_}
+use Prim.Native.Nat.{ℕ, suc, _<_, _≤_}
 use mathlib.Core.Path.{_≡_, sym, _∙_, ap, subst}
 use mathlib.Core.Logic.{_≢_, _⊎_, inl, inr, ⊎-elim}
 use mathlib.Core.Bool.{false}
@@ -181,8 +181,11 @@ reach-set c n pr m x r =
     same : m ≡ n → (m ≡ n) × T (reaches pr x)
     same e = (e, subst (λ (q : Process). T (reaches q x)) (process-same c n pr (made e)) (here e))
 
-pub joined-old : (c : Config) (pr : Process) (m : ℕ) → m < length (c .processes)
-    → processAt (joined c pr) m ≡ processAt c m
+pub count-joined : (c : Config) (pr : Process) → length (joined c pr .processes) ≡ suc (length (c .processes))
+unfolding joined
+count-joined c pr = omega (arith, length-append (c .processes) (pr ∷ []))
+
+pub joined-old : (c : Config) (pr : Process) (m : ℕ) → m < length (c .processes) → processAt (joined c pr) m ≡ processAt c m
 unfolding processAt joined
 joined-old c pr m h = List·getD-append (c .processes) (pr ∷ []) unmade m h
 

@@ -10,6 +10,7 @@ pub mod Invariant
 pub mod Lines
 pub mod Holder
 pub mod Giving
+pub mod Unmade
 pub mod Numbers
 pub mod Ownership
 pub mod Prefix
@@ -22,6 +23,7 @@ pub mod Effects
 pub mod Sound
 pub mod Steps
 pub mod Partner
+pub mod Held
 pub mod Waiting
 pub mod Faults
 pub mod Reached

@@ -1,8 +1,8 @@
 -- Demand 3 over the whole schedule. The invariant: whatever a process reaches, the lines so far name it as holder, and
 -- it was made; every line is lawful by the lines above it; and numbers are given out in order (Numbers.antt). One lemma
--- carries reach and holders over any entry: whatever the entry did, some things went to one process by its lines, and
--- beyond them nobody reaches more than before.
-use Prim.Native.Nat.{ℕ, zero, suc, _<_}
+-- carries reach and holders over any entry: whatever the entry did, some things went to one process by its lines, and beyond
+-- them nobody reaches more than before.
+use Prim.Native.Nat.{ℕ, zero, suc, _≤_, _<_}
 use mathlib.Core.Path.{_≡_, refl, sym, _∙_, ap, subst}
 use mathlib.Core.Logic.{_≢_, _⊎_, inl, inr, ⊎-elim}
 use mathlib.Core.Bool.{Bool, true, false, cond, not, _&&_, _||_, Bool·beq}
@@ -11,8 +11,8 @@ use mathlib.Core.Option.{Option, none, some, Option·some-injective, Option·non
 use native.Mathlib.Nat.{le-step, le-refl, lt-irrefl}
 use native.Mathlib.Omega.{arith}
 use lib.ListN.{take, length}
-use lib.Dec.{T, eqb, eqb→eq}
-use borrow.Author.Tests.{eqb-false}
+use lib.Dec.{T, eqb, ltb, eqb→eq}
+use borrow.Author.Tests.{eqb-false, ltb-true, ltb-false}
 use Rattle.lists.specs.Lists.{any, All}
 use Rattle.lists.proofs.Tests.{decide, passes, or-cases, or-left, and-left, and-right}
 use Rattle.lists.proofs.Any.{any-elim, firstSome-found}
@@ -29,13 +29,16 @@ use Rattle.machine.proofs.Invariant.{run-keeps}
 use Rattle.machine.proofs.Numbers.{Numbered, entry-numbered, start-numbered}
 use Rattle.machine.proofs.Lines.{each-append, each-at, Dated, dated-next, effect-of}
 use Rattle.machine.proofs.Holder.{covered, LinesHeld, holder-append, holder-kept, holder-making, holder-quiet, holder-given, holder-handing, line-free, lines-quiet, Givable, givable-first, lines-given, lines-handing}
-use Rattle.machine.proofs.Giving.{frames-reach, things-within, giver-left, child-reach, receiver-reach, others-keep, reach-made, reach-set, reach-joined, count-set}
+use Rattle.machine.proofs.Unmade.{unmade-idle}
+use Rattle.machine.proofs.Giving.{count-joined, frames-reach, things-within, giver-left, child-reach, receiver-reach, others-keep, reach-made, reach-set, reach-joined, count-set}
 
 -- The invariant of a configuration and the lines so far.
 pub record Kept (c : Config) (ls : List Line) : Type 0 where
   pub named : (x : Thing) (n : ℕ) → T (reaches (processAt c n) x) → Holds ls n x
   pub made : (x : Thing) (n : ℕ) → T (reaches (processAt c n) x) → Made c x
+  -- whatever was made has a holder, and whatever has one was made, and its holder too
   pub held : (x : Thing) → Made c x → (q : ℕ) × Holds ls q x
+  pub holding : (x : Thing) (q : ℕ) → Holds ls q x → Made c x × (q < length (c .processes))
   pub lawful : LinesHeld [] ls
 
 -- What an entry does to ownership: the things ts go to process q by its lines. Beyond what they cover, a process
@@ -46,6 +49,8 @@ record Transfer (c c′ : Config) (ls new : List Line) (q : ℕ) (ts : List Thin
   still : (x : Thing) → Made c x → Made c′ x
   fresh : (x : Thing) → T (covered ts x) → Made c′ x
   only : (x : Thing) → Made c′ x → Made c x ⊎ T (covered ts x)
+  grown : length (c .processes) ≤ length (c′ .processes)
+  taker : (x : Thing) → T (covered ts x) → q < length (c′ .processes)
   holders : (x : Thing) → holder (ls ++ new) x ≡ cond (covered ts x) (some q) (holder ls x)
   lines : LinesHeld ls new
 
@@ -76,9 +81,16 @@ transfer-keeps c c′ ls new q ts v h = record {
   held = λ x m.
       let w = choice-some (covered ts x) (holder ls x) q (⊎-elim (λ o. inl (h .held x o)) (λ t. inr t) (v .only x m)) in
       (w .0, v .holders x ∙ w .1);
+  holding = λ x n r. holds x n (covered ts x) refl (sym (v .holders x) ∙ r);
   lawful = each-append LineHeld [] ls new (h .lawful) (v .lines);
 }
   where
+    holds : (x : Thing) (n : ℕ) (b : Bool) → covered ts x ≡ b → cond b (some q) (holder ls x) ≡ some n
+        → Made c′ x × (n < length (c′ .processes))
+    holds x n true i r =
+        (v .fresh x (passes i), subst (λ (m : ℕ). m < length (c′ .processes)) (Option·some-injective q n r) (v .taker x (passes i)))
+    holds x n false i r = let w = h .holding x n r in (v .still x (w .0), omega (arith, w .1, v .grown))
+
     given : (x : Thing) (n : ℕ) → (n ≡ q) × T (covered ts x) → cond (covered ts x) (some q) (holder ls x) ≡ some n
     given x n g = choice-true (covered ts x) (holder ls x) (some q) (g .1) ∙ ap {B = Option ℕ} some (sym (g .0))
 
@@ -123,6 +135,8 @@ transfer-nothing c ls = record {
   still = λ x h. h;
   fresh = λ x b. absurd b;
   only = λ x h. inl h;
+  grown = omega arith;
+  taker = λ x b. absurd b;
   holders = λ x. holder-append ls [] x;
   lines = tt;
 }
@@ -148,6 +162,8 @@ module _ (c : Config) (ls : List Line) (h : Kept c ls) (k n : ℕ) where
     still = still-set c n pr;
     fresh = λ x b. absurd b;
     only = λ x m. inl (only-set c n pr x m);
+    grown = omega (arith, count-set c n pr);
+    taker = λ x b. absurd b;
     holders = λ x. holder-append ls (map (lineOf k n) es) x ∙ holder-quiet own x k n es (holder ls x) q;
     lines = lines-quiet own ls k n es (λ x r. h .named x n r) q;
   }
@@ -208,6 +224,12 @@ module _ (c : Config) (ls : List Line) (h : Kept c ls) (k n : ℕ) where
   counted-new (channel a) pr (end b s) e m = below-next a b (c .channels) e m
   counted-new (end a t) pr x e m = absurd e
 
+  count-counted : (t : Thing) (c′ : Config) → length (counted t c′ .processes) ≡ length (c′ .processes)
+  unfolding counted
+  count-counted (qubit a) c′ = refl
+  count-counted (channel a) c′ = refl
+  count-counted (end a s) c′ = refl
+
   counted-process : (t : Thing) (c′ : Config) (m : ℕ) → processAt (counted t c′) m ≡ processAt c′ m
   unfolding counted processAt
   counted-process (qubit a) c′ m = refl
@@ -230,10 +252,10 @@ module _ (c : Config) (ls : List Line) (h : Kept c ls) (k n : ℕ) where
   line-making (end a s) =
       line-free ls (lineOf k n (making (end a s))) (omega arith) (omega arith) (omega arith) (omega arith)
 
-  moved-making : (t : Thing) (fs : List Frame) → Next (c .qubits) (c .channels) t → FramesWithin (ref t ∷ own) fs
+  moved-making : n < length (c .processes) → (t : Thing) (fs : List Frame) → Next (c .qubits) (c .channels) t → FramesWithin (ref t ∷ own) fs
       → Transfer c (counted t (setProcess c n (runs fs))) ls (lineOf k n (making t) ∷ []) n (t ∷ [])
   unfolding reaches names
-  moved-making t fs e w = record {
+  moved-making made t fs e w = record {
     reach = λ m x r.
         ⊎-elim
         (λ g.
@@ -246,6 +268,8 @@ module _ (c : Config) (ls : List Line) (h : Kept c ls) (k n : ℕ) where
     still = counted-still t (runs fs);
     fresh = λ x b. counted-fresh t (runs fs) x e (one-covered t x b);
     only = λ x m. ⊎-elim inl (λ u. inr (or-left (covers t x) false u)) (counted-new t (runs fs) x e m);
+    grown = omega (arith, count-counted t (setProcess c n (runs fs)), count-set c n (runs fs));
+    taker = λ x b. omega (arith, made, count-counted t (setProcess c n (runs fs)), count-set c n (runs fs));
     holders = λ x.
         holder-append ls (lineOf k n (making t) ∷ []) x
         ∙ holder-making x (holder ls x) k n t (next-no-end t e)
@@ -306,6 +330,8 @@ module _ (c : Config) (ls : List Line) (h : Kept c ls) (k n : ℕ) where
         inl
         (only-set c n (runs (framesWithout ts fs)) x
         (only-joined (setProcess c n (runs (framesWithout ts fs))) (runs (started p m args ∷ [])) x made));
+    grown = omega (arith, one-more);
+    taker = λ x b. omega (arith, one-more);
     holders = λ x.
         holder-append ls (map (lineOf k n) (forked child m params ∷ map (gave child) ts)) x
         ∙ ap (λ (g : Option ℕ). foldl (holderAfter x) g (map (lineOf k n) (map (gave child) ts)))
@@ -325,8 +351,13 @@ module _ (c : Config) (ls : List Line) (h : Kept c ls) (k n : ℕ) where
       child : ℕ
       child = length (c .processes)
 
-      still : (x : Thing) → Made c x
-          → Made (joined (setProcess c n (runs (framesWithout ts fs))) (runs (started p m args ∷ []))) x
+      one-more : length (joined (setProcess c n (runs (framesWithout ts fs))) (runs (started p m args ∷ [])) .processes)
+          ≡ suc (length (c .processes))
+      one-more =
+          count-joined (setProcess c n (runs (framesWithout ts fs))) (runs (started p m args ∷ []))
+          ∙ ap suc (count-set c n (runs (framesWithout ts fs)))
+
+      still : (x : Thing) → Made c x → Made (joined (setProcess c n (runs (framesWithout ts fs))) (runs (started p m args ∷ []))) x
       still x e =
           still-joined (setProcess c n (runs (framesWithout ts fs))) (runs (started p m args ∷ [])) x
           (still-set c n (runs (framesWithout ts fs)) x e)
@@ -366,6 +397,8 @@ module _ (c : Config) (ls : List Line) (h : Kept c ls) (k n : ℕ) where
     still = still;
     fresh = λ x b. still x (given-made ts (things-within own (v ∷ []) (hs .1, tt)) x b);
     only = λ x m. inl (only-set c n (runs (framesWithout ts fs)) x (only-set c₁ q (runs (pushTop v gs)) x m));
+    grown = omega (arith, same-many);
+    taker = λ x b. omega (arith, same-many, reach-made c q (end ch (not d)) (hr .0));
     holders = λ x.
         holder-append ls (map (lineOf k n) (met q ch d ∷ handing q v)) x
         ∙ ap (λ (g : Option ℕ). foldl (holderAfter x) g (map (lineOf k n) (handing q v)))
@@ -383,6 +416,9 @@ module _ (c : Config) (ls : List Line) (h : Kept c ls) (k n : ℕ) where
 
       c₁ : Config
       c₁ = setProcess c n (runs (framesWithout ts fs))
+
+      same-many : length (setProcess c₁ q (runs (pushTop v gs)) .processes) ≡ length (c .processes)
+      same-many = count-set c₁ q (runs (pushTop v gs)) ∙ count-set c n (runs (framesWithout ts fs))
 
       still : (x : Thing) → Made c x → Made (setProcess c₁ q (runs (pushTop v gs))) x
       still x e = still-set c₁ q (runs (pushTop v gs)) x (still-set c n (runs (framesWithout ts fs)) x e)
@@ -519,54 +555,66 @@ moved-met p outcomes k s (some e) dated h j =
           (w .two) (w .sending) (w .receiving),
     )
 
-applied-moved : (p outcomes : List ℕ) (k : ℕ) (s : State) (n : ℕ) → Dated k (s .lines) → Kept (s .config) (s .lines)
-    → (act : Act)
+makes≢idle : (t : Thing) (fs : List Frame) → _≢_ {A = Act} (makes t fs) idle
+makes≢idle t fs e = let z : _≡_ {A = ℕ} 0 1 = cc in omega arith
+
+applied-moved : (p outcomes : List ℕ) (k : ℕ) (s : State) (n : ℕ) → Dated k (s .lines) → Kept (s .config) (s .lines) → (act : Act)
+    → (act ≢ idle → n < length (s .config .processes))
     → ActWithin (valuesOf (processAt (s .config) n .frames)) (s .config .qubits) (s .config .channels) act
     → SomeTransfer s (applied p outcomes k s n act)
 unfolding appliedIn forkingIn
-applied-moved p outcomes k s n dated h idle w = (0, [], transfer-nothing (s .config) (s .lines))
-applied-moved p outcomes k s n dated h stuck w = (0, [], transfer-nothing (s .config) (s .lines))
-applied-moved p outcomes k s n dated h (faults f) w = (
+applied-moved p outcomes k s n dated h idle made w = (0, [], transfer-nothing (s .config) (s .lines))
+applied-moved p outcomes k s n dated h stuck made w = (0, [], transfer-nothing (s .config) (s .lines))
+applied-moved p outcomes k s n dated h (faults f) made w = (
   n,
   [],
   moved-within (s .config) (s .lines) h k n (record { status = stopped f; frames = processAt (s .config) n .frames }) (stops f ∷ [])
       (frames-own (processAt (s .config) n .frames) (valuesOf (processAt (s .config) n .frames)) (λ t u. u))
       (quiet-stops (valuesOf (processAt (s .config) n .frames)) f, tt),
 )
-applied-moved p outcomes k s n dated h (goes fs es u) w =
+applied-moved p outcomes k s n dated h (goes fs es u) made w =
     (n, [], moved-within (s .config) (s .lines) h k n (runs fs) es (w .0) (w .1))
-applied-moved p outcomes k s n dated h ends w = (
+applied-moved p outcomes k s n dated h ends made w = (
   n,
   [],
   moved-within (s .config) (s .lines) h k n (record { status = finished; frames = [] }) (finishes ∷ []) tt
       (quiet-finishes (valuesOf (processAt (s .config) n .frames)), tt),
 )
-applied-moved p outcomes k s n dated h (makes t fs) w =
-    (n, t ∷ [], moved-making (s .config) (s .lines) h k n t fs (w .0) (w .1))
-applied-moved p outcomes k s n dated h (forks m args fs) w = (
+applied-moved p outcomes k s n dated h (makes t fs) made w =
+    (n, t ∷ [], moved-making (s .config) (s .lines) h k n (made (makes≢idle t fs)) t fs (w .0) (w .1))
+applied-moved p outcomes k s n dated h (forks m args fs) made w = (
   length (s .config .processes),
   thingsOf args,
   moved-forking (s .config) (s .lines) h k n dated p m args fs (length args) (w .0) (w .1),
 )
-applied-moved p outcomes k s n dated h (offers o) w =
+applied-moved p outcomes k s n dated h (offers o) made w =
     moved-met p outcomes k s (meetingOf p outcomes s n o) dated h (λ e i. meeting-joined p outcomes s n o e w i)
+
+-- whoever acts was made
+acting-made : (p outcomes : List ℕ) (s : State) (n : ℕ) → judged s n (actOf p outcomes s n) ≢ idle → n < length (s .config .processes)
+unfolding judged
+acting-made p outcomes s n ne =
+    ⊎-elim (ltb-true n (length (s .config .processes)))
+    (λ l. absurd (ne (ap (judged s n) (unmade-idle p outcomes s n (ltb-false n (length (s .config .processes)) l)))))
+    (decide (ltb n (length (s .config .processes))))
 
 pub entry-kept : (p outcomes : List ℕ) (k : ℕ) (s : State) (n : ℕ) → Dated k (s .lines) → Kept (s .config) (s .lines)
     → Kept (effectOf p outcomes k s n .config) (s .lines ++ effectOf p outcomes k s n .lines)
 unfolding effectIn
 entry-kept p outcomes k s n dated h =
-    let w = applied-moved p outcomes k s n dated h (judged s n (actOf p outcomes s n)) (judged-within p outcomes s n) in
-    transfer-keeps (s .config) (effectOf p outcomes k s n .config) (s .lines) (effectOf p outcomes k s n .lines) (w .0)
-    (w .1) (w .2) h
+    let w = applied-moved p outcomes k s n dated h (judged s n (actOf p outcomes s n)) (acting-made p outcomes s n)
+    (judged-within p outcomes s n) in
+    transfer-keeps (s .config) (effectOf p outcomes k s n .config) (s .lines) (effectOf p outcomes k s n .lines) (w .0) (w .1) (w .2) h
 
 -- the run
 
 pub start-kept : (p : List ℕ) → Kept (startConfig p) []
-unfolding startConfigWith processAt reaches
+unfolding startConfigWith processAt reaches holder
 start-kept p = record {
   named = λ x n r. absurd (nothing-reached x n r);
   made = λ x n r. absurd (nothing-reached x n r);
   held = λ x m. absurd (nothing-made x m);
+  holding = λ x q e. absurd (Option·none-ne-some q e);
   lawful = tt;
 }
   where

@@ -13,12 +13,12 @@ use borrow.Author.Tests.{eqb-true, eqb-false, ltb-true, ltb-false}
 use Rattle.lists.specs.Lists.{firstSome}
 use Rattle.lists.proofs.Tests.{decide}
 use Rattle.machine.specs.Value.{Thing, end}
-use Rattle.machine.specs.State.{Process, Config, State, processAt}
-use Rattle.machine.specs.Act.{Offer, sends, receives, Act, idle, atFrames, byStatus, actOf}
+use Rattle.machine.specs.State.{Config, State, processAt}
+use Rattle.machine.specs.Act.{Offer, sends, receives, Act, idle, actOf}
 use Rattle.machine.specs.Entry.{Meeting, oppositeEnd, joins, offered, meetsWith, meetingOf, meetingIn}
 use Rattle.machine.specs.Owner.{valuesOf, reaches, holder}
 use Rattle.machine.proofs.Within.{InReach, OfferWithin, ActWithin, act-within}
-use Rattle.machine.proofs.Giving.{process-beyond}
+use Rattle.machine.proofs.Unmade.{unmade-idle}
 use Rattle.machine.proofs.Ownership.{Kept, cond-some, opposite, meets-offer}
 
 -- whoever meets the offer reaches that end
@@ -67,13 +67,6 @@ first-only f (suc n) h others out =
       where
         past : n ≤ h → suc n ≤ h
         past l = ⊎-elim (λ t. ltb-true n h t) (λ t. absurd (ne (omega (arith, l, ltb-false n h t)))) (decide (ltb n h))
-
--- a process that is not made does nothing
-pub unmade-idle : (p outcomes : List ℕ) (s : State) (q : ℕ) → length (s .config .processes) ≤ q
-    → actOf p outcomes s q ≡ idle
-unfolding actOf byStatus
-unmade-idle p outcomes s q h =
-    ap (λ (pr : Process). byStatus (pr .status) (atFrames p outcomes s (pr .frames))) (process-beyond (s .config) q h)
 
 module _ (p outcomes : List ℕ) (s : State) (kept : Kept (s .config) (s .lines)) (n : ℕ) (o : Offer) (h : ℕ)
     (held : (q : ℕ) → holder (s .lines) (oppositeEnd o) ≡ some q → h ≡ q) where

@@ -131,7 +131,7 @@ silentLoop = mainOnly [] (1 ∷ 1 ∷ 5 ∷ 0 ∷ 17 ∷ 0 ∷ [])
 
 -- the answer with room enough in trace and store
 abbrev pub answer : List ℕ → List ℕ → List ℕ → Answer
-answer p schedule outcomes = answerOf p schedule outcomes 4096 8192
+answer p schedule outcomes = answerOf p schedule outcomes 4096 8256
 
 -- the words of the lines that a run writes
 abbrev pub written : List ℕ → List ℕ → List ℕ → List ℕ
@@ -154,7 +154,7 @@ pub record Cases : Type 0 where
   -- P1 empty schedule, end 0, no lines
   pub p1 : answer workedTable [] [] ≡ ran 0 0 0 0
   -- P2 no trace lines, first op NEWQ, schedule 0: end 3, 0 entries
-  pub p2 : answerOf workedTable (0 ∷ []) [] 0 8192 ≡ ran 3 0 0 0
+  pub p2 : answerOf workedTable (0 ∷ []) [] 0 8256 ≡ ran 3 0 0 0
   -- P3 the run above
   pub p3 : answer workedTable workedSchedule [] ≡ ran 1 18 9 0
   pub p3-lines : written workedTable workedSchedule [] ≡ workedTrace

@@ -58,7 +58,7 @@ aboveSecond = take 3 (run givenTwice [] 4096 (replicate 4 0) .state .lines)
 
 pub record Examples : Type 0 where
   -- a trace that is exactly full, and a silent entry after it: the run goes on
-  pub full : answerOf workedTable (0 ∷ 0 ∷ []) [] 1 8192 ≡ ran 0 2 1 0
+  pub full : answerOf workedTable (0 ∷ 0 ∷ []) [] 1 8256 ≡ ran 0 2 1 0
   -- one measurement uses one outcome, the first
   pub measured : answer measuringOnce (0 ∷ 0 ∷ []) (1 ∷ 0 ∷ []) ≡ ran 0 2 2 1
   pub measured-lines : written measuringOnce (0 ∷ 0 ∷ []) (1 ∷ 0 ∷ [])

@@ -99,10 +99,10 @@ answerText ls (refusal n i) = refusedText n i
 answerText ls (ran e k l o) =
     linesText ls ++ endWord ++ spaced e ++ spaced k ++ spaced l ++ spaced o ++ (newline ∷ [])
 
--- "Its trace holds 4,096 lines." Its work store has 8,192 words.
+-- "Its trace holds 4,096 lines." Its work store has 8,256 words.
 unfoldable pub runText : List ℕ → List ℕ → List ℕ → List ℕ
 runText p schedule outcomes =
-    answerText (run p outcomes 4096 schedule .state .lines) (answerOf p schedule outcomes 4096 8192)
+    answerText (run p outcomes 4096 schedule .state .lines) (answerOf p schedule outcomes 4096 8256)
 
 -- "A file otherwise built, longer, or with an odd program length prints "refused 9 0""
 unfoldable pub printed : List ℕ → List ℕ

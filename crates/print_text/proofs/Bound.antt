@@ -32,7 +32,7 @@ runText-length : (p schedule outcomes : List ℕ) → length (runText p schedule
 unfolding runText
 runText-length p schedule outcomes =
     let ls = run p outcomes 4096 schedule .state .lines in
-    omega (arith, answerText-length ls (answerOf p schedule outcomes 4096 8192), lines-fit p outcomes 4096 schedule)
+    omega (arith, answerText-length ls (answerOf p schedule outcomes 4096 8256), lines-fit p outcomes 4096 schedule)
 
 pub printed-length : (bytes : List ℕ) → length (printed bytes) ≤ 516184
 unfolding printed

@@ -39,7 +39,7 @@ pub record Printable (p schedule outcomes : List ℕ) (a : Answer) (trace : List
   pub held : linesNo a ≤ length (linesOf trace)
   pub text : answerText (take (linesNo a) (linesOf trace)) a ≡ runText p schedule outcomes
 
-module _ (p schedule outcomes trace work : List ℕ) (t : length trace ≡ 24576) (w : length work ≡ 8192) where
+module _ (p schedule outcomes trace work : List ℕ) (t : length trace ≡ 24576) (w : length work ≡ 8256) where
   abbrev room : ℕ
   room = linesIn (length trace)
 

@@ -15,14 +15,14 @@ use print_input::well_built;
 use print_lines::writing::put_refused;
 use run::run;
 
-// "Its trace holds 4,096 lines." The work store has the 8,192 words that a run asks for.
+// "Its trace holds 4,096 lines." The work store has the 8,256 words that a run asks for.
 fn put_run(program: &[u16], schedule: &[u8], outcomes: &[u8], out: &mut [u8]) -> usize
     ensures { λ r. ⌜
         (now (out .exit) ≡ putFrom (now (out .entry)) 0 (runText (now (program .entry)) (now (schedule .entry)) (now (outcomes .entry))))
         × (r ≡ length (runText (now (program .entry)) (now (schedule .entry)) (now (outcomes .entry)))) ⌝ }
 {
     let mut trace = [0u16; 24576];
-    let mut work = [0u32; 8192];
+    let mut work = [0u32; 8256];
     let a = run(program, schedule, outcomes, &mut trace, &mut work);
     put_answer(out, a, &trace)
 }

@@ -8,7 +8,7 @@ use Rattle.table.specs.Questions.{Verdict, accepted, refused, questions}
 use Rattle.machine.specs.Run.{run}
 use Rattle.machine.specs.Answer.{refusal, ran, resultAnswer, answerOf, linesIn, traceAfter}
 use Rattle.machine.specs.Answer as machine
-use Rattle.layout.specs.Layout.{storeAfter}
+use Rattle.layout.specs.Holders.{storeAfter}
 use Rattle.check_questions.specs.declared.Check.{Check}
 use Rattle.check_questions.specs.declared.Check.the-variants.{Accepted, Sizes, Pairs, Rows, Instruction, Reading, Outcome, Schedule, Work}
 use Rattle.check_questions.specs.Check.{verdictOf}
@@ -56,7 +56,7 @@ module _ (p schedule outcomes trace work : List ℕ) where
           (traceAfter (run p outcomes (linesIn (length trace)) schedule .state .lines) trace))
           ×
           (work ≡ keptIfRefused x work
-          (storeAfter (run p outcomes (linesIn (length trace)) schedule .state .config) work))
+          (storeAfter (run p outcomes (linesIn (length trace)) schedule .state) work))
       go accepted e = absurd (ne (ap (λ (r : Refusal). r .number) (said ∙ ap refusalOf (asked ∙ e))))
       go (refused n i) e =
           (ap (λ (r : Refusal). refusal (r .number) (r .place)) (said ∙ ap refusalOf (asked ∙ e)), refl, refl)
@@ -75,5 +75,5 @@ module _ (p schedule outcomes trace work : List ℕ) where
         (ap (λ (x : Verdict). keptIfRefused x trace (traceAfter (run p outcomes (linesIn (length trace)) schedule .state .lines) trace)) ok),
     ap (λ (l : AfterRun). l .work) e
         ∙ sym
-        (ap (λ (x : Verdict). keptIfRefused x work (storeAfter (run p outcomes (linesIn (length trace)) schedule .state .config) work)) ok),
+        (ap (λ (x : Verdict). keptIfRefused x work (storeAfter (run p outcomes (linesIn (length trace)) schedule .state) work)) ok),
   )

@@ -1,21 +1,24 @@
 -- The answer and the lent buffers after `run`, by the verdict of the questions, and what is read back from them. The
 -- demands (Demands.antt) are put together from these.
-use Prim.Native.Nat.{ℕ, suc, _*_, _≤_, _<_}
-use mathlib.Core.Path.{_≡_, refl, _∙_, ap, ap₂}
-use mathlib.Core.List.{List, [], _∷_, _++_}
+use Prim.Native.Nat.{ℕ, suc, _+_, _*_, _≤_, _<_}
+use mathlib.Core.Path.{_≡_, refl, sym, _∙_, ap, ap₂}
+use mathlib.Core.List.{List, [], _∷_, _++_, append-assoc}
 use native.Mathlib.Omega.{arith}
-use lib.ListN.{getD, take, drop, length, List·getD-append}
-use lib.Seq.{take-at, drop-at}
+use lib.ListN.{getD, take, drop, length, length-append, List·getD-append}
+use lib.Seq.{take-at, drop-at, getD-append-add}
 use Rattle.lists.proofs.Tests.{cond-both}
 use Rattle.table.specs.Questions.{Verdict, accepted, refused, questions}
 use Rattle.machine.specs.State.{Line, State}
 use Rattle.machine.specs.Entry.{effectOf}
 use Rattle.machine.specs.Run.{Result, allOver, noneAble, fits, afterEffect, runFrom, run, runFromIn, runIn}
+use Rattle.machine.specs.Owner.{holder}
 use Rattle.machine.specs.Answer.{Answer, refusal, ran, resultAnswer, answerOf, linesIn, lineWords, traceWords, traceAfter}
 use Rattle.machine.specs.Answer as machine
 use Rattle.machine.specs.Sound.{ConfigSound}
 use Rattle.machine.proofs.Sound.{sound}
-use Rattle.layout.specs.Layout.{encode, storeAfter, decode}
+use Rattle.layout.specs.Layout.{encode, decode}
+use Rattle.layout.specs.Holders.{thingAt, holderNo, holderWords, storeAfter}
+use Rattle.layout.proofs.HolderWords.{words-length, words-at}
 use Rattle.layout.specs.Places.{InStore}
 use Rattle.layout.proofs.RoundTrip.{encode-length, run-back}
 use Rattle.layout.proofs.Unused.{unused-zero}
@@ -70,7 +73,7 @@ module _ (p schedule outcomes trace work : List ℕ) where
 
     pub store-refused : storeLeft p schedule outcomes trace work ≡ work
     unfolding storeLeft keptIfRefused
-    store-refused = ap (λ (v : Verdict). keptIfRefused v work (storeAfter (result .state .config) work)) says
+    store-refused = ap (λ (v : Verdict). keptIfRefused v work (storeAfter (result .state) work)) says
 
   -- where all are passed
 
@@ -84,17 +87,33 @@ module _ (p schedule outcomes trace work : List ℕ) where
     unfolding traceLeft keptIfRefused
     trace-is = ap (λ (v : Verdict). keptIfRefused v trace (traceAfter lines trace)) ok
 
-    store-is : storeLeft p schedule outcomes trace work ≡ encode (result .state .config) ++ drop 8192 work
-    unfolding storeLeft keptIfRefused storeAfter
-    store-is = ap (λ (v : Verdict). keptIfRefused v work (storeAfter (result .state .config) work)) ok
+    -- the words beyond the configuration's: the holders, and what was there
+    abbrev rest : List ℕ
+    rest = holderWords lines ++ drop 8256 work
 
-    config-sound : ConfigSound p (result .state .config)
+    store-is : storeLeft p schedule outcomes trace work ≡ encode (result .state .config) ++ rest
+    unfolding storeLeft keptIfRefused storeAfter
+    store-is = ap (λ (v : Verdict). keptIfRefused v work (storeAfter (result .state) work)) ok
+
+    pub config-sound : ConfigSound p (result .state .config)
     config-sound =
         sound p outcomes (linesIn (length trace)) schedule (table-kept p schedule outcomes (length work) ok)
         (outcomes-small p schedule outcomes (length work) ok) .config
 
     words-whole : length (encode (result .state .config)) ≡ 8192
     words-whole = encode-length p (result .state .config) config-sound
+
+    -- the store has these words at least
+    pub store-long : 8256 ≤ length (storeLeft p schedule outcomes trace work)
+    store-long =
+        omega (
+          arith,
+          ap (λ (ws : List ℕ). length ws) store-is,
+          length-append (encode (result .state .config)) rest,
+          length-append (holderWords lines) (drop 8256 work),
+          words-whole,
+          words-length lines,
+        )
 
     pub lines-read : linesRead p schedule outcomes trace work ≡ lines
     unfolding linesRead linesNo traceAfter
@@ -115,18 +134,30 @@ module _ (p schedule outcomes trace work : List ℕ) where
     unfolding configRead
     config-read =
         ap (λ (w : List ℕ). decode (take 8192 w)) store-is
-        ∙ ap decode (take-at (encode (result .state .config)) (drop 8192 work) 8192 words-whole)
+        ∙ ap decode (take-at (encode (result .state .config)) rest 8192 words-whole)
         ∙ run-back p outcomes (linesIn (length trace)) schedule (table-kept p schedule outcomes (length work) ok)
         (outcomes-small p schedule outcomes (length work) ok)
 
-    pub beyond-kept : drop 8192 (storeLeft p schedule outcomes trace work) ≡ drop 8192 work
-    beyond-kept = ap (drop 8192) store-is ∙ drop-at (encode (result .state .config)) (drop 8192 work) 8192 words-whole
+    pub beyond-kept : drop 8256 (storeLeft p schedule outcomes trace work) ≡ drop 8256 work
+    beyond-kept =
+        ap (drop 8256) (store-is ∙ sym (append-assoc (encode (result .state .config)) (holderWords lines) (drop 8256 work)))
+        ∙ drop-at (encode (result .state .config) ++ holderWords lines) (drop 8256 work) 8256
+        (length-append (encode (result .state .config)) (holderWords lines) ∙ omega (arith, words-whole, words-length lines))
+
+    pub holder-read : (i : ℕ) → i < 64
+        → getD (storeLeft p schedule outcomes trace work) (8192 + i) 0 ≡ holderNo (holder lines (thingAt i))
+    holder-read i h =
+        ap (λ (ws : List ℕ). getD ws (8192 + i) 0) store-is
+        ∙ ap (λ (n : ℕ). getD (encode (result .state .config) ++ rest) (n + i) 0) (sym words-whole)
+        ∙ getD-append-add (encode (result .state .config)) rest i 0
+        ∙ List·getD-append (holderWords lines) (drop 8256 work) 0 i (omega (arith, h, words-length lines))
+        ∙ words-at lines i h
 
     pub unused-read : (w : ℕ) → w < 8192 → (InStore (result .state .config) w → ⊥)
         → getD (storeLeft p schedule outcomes trace work) w 0 ≡ 0
     unused-read w h free =
         ap (λ (ws : List ℕ). getD ws w 0) store-is
-        ∙ List·getD-append (encode (result .state .config)) (drop 8192 work) 0 w (omega (arith, words-whole))
+        ∙ List·getD-append (encode (result .state .config)) rest 0 w (omega (arith, words-whole))
         ∙ unused-zero p (result .state .config) config-sound w free
 
     pub state-read : stateRead p schedule outcomes trace work ≡ result .state

@@ -83,7 +83,7 @@ module _ (p schedule outcomes trace work : List ℕ) where
         → getD (storeLeft p schedule outcomes trace work) w 0 ≡ 0
     demand-2-unused = buffers.unused-read p schedule outcomes trace work ok
 
-    pub demand-2-beyond : drop 8192 (storeLeft p schedule outcomes trace work) ≡ drop 8192 work
+    pub demand-2-beyond : drop 8256 (storeLeft p schedule outcomes trace work) ≡ drop 8256 work
     demand-2-beyond = buffers.beyond-kept p schedule outcomes trace work ok
 
 -- Demand 3: for every input that is not refused and every k, what the lent trace and the lent work store hold after a

@@ -7,14 +7,15 @@
 -- (specs/Answers.antt) are as in Demands.antt.
 use Prim.Native.Nat.{ℕ, _*_}
 use mathlib.Core.Path.{_≡_, refl, sym, _∙_, ap, ap₂, subst₂}
-use mathlib.Core.List.{List}
+use mathlib.Core.List.{List, _++_}
 use lib.ListN.{drop, length}
 use lib.Dec.{leb}
 use Rattle.table.specs.Questions.{Verdict, accepted, refused, andThen, whole, tableQuestions, question6, question7, question8, questions}
-use Rattle.machine.specs.State.{Config}
 use Rattle.machine.specs.Run.{run}
 use Rattle.machine.specs.Answer.{ran, resultAnswer, unlessRefused, answerOf, linesIn}
-use Rattle.layout.specs.Layout.{storeAfter}
+use Rattle.layout.specs.Layout.{encode}
+use Rattle.layout.specs.Holders.{thingAt, holderNo, holderWords, storeAfter}
+use Rattle.layout.proofs.HolderWords.{words-length, words-at, words-are}
 use Rattle.exchange.specs.Exchange.{Exchanges, SameAnswer, LinesKept}
 use Rattle.exchange.proofs.Exchange.{exchanges, same-length}
 use Rattle.run.specs.Answers.{keptIfRefused, traceLeft, storeLeft, linesRead}
@@ -35,11 +36,18 @@ module _ (p outcomes trace work xs ys : List ℕ) (e : Exchanges p outcomes (lin
       (andThen (question6 outcomes) (andThen (whole 7 (leb n 65535) 0) (question8 (length work)))))
       (same-length p outcomes room e)
 
+  -- each thing has the same holder, so that the same holders are stored
+  holders-same : holderWords (run p outcomes room xs .state .lines) ≡ holderWords (run p outcomes room ys .state .lines)
+  holders-same =
+      words-are (holderWords (run p outcomes room xs .state .lines)) (run p outcomes room ys .state .lines)
+      (words-length (run p outcomes room xs .state .lines))
+      (λ i h. words-at (run p outcomes room xs .state .lines) i h ∙ ap holderNo (same .holders (thingAt i)))
+
   -- "with an equal final configuration": the work store is the same, word by word
   pub exchanged-store : storeLeft p xs outcomes trace work ≡ storeLeft p ys outcomes trace work
-  unfolding storeLeft
+  unfolding storeLeft storeAfter
   exchanged-store =
-      ap₂ (λ (v : Verdict) (c : Config). keptIfRefused v work (storeAfter c work)) asked-same (same .config)
+      (λ i. keptIfRefused (asked-same i) work (encode (same .config i) ++ (holders-same i ++ drop 8256 work)))
 
   -- the end, and how many entries, lines and outcomes
   pub exchanged-answer : answerOf p xs outcomes room (length work) ≡ answerOf p ys outcomes room (length work)

@@ -3,3 +3,4 @@ pub mod Buffers
 pub mod Faults
 pub mod Demands
 pub mod Exchanges
+pub mod Holders

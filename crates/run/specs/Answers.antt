@@ -7,7 +7,8 @@ use Rattle.machine.specs.State.{Config, Line, State}
 use Rattle.machine.specs.Run.{run}
 use Rattle.machine.specs.Answer.{refusal, ran, answerOf, linesIn, traceAfter}
 use Rattle.machine.specs.Answer as machine
-use Rattle.layout.specs.Layout.{storeAfter, decode}
+use Rattle.layout.specs.Layout.{decode}
+use Rattle.layout.specs.Holders.{storeAfter}
 use Rattle.trace.specs.Trace.{linesOf}
 use Rattle.run.specs.declared.Answer.{Answer}
 use Rattle.run.specs.declared.Answer.the-variants.{Refused, Ran}
@@ -28,11 +29,11 @@ traceLeft p schedule outcomes trace work =
     keptIfRefused (questions p schedule outcomes (length work)) trace
     (traceAfter (run p outcomes (linesIn (length trace)) schedule .state .lines) trace)
 
--- "the first 8,192 work words hold the final configuration .. words beyond kept"
+-- "the first 8,192 work words hold the final configuration", the next 64 the holders; "words beyond kept"
 unfoldable pub storeLeft : List ℕ → List ℕ → List ℕ → List ℕ → List ℕ → List ℕ
 storeLeft p schedule outcomes trace work =
     keptIfRefused (questions p schedule outcomes (length work)) work
-    (storeAfter (run p outcomes (linesIn (length trace)) schedule .state .config) work)
+    (storeAfter (run p outcomes (linesIn (length trace)) schedule .state) work)
 
 -- What stands after a run, read back: the configuration that the first 8,192 words of the store give, the lines that
 -- the first words of the trace give, as many as the answer says, and the outcomes used, by the answer.

@@ -61,7 +61,7 @@ fn verdict(c: Check) -> Refusal
 
 // Asks the eight questions and, where none says no, runs. "A refusal gives number and place; trace and work store keep
 // their bytes. After a run, the trace's first lines are written and the rest kept; the first 8,192 work words hold the
-// final configuration .. words beyond kept."
+// final configuration .. words beyond kept", the next 64 being the holders of all qubits and ends.
 pub fn run(
     program: &[u16],
     schedule: &[u8],

@@ -26,7 +26,8 @@ use Rattle.machine.proofs.Reached.{Reached, stacked, busy-at}
 use Rattle.machine.proofs.Standing.{act-typed}
 use Rattle.machine.proofs.Sound.{config-sound}
 use Rattle.machine.proofs.Within.{OfferWithin, ActWithin, act-within}
-use Rattle.machine.proofs.Partner.{unmade-idle, partner-is}
+use Rattle.machine.proofs.Unmade.{unmade-idle}
+use Rattle.machine.proofs.Partner.{partner-is}
 use Rattle.machine.proofs.Busy.{Busy, frames-busy}
 use Rattle.machine.proofs.Waiting.{running-busy}
 use Rattle.machine.proofs.Steps.{ending, able-goes}

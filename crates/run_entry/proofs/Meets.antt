@@ -23,7 +23,7 @@ use Rattle.machine.proofs.Reached.{Reached, busy-at, Running}
 use Rattle.machine.proofs.Typing.{Typed}
 use Rattle.machine.proofs.Effects.{effect-typed}
 use Rattle.machine.proofs.Within.{OfferWithin, ActWithin, act-within}
-use Rattle.machine.proofs.Partner.{unmade-idle}
+use Rattle.machine.proofs.Unmade.{unmade-idle}
 use Rattle.machine.proofs.Ownership.{cond-some, meets-offer}
 use Rattle.machine.proofs.Ownership as own
 use Rattle.machine.specs.Answer.{traceAfter}

@@ -29,7 +29,7 @@ use Rattle.machine.proofs.Acts.{ActTyped}
 use Rattle.machine.proofs.Standing.{act-typed}
 use Rattle.machine.proofs.Within.{ActWithin, act-within}
 use Rattle.machine.proofs.Giving.{process-same}
-use Rattle.machine.proofs.Partner.{unmade-idle}
+use Rattle.machine.proofs.Unmade.{unmade-idle}
 use Rattle.machine.proofs.Ownership as own
 use Rattle.layout.specs.Layout.{padded, statusWords, processWords, encode}
 use Rattle.run_store.specs.StoreCode.{headOf}

@@ -1,3 +1,5 @@
 pub mod Rows
 pub mod Noting
+pub mod Storing
 pub mod Holding
+pub mod StoredWords

@@ -1,1 +1,2 @@
 pub mod HoldersCode
+pub mod StoredCode

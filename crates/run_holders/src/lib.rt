@@ -2,3 +2,4 @@
 // That the table says what the lines say is in proofs/Holding.antt.
 pub mod ends;
 pub mod notes;
+pub mod stored;

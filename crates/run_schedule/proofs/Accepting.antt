@@ -73,11 +73,11 @@ module _ (p schedule outcomes : List ℕ) (words : ℕ) (ok : questions p schedu
       (whole-kept 7 0 (leb (length schedule) 65535)
       (and-first (question7 schedule) (question8 words) (and-second (question6 outcomes) _ inputs)))
 
-  pub store-long : 8192 ≤ words
+  pub store-long : 8256 ≤ words
   unfolding question8
   store-long =
-      leb-true 8192 words
-      (whole-kept 8 0 (leb 8192 words)
+      leb-true 8256 words
+      (whole-kept 8 0 (leb 8256 words)
       (and-second (question7 schedule) (question8 words) (and-second (question6 outcomes) _ inputs)))
 
 -- the schedule's first entries are as little refused as the whole

@@ -4,4 +4,5 @@ pub mod Taking
 pub mod Bursting
 pub mod Began
 pub mod Accepting
+pub mod Resting
 pub mod Turning

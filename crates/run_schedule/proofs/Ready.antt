@@ -22,7 +22,7 @@ use Rattle.machine.specs.Run.{fits, afterEffect, ended, runFrom, run}
 use Rattle.machine.specs.Answer.{traceWords, traceAfter}
 use Rattle.machine.specs.Sound.{ConfigSound}
 use Rattle.machine.proofs.Reached.{Reached}
-use Rattle.machine.proofs.Partner.{unmade-idle}
+use Rattle.machine.proofs.Unmade.{unmade-idle}
 use Rattle.machine.proofs.Steps.{unable-nothing, after-nothing, stateAt, ending, at-typed, at-kept, at-start, at-next, at-last, able-goes}
 use Rattle.machine.proofs.Ownership as own
 use Rattle.layout.specs.Layout.{encode}
@@ -374,7 +374,7 @@ module _ {p schedule outcomes t0 rest : List ℕ} {room : ℕ} (given : Inputs p
       pub not-able : (n : ℕ) → n < 8 → abilityOp p work₀ t n ≢ 1 → able p outcomes (at k) n ≡ false
       not-able n h a = ability n h ∙ ne-eqb (abilityOp p work₀ t n) 1 a
 
-      unable : (n : ℕ) → n < 8 → able p outcomes (at k) n ≡ false → abilityOp p work₀ t n ≢ 1
+      pub unable : (n : ℕ) → n < 8 → able p outcomes (at k) n ≡ false → abilityOp p work₀ t n ≢ 1
       unable n h a = eqb-false (abilityOp p work₀ t n) 1 (sym (ability n h) ∙ a)
 
       -- where a process is able to move, the run goes on

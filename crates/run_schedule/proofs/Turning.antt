@@ -1,24 +1,31 @@
 -- The loop over the schedule: what is known before each of its turns, and what a turn, the last turn and the end of the
 -- schedule make of it.
 use Prim.Native.Nat.{ℕ, zero, suc, _+_, _*_, _-_, _/_, _≤_, _<_}
-use mathlib.Core.Path.{_≡_, refl, sym, _∙_, ap, subst}
+use mathlib.Core.Path.{_≡_, refl, sym, _∙_, ap, ap₂, subst}
 use mathlib.Core.Logic.{_≢_, ⊎-elim}
 use mathlib.Core.Bool.{Bool}
-use mathlib.Core.List.{List, [], _∷_, _++_}
+use mathlib.Core.List.{List, [], _∷_, _++_, append-assoc}
 use native.Mathlib.Omega.{arith}
-use lib.ListN.{getD, drop, length}
+use lib.ListN.{getD, drop, length, length-append}
 use lib.Seq.{drop-at}
 use Rattle.lists.specs.Lists.{All}
 use Rattle.lists.proofs.Tests.{cond-both}
 use Rattle.table.specs.Table.{word, methods, argAt}
 use Rattle.table.proofs.Accepted.{Kept}
-use Rattle.machine.specs.State.{startConfig}
-use Rattle.machine.specs.Run.{Result, run}
+use Rattle.machine.specs.State.{Line, State, startConfig}
+use Rattle.machine.specs.Entry.{effectOf}
+use Rattle.machine.specs.Run.{Result, afterEffect, run}
+use Rattle.machine.specs.Answer.{traceAfter}
+use Rattle.trace.specs.Trace.{linesOf}
 use Rattle.machine.proofs.Steps.{stateAt}
-use Rattle.layout.specs.Layout.{encode, storeAfter}
+use Rattle.layout.specs.Layout.{encode}
+use Rattle.layout.specs.Holders.{holderWords, storeAfter}
+use Rattle.layout.proofs.HolderWords.{words-length}
 use Rattle.layout.proofs.RoundTrip.{encode-length}
 use Rattle.run_values.specs.ValuesCode.{AfterStep}
 use Rattle.run_holders.specs.HoldersCode.{holdersAfterLines, changedFrom, nobody}
+use Rattle.run_holders.specs.StoredCode.{storedAfterLines}
+use Rattle.run_holders.proofs.StoredWords.{stored-lines}
 use Rattle.run_ability.specs.EndingCode.{endingOp}
 use Rattle.run_entry.specs.EntryCode.{offerAt}
 use Rattle.run_burst.specs.declared.burst.Burst.{Burst}
@@ -29,13 +36,18 @@ use Rattle.run_burst.specs.BurstCode.{Stop, stopsAt, namedOp, isDone, stopsHere
 use Rattle.run_burst.specs.TurnCode.{afterTurn, turnAt}
 use Rattle.run_schedule.specs.SummaryCode.{afterRun, runLeaves}
 use Rattle.run_schedule.proofs.Ready.{Inputs, Ready, AtEnd, ready-start, ready-last, state-sound}
+use Rattle.run_schedule.proofs.Resting.{linesTo, lines-to, other-rest, ready-rest}
 use Rattle.run_schedule.proofs.Taking.{Turns, turn-law}
 use Rattle.run_schedule.proofs.Bursting.{Burst-good, burst-law}
 
+-- the words beyond the configuration's: the stored holders, by the lines that the trace holds, and what the caller keeps
+abbrev pub restOf : List ℕ → ℕ → List ℕ → List ℕ
+restOf trace lines beyond = holderWords (linesTo trace lines) ++ beyond
+
 -- the state before the entry at which a burst has stopped, or at the schedule's end
-pub record Going (p schedule outcomes : List ℕ) (room : ℕ) (rest t0 work trace : List ℕ) (t : List (List ℕ)) (lines used : ℕ) (b : Burst) :
+pub record Going (p schedule outcomes : List ℕ) (room : ℕ) (beyond t0 work trace : List ℕ) (t : List (List ℕ)) (lines used : ℕ) (b : Burst) :
     Type 0 where
-  pub given : Inputs p schedule outcomes t0 rest room
+  pub given : Inputs p schedule outcomes t0 (restOf trace lines beyond) room
   pub stands : Burst-good given trace t lines used (stopsAt b work)
 
 -- words of 16 bits
@@ -74,24 +86,32 @@ burst-past p t schedule work k known (suc left) =
     d = namedOp p work (getD schedule k 0) known
 
 module _ {p schedule outcomes : List ℕ} {room : ℕ} {t0 : List ℕ} where
-  pub going-start : {w0 : List ℕ} → Inputs p schedule outcomes t0 (drop 8192 w0) room
-      → w0 ≡ encode (startConfig p) ++ drop 8192 w0
+  pub going-start : {w0 beyond : List ℕ} → Inputs p schedule outcomes t0 (restOf t0 0 beyond) room
+      → w0 ≡ encode (startConfig p) ++ (holderWords [] ++ beyond)
       → {t : List (List ℕ)} → t ≡ nobody → {known : Knowledge} → known ≡ nothingKnown
       → {b : Burst} {work : List ℕ} → stopsAt b work ≡ burstOp p t schedule w0 0 known (length schedule - 0)
-      → Going p schedule outcomes room (drop 8192 w0) t0 work t0 t 0 0 b
-  going-start {w0} given e {t} i {known} j changed = record {
+      → Going p schedule outcomes room beyond t0 work t0 t 0 0 b
+  unfolding linesOf
+  going-start {w0} {beyond} given e {t} i {known} j changed = record {
     given = given;
     stands =
         subst (Burst-good given t0 t 0 0) (sym changed)
         (burst-law given (length schedule - 0) 0 refl
         (subst (λ (k : Knowledge). Ready given 0 w0 t0 t 0 0 k) (sym j)
-        (subst (λ (u : List (List ℕ)). Ready given 0 w0 t0 u 0 0 nothingKnown) (sym i) (ready-start given w0 e))));
+        (subst (λ (u : List (List ℕ)). Ready given 0 w0 t0 u 0 0 nothingKnown) (sym i) (ready-start given w0 none-yet))));
   }
+    where
+      none-yet : w0 ≡ encode (startConfig p) ++ restOf t0 0 beyond
+      none-yet = e
 
-  module _ {rest work trace : List ℕ} {t : List (List ℕ)} {lines used : ℕ} {b : Burst}
-      (g : Going p schedule outcomes room rest t0 work trace t lines used b) where
+  module _ {work trace : List ℕ} {t : List (List ℕ)} {lines used : ℕ} {b : Burst} {beyond : List ℕ}
+      (g : Going p schedule outcomes room beyond t0 work trace t lines used b) where
     abbrev there : Ready (g .given) (b .at) work trace t lines used (b .known)
     there = g .stands .ready
+
+    -- the lines that the trace holds are the state's
+    lines-there : linesTo trace lines ≡ stateAt p outcomes schedule (b .at) .lines
+    lines-there = lines-to (stateAt p outcomes schedule (b .at) .lines) t0 (there .written) (there .counted)
 
     pub few-lines : lines < 16000000
     few-lines = omega (arith, there .counted, there .fewLines, there .inside, g .given .short)
@@ -99,29 +119,37 @@ module _ {p schedule outcomes : List ℕ} {room : ℕ} {t0 : List ℕ} where
     pub near : (b .offer .sender .0 < 8) × (b .offer .receiver .0 < 8)
     near = g .stands .near
 
-    -- the words beyond the configuration's are as they were
-    pub rest-kept : drop 8192 work ≡ rest
+    -- the words beyond these are as they were
+    pub rest-kept : drop 8256 work ≡ beyond
     rest-kept =
-        ap (drop 8192) (there .store)
-        ∙ drop-at (encode (stateAt p outcomes schedule (b .at) .config)) rest 8192
-        (encode-length p (stateAt p outcomes schedule (b .at) .config) (state-sound (g .given) (b .at)))
+        ap (drop 8256)
+        (there .store ∙ sym (append-assoc (encode (stateAt p outcomes schedule (b .at) .config)) (holderWords (linesTo trace lines)) beyond))
+        ∙ drop-at (encode (stateAt p outcomes schedule (b .at) .config) ++ holderWords (linesTo trace lines)) beyond 8256
+        (length-append (encode (stateAt p outcomes schedule (b .at) .config)) (holderWords (linesTo trace lines))
+        ∙ omega (
+          arith,
+          encode-length p (stateAt p outcomes schedule (b .at) .config) (state-sound (g .given) (b .at)),
+          words-length (linesTo trace lines),
+        ))
 
-    pub going-from : Going p schedule outcomes room (drop 8192 work) t0 work trace t lines used b
-    going-from = subst (λ (l : List ℕ). Going p schedule outcomes room l t0 work trace t lines used b) (sym rest-kept) g
+    pub going-from : Going p schedule outcomes room (drop 8256 work) t0 work trace t lines used b
+    going-from =
+        subst (λ (l : List ℕ). Going p schedule outcomes room l t0 work trace t lines used b) (sym rest-kept) g
 
     -- the words that a run leaves
-    over-leaves : (w0 : List ℕ) → rest ≡ drop 8192 w0 → {at end : ℕ} {work′ trace′ : List ℕ} {lines′ used′ : ℕ}
-        → AtEnd (g .given) at end work′ trace′ lines′ used′
-        → afterRun (record { end = end; entries = at; lines = lines′; used = used′ }) trace′ work′ ≡ runLeaves
+    over-leaves : (w0 : List ℕ) → beyond ≡ drop 8256 w0 → {end : ℕ} {work′ trace′ : List ℕ} {lines′ used′ : ℕ}
+        → AtEnd (g .given) (b .at) end work′ trace′ lines′ used′
+        → afterRun (record { end = end; entries = b .at; lines = lines′; used = used′ }) trace′ work′ ≡ runLeaves
         (run p outcomes room schedule) t0 w0
     unfolding runLeaves storeAfter
-    over-leaves w0 same {at} {end} o =
-        (λ i. afterRun (record { end = end; entries = at; lines = o .counted i; used = o .drawn i }) (o .written i)
-        ((o .store ∙ ap (λ (l : List ℕ). encode (stateAt p outcomes schedule at .config) ++ l) same) i))
+    over-leaves w0 same {end} o =
+        (λ i. afterRun (record { end = end; entries = b .at; lines = o .counted i; used = o .drawn i }) (o .written i)
+        ((o .store
+        ∙ ap₂ (λ (ls : List Line) (l : List ℕ). encode (stateAt p outcomes schedule (b .at) .config) ++ (holderWords ls ++ l)) lines-there same) i))
         ∙ ap (λ (r : Result). runLeaves r t0 w0) (sym (o .ends))
 
     -- the schedule is used up
-    pub going-ends : (w0 : List ℕ) → rest ≡ drop 8192 w0 → length schedule ≤ b .at → {end : ℕ}
+    pub going-ends : (w0 : List ℕ) → beyond ≡ drop 8256 w0 → length schedule ≤ b .at → {end : ℕ}
         → end ≡ endingOp p work t 8
         → afterRun (record { end = end; entries = b .at; lines = lines; used = used }) trace work ≡ runLeaves
         (run p outcomes room schedule) t0 w0
@@ -138,7 +166,7 @@ module _ {p schedule outcomes : List ℕ} {room : ℕ} {t0 : List ℕ} where
           (turn-law (g .given) (b .at) there more (b .code) (b .offer) (g .stands .entered more))
 
       -- the run is over
-      pub going-over : (w0 : List ℕ) → rest ≡ drop 8192 w0 → r .end ≢ 0
+      pub going-over : (w0 : List ℕ) → beyond ≡ drop 8256 w0 → r .end ≢ 0
           → afterRun (record { end = r .end; entries = b .at; lines = r .lines; used = r .used }) trace′ work′
           ≡ runLeaves (run p outcomes room schedule) t0 w0
       going-over w0 same h = ⊎-elim (λ x. absurd (h (x .0))) (λ x. over-leaves w0 same (x .1)) turn
@@ -159,26 +187,61 @@ module _ {p schedule outcomes : List ℕ} {room : ℕ} {t0 : List ℕ} where
           omega (arith, next .1 .counted, next .1 .fit, g .given .holds),
         )
 
+        -- the holders stored with the lines of the entry
+        abbrev after : State
+        after = stateAt p outcomes schedule (suc (b .at))
+
+        abbrev new : List Line
+        new = effectOf p outcomes (b .at) (stateAt p outcomes schedule (b .at)) (getD schedule (b .at) 0) .lines
+
+        after-lines : after .lines ≡ stateAt p outcomes schedule (b .at) .lines ++ new
+        unfolding stateAt afterEffect
+        after-lines = refl
+
+        more-lines : r .lines - lines ≡ length new
+        more-lines =
+            omega (
+              arith,
+              next .1 .counted,
+              there .counted,
+              ap (λ (ls : List Line). length ls) after-lines ∙ length-append (stateAt p outcomes schedule (b .at) .lines) new,
+            )
+
+        stored-next : storedAfterLines work′ trace′ lines (r .lines - lines) ≡ encode (after .config) ++ restOf trace′ (r .lines) beyond
+        stored-next =
+            (λ i. storedAfterLines
+            ((next .1 .store ∙ ap (λ (ls : List Line). encode (after .config) ++ (holderWords ls ++ beyond)) lines-there) i)
+            ((next .1 .written ∙ ap (λ (ls : List Line). traceAfter ls t0) after-lines) i) (there .counted i) (more-lines i))
+            ∙ stored-lines (encode (after .config)) beyond (stateAt p outcomes schedule (b .at) .lines) new t0
+            (encode-length p (after .config) (state-sound (g .given) (suc (b .at))))
+            ∙ ap (λ (ls : List Line). encode (after .config) ++ (holderWords ls ++ beyond))
+            (sym (lines-to (after .lines) t0 (next .1 .written) (next .1 .counted) ∙ after-lines))
+
         module _ {changes : Bool} (says : changes ≡ changedFrom trace′ lines (r .lines - lines)) {known : Knowledge}
             (knows : known ≡ unlessChanged (r .known) changes)
-            {u : List (List ℕ)} (noted : u ≡ holdersAfterLines t trace′ lines (r .lines - lines)) {b′ : Burst}
+            {u : List (List ℕ)} (noted : u ≡ holdersAfterLines t trace′ lines (r .lines - lines))
+            {work‴ : List ℕ} (stored : work‴ ≡ storedAfterLines work′ trace′ lines (r .lines - lines)) {b′ : Burst}
             {work″ : List ℕ}
-            (stops : stopsAt b′ work″ ≡ burstOp p u schedule work′ (b .at + 1) known (length schedule - (b .at + 1)))
+            (stops : stopsAt b′ work″ ≡ burstOp p u schedule work‴ (b .at + 1) known (length schedule - (b .at + 1)))
           where
+            abbrev newly : Inputs p schedule outcomes t0 (restOf trace′ (r .lines) beyond) room
+            newly = other-rest (g .given) (restOf trace′ (r .lines) beyond)
+
             -- it goes on
-            pub going-next : Going p schedule outcomes room rest t0 work″ trace′ u (r .lines) (r .used) b′
+            pub going-next : Going p schedule outcomes room beyond t0 work″ trace′ u (r .lines) (r .used) b′
             going-next = record {
-              given = g .given;
+              given = newly;
               stands =
-                  subst (Burst-good (g .given) trace′ u (r .lines) (r .used)) (sym stops)
-                  (burst-law (g .given) (length schedule - (b .at + 1)) (b .at + 1) refl
-                  (subst (λ (n : ℕ). Ready (g .given) n work′ trace′ u (r .lines) (r .used) known) {x = suc (b .at)}
+                  subst (Burst-good newly trace′ u (r .lines) (r .used)) (sym stops)
+                  (burst-law newly (length schedule - (b .at + 1)) (b .at + 1) refl
+                  (subst (λ (n : ℕ). Ready newly n work‴ trace′ u (r .lines) (r .used) known) {x = suc (b .at)}
                   {y = b .at + 1} (omega arith)
-                  (subst (λ (x : Knowledge). Ready (g .given) (suc (b .at)) work′ trace′ u (r .lines) (r .used) x)
+                  (subst (λ (x : Knowledge). Ready newly (suc (b .at)) work‴ trace′ u (r .lines) (r .used) x)
                   (sym (knows ∙ ap (unlessChanged (r .known)) says))
-                  (subst (λ (v : List (List ℕ)). Ready (g .given) (suc (b .at)) work′ trace′ v (r .lines) (r .used)
+                  (subst (λ (v : List (List ℕ)). Ready newly (suc (b .at)) work‴ trace′ v (r .lines) (r .used)
                   (unlessChanged (r .known) (changedFrom trace′ lines (r .lines - lines))))
-                  (sym noted) (next .1)))));
+                  (sym noted)
+                  (ready-rest (g .given) (restOf trace′ (r .lines) beyond) (next .1) (stored ∙ stored-next))))));
             }
 
             pub further : b .at < b′ .at
@@ -186,5 +249,5 @@ module _ {p schedule outcomes : List ℕ} {room : ℕ} {t0 : List ℕ} where
                 omega (
                   arith,
                   subst (λ (x : Stop). b .at + 1 ≤ x .burst .at) (sym stops)
-                      (burst-past p u schedule work′ (b .at + 1) known (length schedule - (b .at + 1))),
+                      (burst-past p u schedule work‴ (b .at + 1) known (length schedule - (b .at + 1))),
                 )

@@ -5,7 +5,7 @@ use mathlib.Core.List.{List}
 use lib.ListN.{length}
 use Rattle.machine.specs.Run.{Result}
 use Rattle.machine.specs.Answer.{traceAfter}
-use Rattle.layout.specs.Layout.{storeAfter}
+use Rattle.layout.specs.Holders.{storeAfter}
 use Rattle.run_schedule.specs.declared.entries.RunSummary.{RunSummary}
 
 pub record AfterRun : Type 0 where
@@ -20,4 +20,4 @@ unfoldable pub runLeaves : Result → List ℕ → List ℕ → AfterRun
 runLeaves r trace work =
     afterRun (record { end = r .end; entries = r .entries; lines = length (r .state .lines); used = r .state .used })
     (traceAfter (r .state .lines) trace)
-    (storeAfter (r .state .config) work)
+    (storeAfter (r .state) work)

@@ -1,7 +1,7 @@
 // The entries of the schedule, one after the other.
 ghost use mathlib.Core.Path.{_≡_};
 ghost use Prim.Native.Nat.{_+_, _*_, _/_, _<_, _≤_};
-ghost use mathlib.Core.List.{_++_};
+ghost use mathlib.Core.List.{[], _++_};
 ghost use lib.ListN.{length, drop};
 ghost use Rattle.lists.specs.Lists.{All};
 ghost use Rattle.table.specs.Table.{methods};
@@ -9,6 +9,7 @@ ghost use Rattle.table.proofs.Accepted.{Kept};
 ghost use Rattle.machine.specs.State.{startConfig};
 ghost use Rattle.machine.specs.Run.{run};
 ghost use Rattle.layout.specs.Layout.{encode};
+ghost use Rattle.layout.specs.Holders.{holderWords};
 ghost use Rattle.run_schedule.specs.SummaryCode.{afterRun, runLeaves};
 use run_ability::ending::ending;
 use run_burst::burst::silent_entries;
@@ -16,6 +17,7 @@ use run_burst::knowledge::nothing_known;
 use run_burst::turn::turn_at;
 use run_holders::ends::no_holders;
 use run_holders::notes::note_lines;
+use run_holders::stored::store_lines;
 
 // The end, the entries used, the lines written and the outcomes used.
 pub struct RunSummary {
@@ -36,8 +38,8 @@ pub fn run_entries(
     work: &mut [u32],
     room: usize,
 ) -> RunSummary
-    requires { ⌜ (start ≡ 2 + 20 * methods (now p)) × (8192 ≤ length (now work)) × (length (now schedule) ≤ 65535) × (room ≡ length (now trace) / 6)
-        × Kept (now p) × (now work ≡ encode (startConfig (now p)) ++ drop 8192 (now work)) × All (λ o. o ≤ 2) (now outcomes) ⌝ }
+    requires { ⌜ (start ≡ 2 + 20 * methods (now p)) × (8256 ≤ length (now work)) × (length (now schedule) ≤ 65535) × (room ≡ length (now trace) / 6)
+        × Kept (now p) × (now work ≡ encode (startConfig (now p)) ++ (holderWords [] ++ drop 8256 (now work))) × All (λ o. o ≤ 2) (now outcomes) ⌝ }
     ensures { λ r. ⌜ afterRun r (now (trace .exit)) (now (work .exit)) ≡ runLeaves (run (now (p .entry)) (now (outcomes .entry)) room (now (schedule .entry))) (now (trace .entry)) (now (work .entry)) ⌝ }
 {
     let mut t = no_holders();
@@ -67,6 +69,7 @@ pub fn run_entries(
             };
         }
         let changed = note_lines(&mut t, trace, lines, r.lines);
+        store_lines(work, trace, lines, r.lines);
         lines = r.lines;
         used = r.used;
         let known = r.known;

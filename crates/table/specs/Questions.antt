@@ -91,9 +91,10 @@ question6 outcomes = firstOf 6 (λ i. isOutcome (getD outcomes i 0)) (length out
 unfoldable pub question7 : List ℕ → Verdict
 question7 schedule = whole 7 (leb (length schedule) 65535) 0
 
--- "Has the work store at least 8,192 words of 32 bits? 8 (0)"
+-- "Has the work store at least 8,192 words of 32 bits? 8 (0)"; Paper 7: "the work store grows to 8,256 words and question 8 says
+-- so"
 unfoldable pub question8 : ℕ → Verdict
-question8 words = whole 8 (leb 8192 words) 0
+question8 words = whole 8 (leb 8256 words) 0
 
 -- questions 1 to 5: the table alone
 unfoldable pub tableQuestions : List ℕ → Verdict

@@ -7,6 +7,7 @@ use std::fs;
 
 use cli::json::Json;
 use common::{bytes, example, examples, folder, lanq, lanq_in, main_of, repository, write};
+use model::owner::holder;
 
 /// Compares with a file of tests/expected.
 fn expect(name: &str, text: &str) {
@@ -74,7 +75,7 @@ fn wrong_calls() {
         (
             &["holder", "teleport.lqa", "--qubit", "65536"],
             "lanq holder: --qubit wants a number to 65535",
-            "usage: lanq holder CASE|TRACE [--qubit Q] [--lines K] [options]",
+            "usage: lanq holder CASE|TRACE [--qubit Q] [--lines K | --after N] [options]",
         ),
         (
             &["timeline", "a", "--entries", "9-3"],
@@ -335,6 +336,43 @@ qubit 2 is held by nobody, lines read: 10
     for file in ["kept.trace", "kept.csv"] {
         assert_eq!(lanq_in(&folder, &["holder", file]).quiet(), expected);
     }
+}
+
+/// What the run on the first entries has stored, against the lines that the whole
+/// run has written by then.
+#[test]
+fn holders_after_an_entry() {
+    let after = |words: &[&str]| lanq(&[&["holder", "teleport.lqa", "--after"], words].concat());
+    assert_eq!(after(&["0"]).quiet(), "");
+    let lines = example("teleport").expected;
+    let lines: Vec<[u16; 6]> = lines
+        .lines()
+        .filter(|line| !line.starts_with("end"))
+        .map(|line| {
+            let columns = line.split(' ').map(|column| column.parse().unwrap_or(65_535));
+            columns.collect::<Vec<u16>>().try_into().expect("six columns")
+        })
+        .collect();
+    for entries in [1, 20, 25, 43, 60, 95, 1_000] {
+        let written = lines.iter().take_while(|line| usize::from(line[0]) < entries);
+        let written: Vec<data::Line> = written.map(|words| data::Line::from_words(*words)).collect();
+        let told = after(&[&entries.to_string()]).quiet();
+        assert_eq!(after(&[&entries.to_string(), "--model"]).quiet(), told);
+        for thing in data::Holders::things() {
+            let held = holder(&written, thing).map(|process| format!("{thing} is held by process {process}"));
+            let line = told.lines().find(|line| line.starts_with(&format!("{thing} is")));
+            let line = line.map(|line| line.split(',').next().unwrap_or(line).to_string());
+            assert_eq!(line, held, "after {entries} entries");
+        }
+    }
+    let last = after(&["95"]).quiet();
+    assert!(last.contains("qubit 2 is held by process 2, which has finished\n"), "{last}");
+    assert_eq!(after(&["43", "--qubit", "1"]).quiet(), "1\n");
+    assert_eq!(after(&["43", "--qubit", "3"]).quiet(), "nobody\n");
+    let wrong = after(&["43", "--lines", "2"]).failed(2);
+    assert!(wrong.starts_with("lanq holder: --lines and --after exclude each other\n"), "{wrong}");
+    let wrong = lanq(&["holder", "kept.trace", "--after", "2"]).failed(2);
+    assert!(wrong.starts_with("lanq holder: --after wants a case, for a trace stores no holders\n"), "{wrong}");
 }
 
 #[test]

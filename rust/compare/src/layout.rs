@@ -16,6 +16,13 @@ pub fn words(config: &Configuration) -> Vec<u32> {
     for (n, process) in config.processes.iter().enumerate() {
         put_process(&mut words, 512 * (n + 1), process);
     }
+    let stored = |holder: Option<u16>| holder.map_or(255, u32::from);
+    for (q, holder) in config.holders.qubits.iter().enumerate() {
+        words[8_192 + q] = stored(*holder);
+    }
+    for (c, [end_0, end_1]) in config.holders.ends.iter().enumerate() {
+        put(&mut words, 8_224 + 2 * c, &[stored(*end_0), stored(*end_1)]);
+    }
     words
 }
 

@@ -37,6 +37,16 @@ entry 17: process 0 is stopped by fault 20
 lanq 0.2: end 1, 9 lines
 ";
 
+/// What examples/desk.c prints: the same run, with who holds what after each
+/// entry that changes it.
+const PRINTED_BY_DESK: &str = "\
+after entry 0: qubit 0 is held by 0
+after entry 3: end 0 of channel 0 is held by 0
+after entry 3: end 1 of channel 0 is held by 0
+after entry 10: end 1 of channel 0 is held by 1
+after entry 14: qubit 0 is held by 1
+";
+
 /// The repository's root.
 fn root() -> PathBuf {
     Path::new(env!("CARGO_MANIFEST_DIR")).join("../..")
@@ -81,6 +91,35 @@ fn the_example_in_c_prints_the_worked_run() {
     let source = root().join("examples/given-whole.c");
     for standard in ["c99", "c11", "c17"] {
         assert_eq!(printed(&C, standard, &source), PRINTED_BY_C);
+    }
+}
+
+#[test]
+fn the_desk_shows_who_holds_what() {
+    let source = root().join("examples/desk.c");
+    for standard in ["c99", "c11", "c17"] {
+        assert_eq!(printed(&C, standard, &source), PRINTED_BY_DESK);
+    }
+}
+
+/// README.md shows lines of the desk's program in C, and of the example in the
+/// binding's documentation, which is run as it stands there.
+#[test]
+fn the_desk_in_the_readme() {
+    let read = |path: &str| std::fs::read_to_string(root().join(path)).expect("it is there");
+    let readme = read("README.md");
+    let section = readme.split("\n## ").find(|section| section.starts_with("Who holds what")).expect("the section");
+    let shown: Vec<&str> = section.lines().filter_map(|line| line.strip_prefix("    ")).map(str::trim).collect();
+    let sources = [read("examples/desk.c"), read("rust/lanq/src/layout.rs")];
+    let lines = |source: &str| -> Vec<String> {
+        source.lines().map(|line| line.trim().trim_start_matches("/// ").trim().to_string()).collect()
+    };
+    let sources = sources.map(|source| lines(&source));
+    let of_c = shown.iter().filter(|line| sources[0].iter().any(|one| one == *line)).count();
+    let of_rust = shown.iter().filter(|line| sources[1].iter().any(|one| one == *line)).count();
+    assert!(of_c >= 4 && of_rust >= 3 && of_c + of_rust >= shown.len(), "{shown:#?}");
+    for line in shown {
+        assert!(sources.iter().flatten().any(|one| one == line), "{line}");
     }
 }
 
@@ -150,6 +189,7 @@ fn numbers() -> Vec<(String, usize)> {
         ("TYPE_NONE", 0),
         ("UNUSED", UNUSED.into()),
         ("NOBODY", UNUSED.into()),
+        ("NOT_MADE", 255),
         ("OUTCOME_0", 0),
         ("OUTCOME_1", 1),
         ("NO_CLICK", NO_CLICK.into()),

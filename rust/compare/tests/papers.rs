@@ -2,7 +2,7 @@
 //! by word: no model stands between.
 
 use data::program::{op::*, table, Method};
-use lanq::{decode, run_in, Answer, End, LookUp, Question, Refusal, WORK_WORDS};
+use lanq::{decode, run_in, Answer, End, LookUp, Question, Refusal, Side, Thing, WORK_WORDS};
 
 /// The number in an unused column.
 const U: u16 = 65_535;
@@ -47,9 +47,15 @@ fn ran_with(program: &[u16], schedule: &[u8], outcomes: &[u8]) -> (Counts, Vec<[
     ((end.number(), entries, lines, outcomes), written, work)
 }
 
-/// The words that are not 0, with their places.
+/// The words that are not 0, with their places, up to where the holders stand.
 fn not_0(work: &[u32]) -> Vec<(usize, u32)> {
-    work.iter().copied().enumerate().filter(|(_, word)| *word != 0).collect()
+    work[..8_192].iter().copied().enumerate().filter(|(_, word)| *word != 0).collect()
+}
+
+/// The holders' words, with their places, that are not 255.
+fn held(work: &[u32]) -> Vec<(usize, u32)> {
+    let holders = work.iter().copied().enumerate().skip(8_192).take(64);
+    holders.filter(|(_, word)| *word != 255).collect()
 }
 
 #[test]
@@ -58,6 +64,8 @@ fn p1_empty_schedule() {
     assert_eq!(answer, (0, 0, 0, 0));
     // One process, which runs in one frame, at main's first instruction.
     assert_eq!(not_0(&work), [(0, 1), (512, 1), (514, 1)]);
+    // Paper 7: "255 for a thing not yet made".
+    assert_eq!(work[8_192..], [255; 64]);
 }
 
 #[test]
@@ -91,6 +99,43 @@ fn p3_the_run_given_whole() {
     // The first example of docs/LAYOUT.md.
     let stored = [(0, 2), (1, 1), (2, 1), (512, 3), (513, 20), (514, 1), (521, 14), (580, 5), (1024, 2)];
     assert_eq!(not_0(&work), stored);
+    assert_eq!(held(&work), [(8_192, 1), (8_224, 0), (8_225, 1)]);
+}
+
+/// Paper 7, on the run given whole: "Before the first entry and after each, every
+/// stored holder equals the one the lines give". The words beyond are kept.
+#[test]
+fn holders_after_each_entry() {
+    let program = given_whole();
+    for entries in 0..=SCHEDULE.len() {
+        let mut work = vec![7; WORK_WORDS + 9];
+        run_in(&program, &SCHEDULE[..entries], &[], &mut [0; 60], &mut work).expect("it runs");
+        // Qubit 0 is made in entry 0, the channel in entry 3; the fork gives end 1 in
+        // entry 10, and the meeting the qubit in entry 14.
+        let qubit = [(8_192, u32::from(entries > 14))];
+        let ends = [(8_224, 0), (8_225, u32::from(entries > 10))];
+        let expected = [&qubit[..usize::from(entries > 0)], if entries > 3 { &ends } else { &[] }].concat();
+        assert_eq!(held(&work), expected, "{entries} entries");
+        assert_eq!(work[WORK_WORDS..], [7; 9]);
+        let stored = |thing| lanq::stored_holder(&work, thing);
+        let number = |place| expected.iter().find(|(at, _)| *at == place).map(|(_, holder)| *holder as u16);
+        assert_eq!(stored(Thing::Qubit(0)), number(8_192));
+        assert_eq!(stored(Thing::End(0, Side::Zero)), number(8_224));
+        assert_eq!(stored(Thing::End(0, Side::One)), number(8_225));
+        assert_eq!([stored(Thing::Qubit(1)), stored(Thing::End(1, Side::One))], [None; 2]);
+    }
+}
+
+/// Question 8 asks for 8,256 words: the 8,192 of before are refused, and kept.
+#[test]
+fn the_store_has_grown() {
+    for words in [8_192, 8_255] {
+        let mut work = vec![7; words];
+        let answer = run_in(&given_whole(), &SCHEDULE, &[], &mut [0; 60], &mut work);
+        assert_eq!(answer, Err(Refusal::new(Question::WorkStore, 0)));
+        assert_eq!(work, vec![7; words]);
+    }
+    assert_eq!(WORK_WORDS, 8_256);
 }
 
 #[test]
@@ -164,6 +209,7 @@ fn p10_a_value_already_evaluated() {
     let main = [(0, 2), (1, 2), (512, 3), (513, 20), (514, 1), (521, 6), (522, 2), (610, 3), (611, 1)];
     let child = [(1024, 1), (1026, 1), (1032, 2), (1033, 12), (1088, 3)];
     assert_eq!(not_0(&work), [&main[..], &child].concat());
+    assert_eq!(held(&work), [(8_192, 1), (8_193, 0)]);
     let pending = &decode(&work).expect("a configuration").processes[0].frames[0].pending;
     assert_eq!(pending[..], [lanq::Value::Empty, lanq::Value::Qubit(1)]);
 }

@@ -104,7 +104,7 @@ fn every_rule() -> Vec<(Case, &'static str)> {
         (both(&[(INT, 1)]), "refused 5 0: the method's last instruction is INT 1, it must be RET or JUMP"),
         (outcomes, "refused 6 2: the outcome is 9, not 0 to 2"),
         (schedule, "refused 7 0: the schedule has 65536 entries, at most 65535 are run"),
-        (work, "refused 8 0: the work store has 8191 words, it must have 8192"),
+        (work, "refused 8 0: the work store has 8255 words, it must have 8256"),
     ]
 }
 

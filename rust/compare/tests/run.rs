@@ -13,7 +13,7 @@ use std::time::Instant;
 use compare::inputs::{input, shortest};
 use compare::left::{by_library, by_model, difference, Buffers};
 use data::{Answer, Refusal, WORK_WORDS};
-use generate::{observe, Case, Coverage, Mark, Random};
+use generate::{observe, Case, Coverage, Mark, Random, Stored};
 
 /// What the inputs have brought about.
 #[derive(Default)]
@@ -52,9 +52,13 @@ fn compare(number: u64, case: &Case, met: &mut Met) {
 
 /// What must have been met: everything that generated cases can bring about,
 /// among it every op, gate, fault at every op that has it, end, kind of line,
-/// refusal, and the meetings of int, boolean and qubit.
+/// refusal, the meetings of int, boolean and qubit, and the ways in which a
+/// stored holder comes about.
 fn all_met(met: &Met) {
     assert_eq!(met.coverage.missing(), []);
+    for stored in Stored::ALL {
+        assert!(met.coverage.count(Mark::Stored(stored)) > 100, "{stored:?}");
+    }
     for op in 1..=23 {
         assert!(met.coverage.count(Mark::Op(op)) > 0, "op {op} was never executed");
     }

@@ -9,9 +9,13 @@ use crate::types::Side;
 /// Slots of a frame.
 pub const SLOTS: usize = 16;
 
-/// "Has the work store at least 8,192 words of 32 bits?" The configuration
-/// takes so many.
-pub const WORK_WORDS: usize = 8_192;
+/// Paper 7: "the work store grows to 8,256 words and question 8 says so". The
+/// configuration takes so many, the holders the last 64 of them.
+pub const WORK_WORDS: usize = 8_256;
+
+/// The most qubits and channels of a run.
+pub const QUBITS: usize = 32;
+pub const CHANNELS: usize = 16;
 
 /// What a slot or a pending value holds. "a reference says which it is:
 /// quantum, channel or channel end, and one never stands for another"
@@ -153,11 +157,41 @@ impl Process {
     }
 }
 
-/// All processes made, and how many qubits and channels were made. The number
-/// of processes made is their count here: none ever goes away.
+/// Paper 7: "Store the holder of all 32 qubits and 32 ends in the
+/// configuration". Nobody holds what is not yet made.
+#[derive(Clone, Debug, Default, PartialEq, Eq)]
+pub struct Holders {
+    pub qubits: [Option<u16>; QUBITS],
+    /// By channel and side.
+    pub ends: [[Option<u16>; 2]; CHANNELS],
+}
+
+impl Holders {
+    /// The stored holder of a qubit or an end; a channel has none beside its
+    /// ends'.
+    pub fn of(&self, thing: Thing) -> Option<u16> {
+        match thing {
+            Thing::Qubit(number) => *self.qubits.get(usize::from(number))?,
+            Thing::Channel(_) => None,
+            Thing::End(number, side) => self.ends.get(usize::from(number))?[usize::from(side.number())],
+        }
+    }
+
+    /// All qubits and ends that can be made, in the order in which they are
+    /// stored.
+    pub fn things() -> impl Iterator<Item = Thing> {
+        let qubits = (0u16..).take(QUBITS).map(Thing::Qubit);
+        let ends = (0u16..).take(CHANNELS).flat_map(|channel| Side::ALL.map(|side| Thing::End(channel, side)));
+        qubits.chain(ends)
+    }
+}
+
+/// All processes made, how many qubits and channels were made, and who holds
+/// them. The number of processes made is their count here: none ever goes away.
 #[derive(Clone, Debug, PartialEq, Eq)]
 pub struct Configuration {
     pub processes: Vec<Process>,
     pub qubits: u16,
     pub channels: u16,
+    pub holders: Holders,
 }

@@ -11,7 +11,7 @@
 //! - [`run`]: ends, the answer of a run, and a run with all it leaves
 //! - [`mod@line`]: trace lines and what they tell
 //! - [`look_up`]: what the look-up of a holder answers
-//! - [`configuration`]: values, frames, processes
+//! - [`configuration`]: values, frames, processes, holders
 //! - [`fault`]: what stops a process
 //! - [`types`]: types, sides and gates
 //! - [`program`]: methods as plain numbers, and the table they make
@@ -29,7 +29,9 @@ pub mod refusal;
 pub mod run;
 pub mod types;
 
-pub use configuration::{Configuration, Frame, Process, State, Thing, Value, SLOTS, WORK_WORDS};
+pub use configuration::{
+    Configuration, Frame, Holders, Process, State, Thing, Value, CHANNELS, QUBITS, SLOTS, WORK_WORDS,
+};
 pub use fault::Fault;
 pub use line::{Event, Line, LINE_WORDS, NO_CLICK, UNUSED};
 pub use look_up::LookUp;

@@ -87,7 +87,7 @@ impl fmt::Display for Question {
             }
             Question::Outcomes => "Is each outcome 0, 1 or 2?",
             Question::Schedule => "Has the schedule at most 65,535 entries?",
-            Question::WorkStore => "Has the work store at least 8,192 words?",
+            Question::WorkStore => "Has the work store at least 8,256 words?",
             Question::File => "Is the file built as docs/LAYOUT.md says?",
         })
     }

@@ -2,16 +2,16 @@
 
 use std::collections::BTreeMap;
 
-use data::{End, Fault, Line, Process, Refusal, Run, Side, State, Thing, Type, Value};
+use data::{End, Fault, Holders, Line, Process, Refusal, Run, Side, State, Thing, Type, Value};
 use model::check::{check, read_table};
 use model::gone::gone;
 use model::machine::{Did, Machine};
-use model::owner::{holder, ownership_since, reach};
+use model::owner::{deciding_line, holder, ownership_since, reach, stored_holders};
 use model::step::{MOST_CHANNELS, MOST_FRAMES, MOST_PROCESSES, MOST_QUBITS};
 use model::table::Op;
 use model::typing::{first_fault, Why, MOST_PENDING};
 
-use crate::mark::{all_marks, Mark};
+use crate::mark::{all_marks, Mark, Stored};
 use crate::Case;
 
 /// Counts of marks.
@@ -242,6 +242,42 @@ impl Coverage {
         if run.entries == case.schedule.len() {
             self.add(Mark::EndAfterLast(run.end.number()));
         }
+        Holders::things().for_each(|thing| self.stored(run, thing));
+    }
+
+    /// How a thing comes to its holder at the run's end.
+    fn stored(&mut self, run: &Run, thing: Thing) {
+        let Some(holder) = run.configuration.holders.of(thing) else {
+            return self.add(Mark::Stored(Stored::NotMade));
+        };
+        let given = given_by(&run.lines, thing);
+        let alone = match thing {
+            Thing::End(channel, side) => {
+                run.configuration.holders.of(Thing::End(channel, side.other())) != Some(holder)
+            }
+            _ => true,
+        };
+        if alone || !matches!(given, Stored::EndGiven { .. }) {
+            self.add(Mark::Stored(given));
+        }
+        match run.configuration.processes[usize::from(holder)].state {
+            State::Running => (),
+            State::Finished => self.add(Mark::Stored(Stored::OfFinished)),
+            State::Stopped(_) => self.add(Mark::Stored(Stored::OfStopped)),
+        }
+    }
+}
+
+/// How a thing came to its holder, by the line that decides.
+fn given_by(lines: &[Line], thing: Thing) -> Stored {
+    let Some(index) = deciding_line(lines, thing).filter(|index| lines[*index].kind == 6) else {
+        return Stored::ByMaking;
+    };
+    match (lines[index].b, thing) {
+        (4, _) => Stored::ChannelGiven,
+        (_, Thing::End(_, side)) => Stored::EndGiven { side: side.number() },
+        // A meeting's line stands right before the giving's.
+        _ => Stored::QubitGiven { by_fork: lines[index - 1].kind != 7 },
     }
 }
 
@@ -311,8 +347,8 @@ fn sent_kind(machine: &Machine, sender: usize) -> u16 {
 pub type Answer = Result<Run, Refusal>;
 
 /// Puts a case to the model and counts what it brings about. The ownership
-/// statement is looked at after every entry, and the whole run is compared
-/// with the stepped one; an error says what was wrong.
+/// statement and the stored holders are looked at after every entry, and the
+/// whole run is compared with the stepped one; an error says what was wrong.
 pub fn observe(case: &Case, coverage: &mut Coverage) -> Result<Answer, String> {
     let checked = check(&case.program, &case.schedule, &case.outcomes, case.work_len);
     let program = match checked {
@@ -324,6 +360,7 @@ pub fn observe(case: &Case, coverage: &mut Coverage) -> Result<Answer, String> {
     };
     coverage.trace_length(case.trace_len);
     let mut machine = Machine::new(&program, &case.outcomes, case.trace_len);
+    stored_holders(&machine.config, &machine.lines)?;
     let mut stepped_end = None;
     for byte in &case.schedule {
         let before = machine.clone();
@@ -335,6 +372,12 @@ pub fn observe(case: &Case, coverage: &mut Coverage) -> Result<Answer, String> {
             }
         }
         ownership_since(&machine.config, &machine.lines, before.lines.len())?;
+        // Without a line that decides, the same holders are still those of the lines.
+        let new_lines = &machine.lines[before.lines.len()..];
+        let decides = new_lines.iter().any(|line| matches!(line.kind, 1 | 2 | 6));
+        if decides || machine.config.holders != before.config.holders {
+            stored_holders(&machine.config, &machine.lines)?;
+        }
     }
     let run = model::run(&program, &case.schedule, &case.outcomes, case.trace_len);
     let end = stepped_end.or(machine.end_reached());

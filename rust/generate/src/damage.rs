@@ -1,6 +1,7 @@
 //! Damaged inputs: each of the eight questions gets its no, at many places.
 
 use data::program::{op::*, table, Method};
+use data::WORK_WORDS;
 use model::table::{instruction_place, pair_place, row_place, Words};
 
 use crate::mistype::mistype;
@@ -28,7 +29,8 @@ pub fn damage(case: &mut Case, mut methods: Vec<Method>, random: &mut Random) {
             }
             6 => outcomes(&mut case.outcomes, random),
             7 => schedule(&mut case.schedule, random),
-            _ => case.work_len = random.pick(&[0, 1, 8_191, 4_096]),
+            // 8,192 words were enough before Paper 7.
+            _ => case.work_len = random.pick(&[0, 1, 8_191, 8_192, WORK_WORDS - 1]),
         }
     }
 }

@@ -25,7 +25,7 @@ mod typed;
 
 pub use coverage::{observe, Answer, Coverage};
 pub use files::file;
-pub use mark::Mark;
+pub use mark::{Mark, Stored};
 pub use random::Random;
 pub use traces::{pair, trace, Difference, Pair};
 

@@ -80,6 +80,8 @@ pub enum Mark {
     /// An idle entry at SEND or RECV while the opposite end's holder runs and
     /// no longer reaches that end.
     HeldOutOfReach(u16),
+    /// How a stored holder stands at a run's end.
+    Stored(Stored),
     /// A limit reached without a fault.
     AllProcesses,
     AllQubits,
@@ -97,6 +99,43 @@ pub enum Mark {
     WholeLines,
 }
 
+/// How a run's final configuration comes to store the holder of a qubit or an
+/// end, Paper 7.
+#[derive(Clone, Copy, Debug, PartialEq, Eq, PartialOrd, Ord)]
+pub enum Stored {
+    /// The thing was never made.
+    NotMade,
+    /// Its maker has never given it away.
+    ByMaking,
+    /// A qubit, at a fork or at a meeting.
+    QubitGiven {
+        by_fork: bool,
+    },
+    /// An end, with its channel.
+    ChannelGiven,
+    /// An end alone, by its side; the other one has another holder.
+    EndGiven {
+        side: u16,
+    },
+    /// The holder has finished, or has stopped.
+    OfFinished,
+    OfStopped,
+}
+
+impl Stored {
+    pub const ALL: [Stored; 9] = [
+        Stored::NotMade,
+        Stored::ByMaking,
+        Stored::QubitGiven { by_fork: false },
+        Stored::QubitGiven { by_fork: true },
+        Stored::ChannelGiven,
+        Stored::EndGiven { side: 0 },
+        Stored::EndGiven { side: 1 },
+        Stored::OfFinished,
+        Stored::OfStopped,
+    ];
+}
+
 /// Every mark that can be seen.
 pub fn all_marks() -> Vec<Mark> {
     let mut marks = refusal_marks();
@@ -108,6 +147,7 @@ pub fn all_marks() -> Vec<Mark> {
     marks.extend((0..=2).map(Mark::Measured));
     marks.extend((0..=3).map(Mark::End));
     marks.extend((0..=2).map(Mark::EndAfterLast));
+    marks.extend(Stored::ALL.map(Mark::Stored));
     marks.extend([
         Mark::AllProcesses,
         Mark::AllQubits,

@@ -1,7 +1,9 @@
 //! The final configuration, read back from the work store. The layout is that
 //! of `docs/LAYOUT.md`.
 
-use data::{Configuration, Fault, Frame, Process, Side, State, Value, WORK_WORDS};
+use data::{Configuration, Fault, Frame, Holders, Process, Side, State, Thing, Value, QUBITS, UNUSED, WORK_WORDS};
+
+use crate::raw;
 
 /// Words of the counts' part and of each process's.
 const PART: usize = 512;
@@ -13,6 +15,11 @@ const VALUES: usize = 64;
 const FRAME_VALUES: usize = 48;
 /// Where the pending values start among them.
 const PENDING: usize = 32;
+/// Where the holders of the qubits start, and those of the ends.
+const QUBIT_HOLDERS: usize = 8_192;
+const END_HOLDERS: usize = QUBIT_HOLDERS + QUBITS;
+/// The holder's word of a thing that was not made.
+const NOT_MADE: u16 = 255;
 
 /// The configuration in a work store that a run has left; nothing where the
 /// first [`WORK_WORDS`] words are none, with every unused word 0. Words behind
@@ -34,6 +41,7 @@ const PENDING: usize = 32;
 ///
 /// let configuration = decode(&work).unwrap();
 /// assert_eq!(configuration.qubits, 1);
+/// assert_eq!(configuration.holders.qubits[..2], [Some(0), None]);
 /// let main = &configuration.processes[0];
 /// assert_eq!(main.state, State::Running);
 /// assert_eq!(main.frames[0].place, 2);
@@ -49,10 +57,12 @@ pub fn decode(work: &[u32]) -> Option<Configuration> {
     let words = work.get(..WORK_WORDS)?;
     let made = count(words[0], 1, 8)?;
     let parts = words.chunks_exact(PART).skip(1).take(made);
+    let (qubits, channels) = (at_most(words[1], 32)?, at_most(words[2], 16)?);
     let configuration = Configuration {
         processes: parts.map(process).collect::<Option<_>>()?,
-        qubits: at_most(words[1], 32)?,
-        channels: at_most(words[2], 16)?,
+        qubits,
+        channels,
+        holders: holders(words, made, usize::from(qubits), usize::from(channels))?,
     };
     // Written anew it shows every word that nothing above has looked at.
     (encode(&configuration) == words).then_some(configuration)
@@ -65,6 +75,57 @@ fn at_most(word: u32, most: u16) -> Option<u16> {
 
 fn count(word: u32, least: u32, most: u32) -> Option<usize> {
     (least..=most).contains(&word).then_some(word as usize)
+}
+
+/// The holders, of processes that were made; nobody where a thing was not made.
+fn holders(words: &[u32], processes: usize, qubits: usize, channels: usize) -> Option<Holders> {
+    let holder = |word: u32, is_made: bool| match is_made {
+        true => at_most(word, 7).filter(|number| usize::from(*number) < processes).map(Some),
+        false => (word == u32::from(NOT_MADE)).then_some(None),
+    };
+    let mut holders = Holders::default();
+    for (number, stored) in holders.qubits.iter_mut().enumerate() {
+        *stored = holder(words[QUBIT_HOLDERS + number], number < qubits)?;
+    }
+    for (number, [end_0, end_1]) in holders.ends.iter_mut().enumerate() {
+        let at = END_HOLDERS + 2 * number;
+        *end_0 = holder(words[at], number < channels)?;
+        *end_1 = holder(words[at + 1], number < channels)?;
+    }
+    Some(holders)
+}
+
+/// The process that holds a qubit or an end after a run, read from the work store
+/// that the run has left. Nobody where the thing was not made, where there is no
+/// such thing, or where the store is too short. It takes the same time for every
+/// thing, however long the run was; a channel is asked for by its ends.
+///
+/// ```
+/// use lanq::op::{DROP, END, FORK, NEWC, NEWQ, PUT, RET};
+/// use lanq::{run_in, stored_holder, Method, Program, Side, Thing};
+///
+/// // Main makes a qubit and a channel, and forks a child with end 1.
+/// let code = vec![(NEWQ, 0), (DROP, 0), (NEWC, 3), (END, 1), (FORK, 1), (RET, 0)];
+/// let main = Method { code, ..Method::default() };
+/// let child = Method { parameters: 1, slots: vec![35], code: vec![(RET, 0)], ..Method::default() };
+/// let program = Program::from_methods(&[main, child]);
+/// let mut work = vec![0; lanq::WORK_WORDS];
+/// run_in(program.words(), &[0, 0, 0, 0, 0], &[], &mut [0; 60], &mut work).unwrap();
+///
+/// assert_eq!(stored_holder(&work, Thing::Qubit(0)), Some(0));
+/// assert_eq!(stored_holder(&work, Thing::End(0, Side::Zero)), Some(0));
+/// assert_eq!(stored_holder(&work, Thing::End(0, Side::One)), Some(1));
+/// // Not made, no such thing, and too few words.
+/// assert_eq!(stored_holder(&work, Thing::Qubit(1)), None);
+/// assert_eq!(stored_holder(&work, Thing::Qubit(32)), None);
+/// assert_eq!(stored_holder(&[], Thing::Qubit(0)), None);
+/// ```
+pub fn stored_holder(work: &[u32], thing: Thing) -> Option<u16> {
+    // SAFETY: the pointer is good for its length as long as the slice is
+    // borrowed, which is longer than the call. The function only reads it.
+    let holder =
+        unsafe { raw::lanq_stored_holder(work.as_ptr(), work.len(), thing.code().into(), thing.number().into()) };
+    (holder != NOT_MADE && holder != UNUSED).then_some(holder)
 }
 
 fn process(part: &[u32]) -> Option<Process> {
@@ -114,6 +175,10 @@ fn encode(configuration: &Configuration) -> Vec<u32> {
     words[2] = u32::from(configuration.channels);
     for (process, part) in configuration.processes.iter().zip(words.chunks_exact_mut(PART).skip(1)) {
         write_process(process, part);
+    }
+    let Holders { qubits, ends } = &configuration.holders;
+    for (holder, word) in qubits.iter().chain(ends.iter().flatten()).zip(&mut words[QUBIT_HOLDERS..]) {
+        *word = holder.unwrap_or(NOT_MADE).into();
     }
     words
 }

@@ -1,10 +1,11 @@
 //! Safe binding of the LanQ process machine, `include/lanq.h`.
 //!
 //! [`run`] puts the questions and runs a program; [`check`] only puts the
-//! questions; [`holder`] and [`same_lines`] read traces. Each is one call of
+//! questions; [`holder`] and [`same_lines`] read traces, [`stored_holder`] reads
+//! the work store. Each is one call of
 //! the proved library. [`run_in`] and [`check_in`] do the same on buffers that
-//! the caller lends, and allocate nothing; [`decode`] and [`lines`] read what a
-//! run has left in them. [`reason`] says which rule a refused input breaks.
+//! the caller lends, and allocate nothing; [`decode`], [`stored_holder`] and
+//! [`lines`] read what a run has left in them. [`reason`] says which rule a refused input breaks.
 //!
 //! ```
 //! use lanq::op::{DROP, MEAS, NEWQ, RET};
@@ -47,10 +48,10 @@ mod trace;
 
 pub use data::program::{op, Method};
 pub use data::{
-    Answer, Carried, Configuration, End, Event, Fault, Frame, Gate, Line, LookUp, Process, Question, Refusal, Run,
-    Side, State, Thing, Type, Value, LINE_WORDS, NO_CLICK, SLOTS, UNUSED, WORK_WORDS,
+    Answer, Carried, Configuration, End, Event, Fault, Frame, Gate, Holders, Line, LookUp, Process, Question, Refusal,
+    Run, Side, State, Thing, Type, Value, LINE_WORDS, NO_CLICK, SLOTS, UNUSED, WORK_WORDS,
 };
-pub use layout::decode;
+pub use layout::{decode, stored_holder};
 pub use program::Program;
 pub use reason::{reason, reason_in, Reason, Rule, Wanted};
 pub use run::{check, check_in, left, most_lines, run, run_in};

@@ -41,5 +41,6 @@ extern "C" {
         work_len: usize,
     ) -> Answer;
     pub fn lanq_holder(trace: *const u16, trace_len: usize, k: usize, qubit: u16) -> Holder;
+    pub fn lanq_stored_holder(work: *const u32, work_len: usize, kind: u64, number: u64) -> u16;
     pub fn lanq_same_lines(a: *const u16, a_len: usize, b: *const u16, b_len: usize) -> bool;
 }

@@ -170,7 +170,8 @@ fn question_7_schedule(schedule: &[u8]) -> Result<(), Refusal> {
     Ok(())
 }
 
-/// "Has the work store at least 8,192 words of 32 bits? 8 (0)"
+/// "Has the work store at least 8,192 words of 32 bits? 8 (0)" Paper 7: "the
+/// work store grows to 8,256 words and question 8 says so".
 fn question_8_work(work_len: usize) -> Result<(), Refusal> {
     if work_len < WORK_WORDS {
         return Err(Refusal::new(Question::WorkStore, 0));

@@ -2,7 +2,7 @@
 
 use std::collections::BTreeMap;
 
-use data::{Configuration, Gate, Line, Process, Side, Thing, Value};
+use data::{Configuration, Gate, Holders, Line, Process, Side, Thing, Value};
 
 /// "Reach: in a slot or pending value of any frame, a stopped process's too;
 /// an end also through its channel." A finished process has no frames, so it
@@ -25,8 +25,23 @@ fn reached_through(value: Value) -> Vec<Thing> {
 /// the last decides, by its process for 1 and 2, by its a for 6; ... without
 /// such a line, nobody."
 pub fn holder(lines: &[Line], thing: Thing) -> Option<u16> {
-    let mut from_last = lines.iter().rev();
-    from_last.find_map(|line| holder_by_line(line, thing))
+    let decides = deciding_line(lines, thing)?;
+    holder_by_line(&lines[decides], thing)
+}
+
+/// The line that decides who holds a thing.
+pub fn deciding_line(lines: &[Line], thing: Thing) -> Option<usize> {
+    lines.iter().rposition(|line| holder_by_line(line, thing).is_some())
+}
+
+/// Paper 7: "Before the first entry and after each, every stored holder equals
+/// the one the lines give".
+pub fn stored_holders(config: &Configuration, lines: &[Line]) -> Result<(), String> {
+    let wrong = Holders::things().find(|thing| config.holders.of(*thing) != holder(lines, *thing));
+    match wrong {
+        Some(thing) => Err(format!("{thing} is stored as held by {:?}", config.holders.of(thing))),
+        None => Ok(()),
+    }
 }
 
 /// The holder that one line gives a thing, if it is a line of that thing.

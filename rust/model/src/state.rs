@@ -1,7 +1,7 @@
 //! How frames, processes and the configuration start, and what giving a thing
 //! away empties. The types themselves are plain data.
 
-use data::{Configuration, Frame, Process, State, Thing, Value, SLOTS};
+use data::{Configuration, Frame, Holders, Process, Side, State, Thing, Value, SLOTS};
 
 use crate::table::Program;
 
@@ -21,7 +21,19 @@ pub fn start_process(program: &Program, method: usize, arguments: &[Value]) -> P
 /// "A run starts with process 0 at main's first instruction, its slots
 /// empty, nothing pending, nothing else made".
 pub fn start(program: &Program) -> Configuration {
-    Configuration { processes: vec![start_process(program, 0, &[])], qubits: 0, channels: 0 }
+    let processes = vec![start_process(program, 0, &[])];
+    Configuration { processes, qubits: 0, channels: 0, holders: Holders::default() }
+}
+
+/// Stores who holds a thing that was made or given. "Each channel has two ends,
+/// each with one holder": a channel's are both its ends'.
+pub fn hold(holders: &mut Holders, thing: Thing, process: u16) {
+    match thing {
+        Thing::Qubit(number) => holders.qubits[usize::from(number)] = Some(process),
+        Thing::Channel(number) => holders.ends[usize::from(number)] = [Some(process); 2],
+        Thing::End(number, Side::Zero) => holders.ends[usize::from(number)][0] = Some(process),
+        Thing::End(number, Side::One) => holders.ends[usize::from(number)][1] = Some(process),
+    }
 }
 
 /// Whether giving this thing empties that value in the giver. "Giving an

@@ -6,7 +6,7 @@
 use data::{Configuration, Event, Fault, Frame, Gate, Line, Process, Side, State, Thing, Type, Value};
 
 use crate::gone::gone;
-use crate::state::{give, start_frame, start_process};
+use crate::state::{give, hold, start_frame, start_process};
 use crate::table::{Op, Program};
 
 /// "channel beyond 16"
@@ -204,6 +204,7 @@ impl<'a> Step<'a> {
             return Err(Fault::Qubits);
         }
         self.config.qubits += 1;
+        self.hold(self.entry.process, Thing::Qubit(number));
         self.push(Value::Qubit(number));
         self.tell(Event::QubitMade { qubit: number });
         Ok(())
@@ -215,9 +216,15 @@ impl<'a> Step<'a> {
             return Err(Fault::Channels);
         }
         self.config.channels += 1;
+        self.hold(self.entry.process, Thing::Channel(number));
         self.push(Value::Channel(number));
         self.tell(Event::ChannelMade { channel: number });
         Ok(())
+    }
+
+    /// Stores the holder of what was made or given.
+    fn hold(&mut self, process: usize, thing: Thing) {
+        hold(&mut self.config.holders, thing, number_of(process));
     }
 
     /// "channel off, that end on"
@@ -312,9 +319,11 @@ impl<'a> Step<'a> {
         Ok(())
     }
 
-    /// Empties the thing in the giver and writes the kind 6 line.
+    /// Empties the thing in the giver, stores its new holder and writes the kind
+    /// 6 line.
     fn give(&mut self, giver: usize, receiver: usize, thing: Thing) {
         give(&mut self.config.processes[giver], thing);
+        self.hold(receiver, thing);
         let to = number_of(receiver);
         self.write(giver, Event::Gave { to, thing });
     }

@@ -5,7 +5,7 @@ mod common;
 use common::*;
 use data::program::{op::*, Method};
 use data::Side::{One, Zero};
-use data::{Configuration, Line, Process, Run, Thing, Value};
+use data::{Configuration, Holders, Line, Process, Run, Thing, Value};
 use model::owner::{holder, ownership, reach};
 use model::state::start_process;
 
@@ -240,7 +240,8 @@ fn an_end_is_reached_through_its_channel() {
 
 /// A configuration of two processes with these values in their slots.
 fn two_processes(first: Value, second: Value) -> Configuration {
-    Configuration { processes: vec![process_with(&[first]), process_with(&[second])], qubits: 2, channels: 2 }
+    let processes = vec![process_with(&[first]), process_with(&[second])];
+    Configuration { processes, qubits: 2, channels: 2, holders: Holders::default() }
 }
 
 #[test]

@@ -448,8 +448,10 @@ fn question_7_schedule() {
 #[test]
 fn question_8_work_store() {
     assert_eq!(inputs(&[], &[], 0), (8, 0));
-    assert_eq!(inputs(&[], &[], 8191), (8, 0));
-    assert_eq!(inputs(&[], &[], 8192), (0, 0));
+    // Paper 7: 8,192 words were enough before it.
+    assert_eq!(inputs(&[], &[], 8_192), (8, 0));
+    assert_eq!(inputs(&[], &[], 8_255), (8, 0));
+    assert_eq!(inputs(&[], &[], 8_256), (0, 0));
     assert_eq!(inputs(&[], &[], usize::MAX), (0, 0));
 }
 

@@ -28,7 +28,7 @@ unfolding verdictOf inputQuestions question6 question7 question8 whole
 returns-3 c =
     let first-outcome = c .before .before .before .first-outcome in
     let if1 = c .before .before .if1 in
-    rw (lt-leb 8192 _ (c .if3 .taken))
+    rw (lt-leb 8256 _ (c .if3 .taken))
     (whole-yes 7 0 _ (le-leb _ 65535 (c .before .if2 .left))
     ∙ place-none 6 _ _ _ _ refl (first-outcome .ensures) _ (if1 .left))
 
@@ -37,7 +37,7 @@ unfolding verdictOf inputQuestions question6 question7 question8 whole
 returns-4 c =
     let first-outcome = c .before .before .before .first-outcome in
     let if1 = c .before .before .if1 in
-    rw (le-leb 8192 _ (c .if3 .left))
+    rw (le-leb 8256 _ (c .if3 .left))
     (whole-yes 7 0 _ (le-leb _ 65535 (c .before .if2 .left))
     ∙ place-none 6 _ _ _ _ refl (first-outcome .ensures) _ (if1 .left))
 

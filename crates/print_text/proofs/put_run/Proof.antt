@@ -25,7 +25,7 @@ put-answer-requires c κs =
     let args = at-run .before .before .before .before .before .before .before .args in
     let t =
     printable (args .program .now) (args .schedule .now) (args .outcomes .now) (replicate 24576 0)
-    (replicate 8192 0) (length-replicate {A = ℕ} 24576 0) (length-replicate {A = ℕ} 8192 0)
+    (replicate 8256 0) (length-replicate {A = ℕ} 24576 0) (length-replicate {A = ℕ} 8256 0)
     (at-run .run .ensures .0) (at-run .run .ensures .1) in
     (t .held, omega (arith, t .few))
 
@@ -39,7 +39,7 @@ returns c =
     let args = at-run .before .before .before .before .before .before .before .args in
     let t =
     printable (args .program .now) (args .schedule .now) (args .outcomes .now) (replicate 24576 0)
-    (replicate 8192 0) (length-replicate {A = ℕ} 24576 0) (length-replicate {A = ℕ} 8192 0)
+    (replicate 8256 0) (length-replicate {A = ℕ} 24576 0) (length-replicate {A = ℕ} 8256 0)
     (at-run .run .ensures .0) (at-run .run .ensures .1) in
     prints-same (args .out .now) (t .text) (at-put-answer .put-answer .ensures)
 

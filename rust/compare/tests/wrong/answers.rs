@@ -63,7 +63,7 @@ fn refusal_writes(_: &Case, ran: &Ran, buffers: Buffers) -> Left {
 
 fn unused_kept(case: &Case, ran: &Ran, buffers: Buffers) -> Left {
     after_run(case, ran, buffers, |_, _, left, mut before| {
-        let old = before.lent().1[..WORK_WORDS].iter();
+        let old = before.lent().1[..8_192].iter();
         for (word, old) in left.lent().1.iter_mut().zip(old).skip(4_608) {
             *word = *old;
         }

@@ -9,6 +9,7 @@ mod before;
 mod entries;
 mod faults;
 mod giving;
+mod holders;
 mod look_ups;
 mod meetings;
 mod no_click;
@@ -35,6 +36,7 @@ fn all() -> Vec<Wrong> {
     all.extend(ops::WRONG);
     all.extend(no_click::WRONG);
     all.extend(answers::WRONG);
+    all.extend(holders::WRONG);
     all
 }
 

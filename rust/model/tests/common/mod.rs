@@ -5,7 +5,7 @@ use data::program::{table, Method};
 use data::{End, Run, WORK_WORDS};
 use model::check;
 use model::machine::{run, Did, Machine};
-use model::owner::ownership;
+use model::owner::{ownership, stored_holders};
 use model::table::Program;
 
 /// The number in an unused column.
@@ -45,15 +45,18 @@ pub fn program(methods: &[Method]) -> Program {
     check(&table(methods), &[], &[], WORK_WORDS).expect("the test's program passes")
 }
 
-/// A run with an ample trace; ownership is looked at after every entry.
+/// A run with an ample trace; ownership and the stored holders are looked at
+/// after every entry.
 pub fn run_all(methods: &[Method], schedule: &[u8], outcomes: &[u8]) -> Run {
     let program = program(methods);
     let mut machine = Machine::new(&program, outcomes, AMPLE);
+    stored_holders(&machine.config, &machine.lines).expect("nobody holds anything");
     for byte in schedule {
         if machine.entry(*byte).is_err() {
             break;
         }
         ownership(&machine.config, &machine.lines).expect("ownership holds");
+        stored_holders(&machine.config, &machine.lines).expect("the stored holders are the lines'");
     }
     let whole = run(&program, schedule, outcomes, AMPLE);
     assert_eq!(whole.configuration, machine.config);

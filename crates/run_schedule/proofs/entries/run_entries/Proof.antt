@@ -10,8 +10,8 @@ use Rattle.run_schedule.proofs.entries.run_entries.Tie as tie
 
 abbrev Inv-loop : tie.InvT-loop
 Inv-loop p start schedule outcomes trace₀ work₀ room t₀ lines₀ used₀ b₀ trace work t lines used b =
-    Going p schedule outcomes room (drop 8192 work₀) trace₀ work trace t lines used b × (length work ≡ length work₀) ×
-    (length trace ≡ length trace₀)
+    Going p schedule outcomes room (drop 8256 work₀) trace₀ work trace t lines used b
+    × (length work ≡ length work₀) × (length trace ≡ length trace₀)
 
 abbrev μ-loop : tie.MeasureT-loop
 μ-loop p start schedule outcomes trace₀ work₀ room t₀ lines₀ used₀ b₀ trace work t lines used b =
@@ -28,34 +28,21 @@ silent-entries-requires c κs = search needs
 
 loop-holds : tie.Need-loop-holds Inv-loop μ-loop
 loop-holds c =
-    let at-silent-entries = c .before .before in
-    let at-nothing-known = at-silent-entries .before in
-    let at-no-holders = at-nothing-known .before .before .before in
-    let at-shared-slice-known = at-no-holders .before .before .before .before .before in
-    let at-args = at-shared-slice-known .before in
     let start =
     going-start
-    (inputs (at-args .args .p .now) (at-args .args .schedule .now) (at-args .args .outcomes .now)
-    (at-args .args .trace .now) (at-args .pre .4)
-    (λ i. omega (arith, at-shared-slice-known .shared-slice-known .given i)) (at-args .pre .6) (at-args .pre .2)
-    (at-args .pre .3)) (at-args .pre .5) (at-no-holders .no-holders .ensures)
-    (at-nothing-known .nothing-known .ensures) (at-silent-entries .silent-entries .ensures) in
+    (inputs (c .before .before .before .before .before .before .before .before .before .before .before .before .args .p .now) (c .before .before .before .before .before .before .before .before .before .before .before .before .args .schedule .now) (c .before .before .before .before .before .before .before .before .before .before .before .before .args .outcomes .now) (c .before .before .before .before .before .before .before .before .before .before .before .before .args .trace .now) (c .before .before .before .before .before .before .before .before .before .before .before .before .pre .4)
+    (λ i. omega (arith, c .before .before .before .before .before .before .before .before .before .before .before .shared-slice-known .given i)) (c .before .before .before .before .before .before .before .before .before .before .before .before .pre .6) (c .before .before .before .before .before .before .before .before .before .before .before .before .pre .2) (c .before .before .before .before .before .before .before .before .before .before .before .before .pre .3))
+    (c .before .before .before .before .before .before .before .before .before .before .before .before .pre .5) (c .before .before .before .before .before .before .no-holders .ensures) (c .before .before .before .nothing-known .ensures) (c .before .before .silent-entries .ensures) in
     (going-from start, refl, refl)
 
 turn-at-requires : tie.Need-turn-at-requires Inv-loop μ-loop
 turn-at-requires c κs =
-    let at-if1 = c .before .before .before in
-    let at-loop = at-if1 .before .before in
-    let at-silent-entries = at-loop .before .before .before in
-    let c17 = at-silent-entries .before .before .before .before .before .before .before .before .before in
-    let at-pre = c17 .before in
-    let pre = at-pre .pre in
-    let inv = at-loop .loop .inv in (
+    let pre = c .before .before .before .before .before .before .before .before .before .before .before .before .before .before .before .before .before .before .pre in
+    let inv = c .before .before .before .before .before .loop .inv in (
       pre .0,
-      omega (arith, pre .1, inv .1, at-silent-entries .silent-entries .kept .1 .1 .0),
-      at-if1 .if1 .taken,
-      pre
-          .2,
+      omega (arith, pre .1, inv .1, c .before .before .before .before .before .before .before .before .silent-entries .kept .1 .1 .0),
+      c .before .before .before .if1 .taken,
+      pre .2,
       few-lines (inv .0),
       near (inv .0) .0,
       near (inv .0) .1,
@@ -69,113 +56,66 @@ same-length-2 c = search needs
 
 returns : tie.Need-returns Inv-loop μ-loop
 returns c =
-    let at-turn-at = c .before .before .before .before .before .before in
-    let at-if1 = at-turn-at .before .before .before .before in
-    let at-loop = at-if1 .before .before in
-    let at-silent-entries = at-loop .before .before .before in
-    let at-nothing-known = at-silent-entries .before in
-    let at-no-holders = at-nothing-known .before .before .before in
-    let at-shared-slice-known = at-no-holders .before .before .before .before .before in
-    let at-args = at-shared-slice-known .before in
     let start =
     going-start
-    (inputs (at-args .args .p .now) (at-args .args .schedule .now) (at-args .args .outcomes .now)
-    (at-args .args .trace .now) (at-args .pre .4)
-    (λ i. omega (arith, at-shared-slice-known .shared-slice-known .given i)) (at-args .pre .6) (at-args .pre .2)
-    (at-args .pre .3)) (at-args .pre .5) (at-no-holders .no-holders .ensures)
-    (at-nothing-known .nothing-known .ensures) (at-silent-entries .silent-entries .ensures) in
-    going-over (at-loop .loop .inv .0) (at-if1 .if1 .taken) (at-turn-at .turn-at .ensures) (at-args .args .work .now)
-    (rest-kept start) (c .if2 .taken)
+    (inputs (c .before .before .before .before .before .before .before .before .before .before .before .before .before .before .before .before .before .before .before .before .before .before .before .before .before .args .p .now) (c .before .before .before .before .before .before .before .before .before .before .before .before .before .before .before .before .before .before .before .before .before .before .before .before .before .args .schedule .now) (c .before .before .before .before .before .before .before .before .before .before .before .before .before .before .before .before .before .before .before .before .before .before .before .before .before .args .outcomes .now) (c .before .before .before .before .before .before .before .before .before .before .before .before .before .before .before .before .before .before .before .before .before .before .before .before .before .args .trace .now) (c .before .before .before .before .before .before .before .before .before .before .before .before .before .before .before .before .before .before .before .before .before .before .before .before .before .pre .4)
+    (λ i. omega (arith, c .before .before .before .before .before .before .before .before .before .before .before .before .before .before .before .before .before .before .before .before .before .before .before .before .shared-slice-known .given i)) (c .before .before .before .before .before .before .before .before .before .before .before .before .before .before .before .before .before .before .before .before .before .before .before .before .before .pre .6) (c .before .before .before .before .before .before .before .before .before .before .before .before .before .before .before .before .before .before .before .before .before .before .before .before .before .pre .2) (c .before .before .before .before .before .before .before .before .before .before .before .before .before .before .before .before .before .before .before .before .before .before .before .before .before .pre .3))
+    (c .before .before .before .before .before .before .before .before .before .before .before .before .before .before .before .before .before .before .before .before .before .before .before .before .before .pre .5) (c .before .before .before .before .before .before .before .before .before .before .before .before .before .before .before .before .before .before .before .no-holders .ensures) (c .before .before .before .before .before .before .before .before .before .before .before .before .before .before .before .before .nothing-known .ensures) (c .before .before .before .before .before .before .before .before .before .before .before .before .before .before .before .silent-entries .ensures) in
+    going-over (c .before .before .before .before .before .before .before .before .before .before .before .before .loop .inv .0) (c .before .before .before .before .before .before .before .before .before .before .if1 .taken) (c .before .before .before .before .before .before .turn-at .ensures) (c .before .before .before .before .before .before .before .before .before .before .before .before .before .before .before .before .before .before .before .before .before .before .before .before .before .args .work .now) (rest-kept start) (c .if2 .taken)
 
 note-lines-requires : tie.Need-note-lines-requires Inv-loop μ-loop
 note-lines-requires c κs =
-    let at-if2 = c .before .before in
-    let at-turn-at = at-if2 .before .before .before .before .before .before in
-    let at-if1 = at-turn-at .before .before .before .before in
-    let at-loop = at-if1 .before .before in
-    let inv = at-loop .loop .inv in
-    let fit = lines-fit (inv .0) (at-if1 .if1 .taken) (at-turn-at .turn-at .ensures) (at-if2 .if2 .left) in (
-      lines-more (inv .0) (at-if1 .if1 .taken) (at-turn-at .turn-at .ensures) (at-if2 .if2 .left),
+    let inv = c .before .before .before .before .before .before .before .before .before .before .before .before .before .before .loop .inv in
+    let fit = lines-fit (inv .0) (c .before .before .before .before .before .before .before .before .before .before .before .before .if1 .taken) (c .before .before .before .before .before .before .before .before .turn-at .ensures) (c .before .before .if2 .left) in (
+      lines-more (inv .0) (c .before .before .before .before .before .before .before .before .before .before .before .before .if1 .taken) (c .before .before .before .before .before .before .before .before .turn-at .ensures) (c .before .before .if2 .left),
       fit .0,
-      omega
-          (arith, fit .1, at-turn-at .turn-at .kept .1 .1 .1 .1 .0, inv .2),
+      omega (arith, fit .1, c .before .before .before .before .before .before .before .before .turn-at .kept .1 .1 .1 .1 .0, inv .2),
+    )
+
+store-lines-requires : tie.Need-store-lines-requires Inv-loop μ-loop
+store-lines-requires c κs =
+    let inv = c .before .before .before .before .before .before .before .before .before .before .before .before .before .before .before .before .before .loop .inv in
+    let fit = lines-fit (inv .0) (c .before .before .before .before .before .before .before .before .before .before .before .before .before .before .before .if1 .taken) (c .before .before .before .before .before .before .before .before .before .before .before .turn-at .ensures) (c .before .before .before .before .before .if2 .left) in (
+      lines-more (inv .0) (c .before .before .before .before .before .before .before .before .before .before .before .before .before .before .before .if1 .taken) (c .before .before .before .before .before .before .before .before .before .before .before .turn-at .ensures) (c .before .before .before .before .before .if2 .left),
+      fit .0,
+      omega (arith, fit .1, c .before .before .before .before .before .before .before .before .before .before .before .turn-at .kept .1 .1 .1 .1 .0, inv .2),
     )
 
 unless-requires : tie.Need-unless-requires Inv-loop μ-loop
 unless-requires c κs = search needs
 
 add-silent-entries : tie.Need-add-silent-entries Inv-loop μ-loop
-add-silent-entries c =
-    let c9 = c .before .before .before .before .before .before .before .before .before in
-    let at-if1 = c9 .before .before .before .before .before .before .before .before in
-    let c26 = at-if1 .before .before .before .before .before .before .before .before .before in
-    let at-pre = c26 .before .before .before .before .before .before in
-    omega (arith, at-if1 .if1 .taken, at-pre .pre .2)
+add-silent-entries c = omega (arith, c .before .before .before .before .before .before .before .before .before .before .before .before .before .before .before .before .before .before .before .before .before .before .if1 .taken, c .before .before .before .before .before .before .before .before .before .before .before .before .before .before .before .before .before .before .before .before .before .before .before .before .before .before .before .before .before .before .before .before .before .before .before .before .before .pre .2)
 
 silent-entries-requires-2 : tie.Need-silent-entries-requires-2 Inv-loop μ-loop
 silent-entries-requires-2 c κs =
-    let c9 = c .before .before .before .before .before .before .before .before .before in
-    let at-turn-at = c9 .before .before .before .before .before in
-    let at-if1 = at-turn-at .before .before .before .before in
-    let at-loop = at-if1 .before .before in
-    let at-silent-entries = at-loop .before .before .before in
-    let c32 = at-silent-entries .before .before .before .before .before .before .before .before .before in
-    let at-pre = c32 .before in
-    let pre = at-pre .pre in (
+    let pre = c .before .before .before .before .before .before .before .before .before .before .before .before .before .before .before .before .before .before .before .before .before .before .before .before .before .before .before .before .before .before .before .before .before .before .before .before .before .before .pre in (
       pre .0,
-      omega
-          (arith, pre .1, at-loop .loop .inv .1, at-silent-entries .silent-entries .kept .1 .1 .0, at-turn-at .turn-at .kept .1 .1 .1 .1 .1 .0),
-      omega (arith, at-if1 .if1 .taken),
+      omega (arith, pre .1, c .before .before .before .before .before .before .before .before .before .before .before .before .before .before .before .before .before .before .before .before .before .before .before .before .before .loop .inv .1, c .before .before .before .before .before .before .before .before .before .before .before .before .before .before .before .before .before .before .before .before .before .before .before .before .before .before .before .before .silent-entries .kept .1 .1 .0, c .before .before .before .before .before .before .before .before .before .before .before .before .before .before .before .before .before .before .before .turn-at .kept .1 .1 .1 .1 .1 .0, c .before .before .before .before .before .before .before .store-lines .kept .0),
+      omega (arith, c .before .before .before .before .before .before .before .before .before .before .before .before .before .before .before .before .before .before .before .before .before .before .before .if1 .taken),
     )
 
 loop-less : tie.Need-loop-less Inv-loop μ-loop
 loop-less c =
-    let at-silent-entries2 = c .before .before in
-    let at-unless = at-silent-entries2 .before in
-    let at-note-lines = at-unless .before .before .before .before .before in
-    let at-if2 = at-note-lines .before .before .before in
-    let at-turn-at = at-if2 .before .before .before .before .before .before in
-    let at-if1 = at-turn-at .before .before .before .before in
-    let at-loop = at-if1 .before .before in
     omega (
       arith,
-      at-if1 .if1 .taken,
-      further (at-loop .loop .inv .0) (at-if1 .if1 .taken) (at-turn-at .turn-at .ensures)
-          (at-if2 .if2 .left) (at-note-lines .note-lines .ensures .1) (at-unless .unless .ensures)
-          (at-note-lines .note-lines .ensures .0) (at-silent-entries2 .silent-entries2 .ensures),
+      c .before .before .before .before .before .before .before .before .before .before .before .before .before .before .before .before .before .before .before .before .before .before .before .before .before .before .if1 .taken,
+      further (c .before .before .before .before .before .before .before .before .before .before .before .before .before .before .before .before .before .before .before .before .before .before .before .before .before .before .before .before .loop .inv .0) (c .before .before .before .before .before .before .before .before .before .before .before .before .before .before .before .before .before .before .before .before .before .before .before .before .before .before .if1 .taken) (c .before .before .before .before .before .before .before .before .before .before .before .before .before .before .before .before .before .before .before .before .before .before .turn-at .ensures) (c .before .before .before .before .before .before .before .before .before .before .before .before .before .before .before .before .if2 .left) (c .before .before .before .before .before .before .before .before .before .before .before .before .before .note-lines .ensures .1) (c .before .before .before .unless .ensures)
+          (c .before .before .before .before .before .before .before .before .before .before .before .before .before .note-lines .ensures .0) (c .before .before .before .before .before .before .before .before .before .before .store-lines .ensures) (c .before .before .silent-entries2 .ensures),
     )
 
 loop-again : tie.Need-loop-again Inv-loop μ-loop
 loop-again c =
-    let at-silent-entries2 = c .before .before in
-    let at-unless = at-silent-entries2 .before in
-    let at-note-lines = at-unless .before .before .before .before .before in
-    let at-if2 = at-note-lines .before .before .before in
-    let at-turn-at = at-if2 .before .before .before .before .before .before in
-    let at-if1 = at-turn-at .before .before .before .before in
-    let at-loop = at-if1 .before .before in
-    let inv = at-loop .loop .inv in
-    let kept = at-turn-at .turn-at .kept in (
-      going-next (inv .0) (at-if1 .if1 .taken) (at-turn-at .turn-at .ensures) (at-if2 .if2 .left)
-          (at-note-lines .note-lines .ensures .1) (at-unless .unless .ensures) (at-note-lines .note-lines .ensures .0)
-          (at-silent-entries2 .silent-entries2 .ensures),
-      at-silent-entries2 .silent-entries2 .kept .1 .1 .0
-          ∙ kept .1 .1 .1 .1 .1 .0
-          ∙ inv .1,
-      kept .1 .1 .1 .1 .0
-          ∙ inv .2,
+    let inv = c .before .before .before .before .before .before .before .before .before .before .before .before .before .before .before .before .before .before .before .before .before .before .before .before .before .before .before .before .loop .inv in
+    let kept = c .before .before .before .before .before .before .before .before .before .before .before .before .before .before .before .before .before .before .before .before .before .before .turn-at .kept in (
+      going-next (inv .0) (c .before .before .before .before .before .before .before .before .before .before .before .before .before .before .before .before .before .before .before .before .before .before .before .before .before .before .if1 .taken) (c .before .before .before .before .before .before .before .before .before .before .before .before .before .before .before .before .before .before .before .before .before .before .turn-at .ensures) (c .before .before .before .before .before .before .before .before .before .before .before .before .before .before .before .before .if2 .left) (c .before .before .before .before .before .before .before .before .before .before .before .before .before .note-lines .ensures .1) (c .before .before .before .unless .ensures)
+          (c .before .before .before .before .before .before .before .before .before .before .before .before .before .note-lines .ensures .0) (c .before .before .before .before .before .before .before .before .before .before .store-lines .ensures) (c .before .before .silent-entries2 .ensures),
+      c .before .before .silent-entries2 .kept .1 .1 .0 ∙ c .before .before .before .before .before .before .before .before .before .before .store-lines .kept .0 ∙ kept .1 .1 .1 .1 .1 .0 ∙ inv .1,
+      kept .1 .1 .1 .1 .0 ∙ inv .2,
     )
 
 ending-requires : tie.Need-ending-requires Inv-loop μ-loop
-ending-requires c κs =
-    let at-loop = c .before .before .before .before in
-    let at-silent-entries = at-loop .before .before .before in
-    let c16 = at-silent-entries .before .before .before .before .before .before .before .before .before in
-    let at-pre = c16 .before in (
-      at-pre .pre .0,
-      omega
-          (arith, at-pre .pre .1, at-loop .loop .inv .1, at-silent-entries .silent-entries .kept .1 .1 .0),
-    )
+ending-requires c κs = (c .before .before .before .before .before .before .before .before .before .before .before .before .before .before .before .before .before .pre .0, omega (arith, c .before .before .before .before .before .before .before .before .before .before .before .before .before .before .before .before .before .pre .1, c .before .before .before .before .loop .inv .1, c .before .before .before .before .before .before .before .silent-entries .kept .1 .1 .0))
 
 same-length-3 : tie.Need-same-length-3 Inv-loop μ-loop
 same-length-3 c = search needs
@@ -185,22 +125,12 @@ same-length-4 c = search needs
 
 returns-2 : tie.Need-returns-2 Inv-loop μ-loop
 returns-2 c =
-    let at-if1 = c .before .before .before in
-    let at-loop = at-if1 .before .before in
-    let at-silent-entries = at-loop .before .before .before in
-    let at-nothing-known = at-silent-entries .before in
-    let at-no-holders = at-nothing-known .before .before .before in
-    let at-shared-slice-known = at-no-holders .before .before .before .before .before in
-    let at-args = at-shared-slice-known .before in
     let start =
     going-start
-    (inputs (at-args .args .p .now) (at-args .args .schedule .now) (at-args .args .outcomes .now)
-    (at-args .args .trace .now) (at-args .pre .4)
-    (λ i. omega (arith, at-shared-slice-known .shared-slice-known .given i)) (at-args .pre .6) (at-args .pre .2)
-    (at-args .pre .3)) (at-args .pre .5) (at-no-holders .no-holders .ensures)
-    (at-nothing-known .nothing-known .ensures) (at-silent-entries .silent-entries .ensures) in
-    going-ends (at-loop .loop .inv .0) (at-args .args .work .now) (rest-kept start) (at-if1 .if1 .left)
-    (c .ending .ensures)
+    (inputs (c .before .before .before .before .before .before .before .before .before .before .before .before .before .before .before .before .before .before .args .p .now) (c .before .before .before .before .before .before .before .before .before .before .before .before .before .before .before .before .before .before .args .schedule .now) (c .before .before .before .before .before .before .before .before .before .before .before .before .before .before .before .before .before .before .args .outcomes .now) (c .before .before .before .before .before .before .before .before .before .before .before .before .before .before .before .before .before .before .args .trace .now) (c .before .before .before .before .before .before .before .before .before .before .before .before .before .before .before .before .before .before .pre .4)
+    (λ i. omega (arith, c .before .before .before .before .before .before .before .before .before .before .before .before .before .before .before .before .before .shared-slice-known .given i)) (c .before .before .before .before .before .before .before .before .before .before .before .before .before .before .before .before .before .before .pre .6) (c .before .before .before .before .before .before .before .before .before .before .before .before .before .before .before .before .before .before .pre .2) (c .before .before .before .before .before .before .before .before .before .before .before .before .before .before .before .before .before .before .pre .3))
+    (c .before .before .before .before .before .before .before .before .before .before .before .before .before .before .before .before .before .before .pre .5) (c .before .before .before .before .before .before .before .before .before .before .before .before .no-holders .ensures) (c .before .before .before .before .before .before .before .before .before .nothing-known .ensures) (c .before .before .before .before .before .before .before .before .silent-entries .ensures) in
+    going-ends (c .before .before .before .before .before .loop .inv .0) (c .before .before .before .before .before .before .before .before .before .before .before .before .before .before .before .before .before .before .args .work .now) (rest-kept start) (c .before .before .before .if1 .left) (c .ending .ensures)
 
 pub run-entries-spec : {M : Type 1} → statement M
 run-entries-spec =
@@ -217,6 +147,7 @@ run-entries-spec =
     same-length-2
     returns
     note-lines-requires
+    store-lines-requires
     add-silent-entries
     unless-requires
     silent-entries-requires-2

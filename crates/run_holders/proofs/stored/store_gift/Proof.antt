@@ -1,0 +1,75 @@
+-- `store_gift` goes by the kind of thing.
+use mathlib.Core.Path.{refl}
+use borrow.Author.Tests.{eq-eqb, ne-eqb}
+use Rattle.run_holders.specs.StoredCode.{giftStored}
+use Rattle.run_holders.proofs.Storing.{so, otherwise}
+use borrow.Author.Needs.{needs}
+use Rattle.run_holders.proofs.stored.store_gift.Statement.{statement}
+use Rattle.run_holders.proofs.stored.store_gift.Tie as tie
+use Rattle.run_holders.proofs.stored.store_gift.Reads as reads
+use Rattle.run_holders.proofs.stored.store_gift.Lts as lts
+use Rattle.run_holders.proofs.stored.store_channel.Reads as store-channel-reads
+use Rattle.run_holders.proofs.stored.store_end.Reads as store-end-reads
+use Rattle.run_holders.proofs.stored.store_qubit.Reads as store-qubit-reads
+
+store-qubit-requires : tie.Need-store-qubit-requires
+store-qubit-requires c κs = search needs
+
+same-length : tie.Need-same-length
+same-length c = search needs
+
+returns : tie.Need-returns
+unfolding giftStored
+returns c = so _ _ (eq-eqb (c .before .before .before .before .before .before .before .args .l .b) 3 (c .before .before .before .before .if1 .taken)) (c .before .before .store-qubit .ensures)
+
+store-channel-requires : tie.Need-store-channel-requires
+store-channel-requires c κs = search needs
+
+same-length-2 : tie.Need-same-length-2
+same-length-2 c = search needs
+
+returns-2 : tie.Need-returns-2
+unfolding giftStored
+returns-2 c = otherwise _ _ (ne-eqb (c .before .before .before .before .before .before .before .before .before .args .l .b) 3 (c .before .before .before .before .before .before .if1 .left)) (so _ _ (eq-eqb (c .before .before .before .before .before .before .before .before .before .args .l .b) 4 (c .before .before .before .before .if2 .taken)) (c .before .before .store-channel .ensures))
+
+store-end-requires : tie.Need-store-end-requires
+store-end-requires c κs = search needs
+
+same-length-3 : tie.Need-same-length-3
+same-length-3 c = search needs
+
+returns-3 : tie.Need-returns-3
+unfolding giftStored
+returns-3 c = otherwise _ _ (ne-eqb (c .before .before .before .before .before .before .before .before .before .before .before .args .l .b) 3 (c .before .before .before .before .before .before .before .before .if1 .left)) (otherwise _ _ (ne-eqb (c .before .before .before .before .before .before .before .before .before .before .before .args .l .b) 4 (c .before .before .before .before .before .before .if2 .left)) (so _ _ (eq-eqb (c .before .before .before .before .before .before .before .before .before .before .before .args .l .b) 5 (c .before .before .before .before .if3 .taken)) (c .before .before .store-end .ensures)))
+
+store-end-requires-2 : tie.Need-store-end-requires-2
+store-end-requires-2 c κs = search needs
+
+same-length-4 : tie.Need-same-length-4
+same-length-4 c = search needs
+
+returns-4 : tie.Need-returns-4
+unfolding giftStored
+returns-4 c = otherwise _ _ (ne-eqb (c .before .before .before .before .before .before .before .before .before .before .before .before .before .args .l .b) 3 (c .before .before .before .before .before .before .before .before .before .before .if1 .left)) (otherwise _ _ (ne-eqb (c .before .before .before .before .before .before .before .before .before .before .before .before .before .args .l .b) 4 (c .before .before .before .before .before .before .before .before .if2 .left)) (otherwise _ _ (ne-eqb (c .before .before .before .before .before .before .before .before .before .before .before .before .before .args .l .b) 5 (c .before .before .before .before .before .before .if3 .left)) (so _ _ (eq-eqb (c .before .before .before .before .before .before .before .before .before .before .before .before .before .args .l .b) 6 (c .before .before .before .before .if4 .taken)) (c .before .before .store-end2 .ensures))))
+
+returns-5 : tie.Need-returns-5
+unfolding giftStored
+returns-5 c = otherwise _ _ (ne-eqb (c .before .before .before .before .before .before .before .before .before .args .l .b) 3 (c .before .before .before .before .before .before .if1 .left)) (otherwise _ _ (ne-eqb (c .before .before .before .before .before .before .before .before .before .args .l .b) 4 (c .before .before .before .before .if2 .left)) (otherwise _ _ (ne-eqb (c .before .before .before .before .before .before .before .before .before .args .l .b) 5 (c .before .before .if3 .left)) (otherwise _ _ (ne-eqb (c .before .before .before .before .before .before .before .before .before .args .l .b) 6 (c .if4 .left)) refl)))
+
+pub store-gift-spec : {M : Type 1} → statement M
+store-gift-spec =
+    tie.close
+    (tie.spec
+    store-qubit-requires
+    same-length
+    returns
+    store-channel-requires
+    same-length-2
+    returns-2
+    store-end-requires
+    same-length-3
+    returns-3
+    store-end-requires-2
+    same-length-4
+    returns-4
+    returns-5)
