@@ -1,0 +1,5 @@
+pub mod Laid
+pub mod Shapes
+pub mod Topmost
+pub mod Arms
+pub mod Runs

@@ -1,0 +1,107 @@
+-- Plain steps of one process, one after the other.
+use Prim.Native.Nat.{ℕ, _+_, _*_, _-_, _≤_, _<_}
+use mathlib.Core.Path.{_≡_, refl, sym, _∙_, ap, subst}
+use mathlib.Core.Bool.{Bool, true, false, _||_, true≢false}
+use mathlib.Core.List.{List, _++_}
+use native.Mathlib.Omega.{arith}
+use lib.ListN.{getD, set, length, length-set, take, drop, length-drop}
+use lib.Seq.{length-take-le, drop-at, take-at}
+use borrow.Rule.Slice.PartMut.{midOf, putMid}
+use borrow.Author.Tests.{ltb-false}
+use lib.Dec.{ltb}
+use Rattle.table.specs.Table.{word, methods}
+use Rattle.run_store.specs.declared.head.Head.{Head}
+use Rattle.run_store.specs.StoreCode.{headOf, headAt, putTop}
+use Rattle.run_values.specs.ValuesCode.{AfterStep, afterStep}
+use Rattle.run_ops.specs.OpsCode.{actOp, stepOp}
+use Rattle.run_ops.proofs.Returns.{step-acts}
+use Rattle.run_parts.specs.PartsCode.{partAt, partOf, withPart}
+use Rattle.run_parts.proofs.Lifted.{lifted-words, part-lent}
+use Rattle.run_parts.proofs.Apart.{part-long}
+use Rattle.run_stretch.specs.declared.cursor.Cursor.{Cursor}
+use Rattle.run_stretch.specs.StretchCode.{headWith, laid, cursor, Steady, Goes, Ran, begins, goes-on}
+use Rattle.run_stretch.proofs.Laid.{head-laid, laid-first, steady-at}
+use Rattle.run_stretch.proofs.Shapes.{goes-as}
+
+-- the step of a process that runs is its op's
+pub steps-on : (p : List ℕ) (start : ℕ) {h : Head} {w : List ℕ} {c : Cursor} {w′ : List ℕ} {r : Cursor} {op a : ℕ} → Steady h w c → h .status ≡ 1
+    → start ≡ 2 + 20 * methods p → op ≡ word p (start + 2 * c .place) → a ≡ word p (start + 2 * c .place + 1)
+    → Goes (actOp p (laid w h c) (headWith h c) op a) h w c w′ r → Goes (stepOp p (laid w h c)) h w c w′ r
+unfolding headWith
+steps-on p start {h} {w} {c} s e b o i g = goes-as (sym (step-acts p (laid w h c) start {h = headWith h c} (sym (head-laid s)) e b o i refl)) g
+
+pub laid-long : {h : Head} {w : List ℕ} {c : Cursor} → Steady h w c → length (laid w h c) ≡ 512
+unfolding laid putTop headWith
+laid-long {h} {w} {c} s =
+    length-set (set w (headAt (h .frames) + 1) (c .place)) (headAt (h .frames) + 2) (c .pending)
+    ∙ length-set w (headAt (h .frames) + 1) (c .place)
+    ∙ s .long
+
+-- the cursor counts by its place and its number of pending values
+pub laid-by : (w : List ℕ) (h : Head) (c : Cursor) → laid w h c ≡ laid w h (cursor (c .place) (c .pending))
+unfolding laid headWith
+laid-by w h c = refl
+
+module _ {p schedule : List ℕ} {n from : ℕ} {w₀ : List ℕ} where
+  pub ran-up : {k : ℕ} {w : List ℕ} → Ran p schedule n from w₀ k w → from ≤ k
+  ran-up begins = omega arith
+  ran-up (goes-on q l e long long′ s) = omega (arith, ran-up q)
+
+  pub ran-same : {k : ℕ} {w w′ : List ℕ} → Ran p schedule n from w₀ k w → w′ ≡ w → Ran p schedule n from w₀ k w′
+  ran-same {k} r e = subst (Ran p schedule n from w₀ k) (sym e) r
+
+  -- one step more at the cursor
+  pub ran-step : {k : ℕ} {h : Head} {w w′ : List ℕ} {c d : Cursor} → Ran p schedule n from w₀ k (laid w h c) → k < length schedule → getD schedule k 0 ≡ n
+      → Steady h w c → Goes (stepOp p (laid w h c)) h w c w′ d → d .halted ≡ false → Ran p schedule n from w₀ (k + 1) (laid w′ h d)
+  ran-step r l e s g z = goes-on r l e (laid-long s) (laid-long (g .steady)) (g .going z)
+
+  -- where the frame's entries end
+  pub frame-ends : {k : ℕ} (h : Head) (w : List ℕ) (c : Cursor) → Ran p schedule n from w₀ k (laid w h c) → Steady h w c → k ≤ length schedule
+      → Ran p schedule n from w₀ k (laid w h (cursor (c .place) (c .pending))) × Steady h w (cursor (c .place) (c .pending)) × (k ≤ length schedule)
+  frame-ends h w c r s l = (ran-same r (sym (laid-by w h c)), steady-at s (cursor (c .place) (c .pending)) (s .few), l)
+
+-- from the words of a process on, and back to them
+pub ran-top : {p schedule : List ℕ} {n from k : ℕ} {w w₂ : List ℕ} {h : Head} (w₁ : List ℕ) (i m : ℕ) → h ≡ headOf w
+    → Ran p schedule n from (laid w h (cursor (h .place) (h .pending))) k (laid w₁ h (cursor i m))
+    → w₂ ≡ putTop w₁ (record { status = h .status; fault = h .fault; frames = h .frames; method = h .method; place = i; pending = m })
+    → Ran p schedule n from w k w₂
+unfolding laid headWith
+ran-top {p} {schedule} {n} {from} {k} {w} {w₂} {h} w₁ i m e r q =
+    ran-same (subst (λ (v : List ℕ). Ran p schedule n from v k (laid w₁ h (cursor i m))) (laid-first w e) r) q
+
+-- what was tested of a head
+pub head-fits : (f m : ℕ) → ((ltb f 1 || ltb 8 f) || ltb 8 m) ≡ false → (1 ≤ f) × (f ≤ 8) × (m ≤ 8)
+head-fits f m e = go (ltb f 1) (ltb 8 f) (ltb 8 m) refl refl refl e
+  where
+    go : (a b c : Bool) → ltb f 1 ≡ a → ltb 8 f ≡ b → ltb 8 m ≡ c → ((a || b) || c) ≡ false → (1 ≤ f) × (f ≤ 8) × (m ≤ 8)
+    go true b c x y z i = absurd (true≢false i)
+    go false true c x y z i = absurd (true≢false i)
+    go false false true x y z i = absurd (true≢false i)
+    go false false false x y z i = (ltb-false f 1 x, ltb-false 8 f y, ltb-false 8 m z)
+
+-- parts of the store
+
+pub part-length : (w : List ℕ) (n : ℕ) → n < 8 → 8192 ≤ length w → length (midOf (512 + 512 * n) (512 + 512 * n + 512 - (512 + 512 * n)) w) ≡ 512
+part-length w n l long = ap length (part-lent w n {from = 512 + 512 * n} refl) ∙ part-long w long n l
+
+module _ (w : List ℕ) (long : 8192 ≤ length w) (n : ℕ) (l : n < 8) where
+  front : length (take (partAt n) w) ≡ partAt n
+  front = length-take-le (partAt n) w (omega (arith, l, long))
+
+  pub part-back : (ws : List ℕ) → length ws ≡ 512 → partOf (withPart w n ws) n ≡ ws
+  unfolding partOf withPart
+  part-back ws e =
+      ap (take 512) (drop-at (take (partAt n) w) (ws ++ drop 512 (drop (partAt n) w)) (partAt n) front)
+      ∙ take-at ws (drop 512 (drop (partAt n) w)) 512 e
+
+  -- the entries of a part that was lent
+  pub stretched : {p schedule : List ℕ} {from k : ℕ} {ys : List ℕ} → length ys ≡ 512
+      → Ran p schedule n from (midOf (512 + 512 * n) (512 + 512 * n + 512 - (512 + 512 * n)) w) k ys
+      → {v : List ℕ} → v ≡ putMid (512 + 512 * n) (512 + 512 * n + 512 - (512 + 512 * n)) w ys
+      → Ran p schedule n from (partOf w n) k (partOf v n) × (v ≡ withPart w n (partOf v n))
+  stretched {p} {schedule} {from} {k} {ys} e r {v} q =
+      let put : v ≡ withPart w n ys = q ∙ lifted-words w n {from = 512 + 512 * n} refl ys (λ us. ys) refl in
+      let back : partOf v n ≡ ys = ap (λ (u : List ℕ). partOf u n) put ∙ part-back ys e in (
+        ran-same (subst (λ (u : List ℕ). Ran p schedule n from u k ys) (part-lent w n {from = 512 + 512 * n} refl) r) back,
+        put ∙ ap (withPart w n) (sym back),
+      )

@@ -1,0 +1,134 @@
+// Values pushed, taken and stored. Each function does what its op does, or halts.
+ghost use mathlib.Core.Path.{_≡_};
+ghost use Prim.Native.Nat.{_+_, _<_, _≤_};
+ghost use Rattle.run_values.specs.ValuesCode.{afterStep, pushOn, onTop, dropTo, overTwo, inSlot, getOp, putOp, dropOp, endOp};
+ghost use Rattle.run_stretch.specs.StretchCode.{headWith, laid, Steady, Goes};
+use super::cursor::Cursor;
+use super::cursor::free;
+use super::cursor::read_top;
+use super::cursor::slot;
+use super::cursor::write;
+use run_store::head::Head;
+
+// A value pushed, where there is room.
+pub fn push(w: &mut [u32], h: Head, c: Cursor, tag: u32, number: u32) -> Cursor
+    requires { ⌜ Steady h (now w) c × (c .place < 65536) ⌝ }
+    ensures { λ r. ⌜ Goes (afterStep 0 (pushOn (laid (now (w .entry)) h c) (headWith h c) (record { tag = tag; number = number }))) h (now (w .entry)) c (now (w .exit)) r ⌝ }
+{
+    if 8 <= c.pending {
+        return c.halt();
+    }
+    write(w, free(h, c), tag, number);
+    Cursor {
+        place: c.place + 1,
+        pending: c.pending + 1,
+        halted: false,
+    }
+}
+
+// The top value replaced.
+pub fn replace(w: &mut [u32], h: Head, c: Cursor, tag: u32, number: u32) -> Cursor
+    requires { ⌜ Steady h (now w) c × (c .place < 65536) × (1 ≤ c .pending) ⌝ }
+    ensures { λ r. ⌜ Goes (afterStep 0 (onTop (laid (now (w .entry)) h c) (headWith h c) (record { tag = tag; number = number }))) h (now (w .entry)) c (now (w .exit)) r ⌝ }
+{
+    write(w, free(h, c) - 2, tag, number);
+    Cursor {
+        place: c.place + 1,
+        pending: c.pending,
+        halted: false,
+    }
+}
+
+// The top value off, and the frame at instruction `to`.
+pub fn discard_to(w: &mut [u32], h: Head, c: Cursor, to: u32) -> Cursor
+    requires { ⌜ Steady h (now w) c × (1 ≤ c .pending) ⌝ }
+    ensures { λ r. ⌜ Goes (afterStep 0 (dropTo (laid (now (w .entry)) h c) (headWith h c) to)) h (now (w .entry)) c (now (w .exit)) r ⌝ }
+{
+    write(w, free(h, c) - 2, 0, 0);
+    Cursor {
+        place: to,
+        pending: c.pending - 1,
+        halted: false,
+    }
+}
+
+// Two values off, one on.
+pub fn replace_two(w: &mut [u32], h: Head, c: Cursor, tag: u32, number: u32) -> Cursor
+    requires { ⌜ Steady h (now w) c × (c .place < 65536) × (2 ≤ c .pending) ⌝ }
+    ensures { λ r. ⌜ Goes (afterStep 0 (overTwo (laid (now (w .entry)) h c) (headWith h c) (record { tag = tag; number = number }))) h (now (w .entry)) c (now (w .exit)) r ⌝ }
+{
+    let at = free(h, c);
+    write(w, at - 2, 0, 0);
+    write(w, at - 4, tag, number);
+    Cursor {
+        place: c.place + 1,
+        pending: c.pending - 1,
+        halted: false,
+    }
+}
+
+// A slot written.
+pub fn store_slot(w: &mut [u32], h: Head, c: Cursor, a: u16, tag: u32, number: u32) -> Cursor
+    requires { ⌜ Steady h (now w) c × (c .place < 65536) ⌝ }
+    ensures { λ r. ⌜ Goes (afterStep 0 (inSlot (laid (now (w .entry)) h c) (headWith h c) a (record { tag = tag; number = number }))) h (now (w .entry)) c (now (w .exit)) r ⌝ }
+{
+    if 16 <= a {
+        return c.halt();
+    }
+    write(w, slot(h, a), tag, number);
+    Cursor {
+        place: c.place + 1,
+        pending: c.pending,
+        halted: false,
+    }
+}
+
+pub fn get(w: &mut [u32], h: Head, c: Cursor, a: u16) -> Cursor
+    requires { ⌜ Steady h (now w) c × (c .place < 65536) ⌝ }
+    ensures { λ r. ⌜ Goes (getOp (laid (now (w .entry)) h c) (headWith h c) a) h (now (w .entry)) c (now (w .exit)) r ⌝ }
+{
+    if 16 <= a {
+        return c.halt();
+    }
+    let at = slot(h, a);
+    let tag = w[at];
+    if tag == 0 {
+        return c.halt();
+    }
+    let number = w[at + 1];
+    push(w, h, c, tag, number)
+}
+
+pub fn put(w: &mut [u32], h: Head, c: Cursor, a: u16) -> Cursor
+    requires { ⌜ Steady h (now w) c × (c .place < 65536) ⌝ }
+    ensures { λ r. ⌜ Goes (putOp (laid (now (w .entry)) h c) (headWith h c) a) h (now (w .entry)) c (now (w .exit)) r ⌝ }
+{
+    let t = read_top(w, h, c);
+    if !t.there {
+        return c.halt();
+    }
+    store_slot(w, h, c, a, t.tag, t.number)
+}
+
+pub fn drop_top(w: &mut [u32], h: Head, c: Cursor) -> Cursor
+    requires { ⌜ Steady h (now w) c × (c .place < 65536) ⌝ }
+    ensures { λ r. ⌜ Goes (dropOp (laid (now (w .entry)) h c) (headWith h c)) h (now (w .entry)) c (now (w .exit)) r ⌝ }
+{
+    let t = read_top(w, h, c);
+    if !t.there {
+        return c.halt();
+    }
+    discard_to(w, h, c, c.place + 1)
+}
+
+// An end has the tag 5 or 6, by its side, and the channel's number.
+pub fn end_of(w: &mut [u32], h: Head, c: Cursor, a: u16) -> Cursor
+    requires { ⌜ Steady h (now w) c × (c .place < 65536) ⌝ }
+    ensures { λ r. ⌜ Goes (endOp (laid (now (w .entry)) h c) (headWith h c) a) h (now (w .entry)) c (now (w .exit)) r ⌝ }
+{
+    let t = read_top(w, h, c);
+    if !t.there {
+        return c.halt();
+    }
+    replace(w, h, c, 5 + a as u32, t.number)
+}
