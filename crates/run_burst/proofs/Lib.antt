@@ -1,4 +1,3 @@
 pub mod Knowing
 pub mod Steps
-pub mod Leaps
 pub mod Returns

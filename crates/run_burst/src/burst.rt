@@ -1,9 +1,8 @@
 // The entries that write no line: plain steps, and idle entries while some process is known to be able to move. They
 // touch neither the trace nor the counts.
 ghost use mathlib.Core.Path.{_≡_};
-ghost use mathlib.Core.Bool.{true};
 ghost use Prim.Native.Nat.{_+_, _-_, _*_, _<_, _≤_};
-ghost use lib.ListN.{getD, length};
+ghost use lib.ListN.{length};
 ghost use Rattle.table.specs.Table.{methods};
 ghost use Rattle.run_values.specs.ValuesCode.{afterStep};
 ghost use Rattle.run_burst.specs.KnowledgeCode.{alone, knownAfterStep};
@@ -17,7 +16,6 @@ use run_ability::reads::alone_of;
 use run_entry::entry::offer_at;
 use run_parts::part::step_process;
 use run_store::references::ProcessNo;
-use run_stretch::stretch::stretch;
 use run_values::codes::NOT_RUNNING;
 use run_values::codes::WENT_ON;
 
@@ -123,42 +121,6 @@ fn stops_here(
     !moves_alone(p, start, work, named_before(schedule, k))
 }
 
-// Entry k and the one after it name the same process, which can be.
-fn alike(schedule: &[u8], k: usize) -> bool
-    requires { ⌜ k ≤ length (now schedule) ⌝ }
-    ensures { λ r. ⌜ (r ≡ true → (k < length (now (schedule .entry))) × (getD (now (schedule .entry)) k 0 < 8)) ⌝ }
-{
-    if schedule.len() <= k + 1 {
-        return false;
-    }
-    (schedule[k] == schedule[k + 1]) & (schedule[k] < 8)
-}
-
-// Consecutive entries of one process at once, where nothing is known of the others; the answer is the entry to go on with.
-// This is done at the start of a burst alone, so that the loop below does not pay for it.
-fn leap(
-    p: &[u16],
-    start: usize,
-    work: &mut [u32],
-    t: &[[u16; 2]; 16],
-    schedule: &[u8],
-    k: usize,
-    known: Knowledge,
-) -> usize
-    requires { ⌜ (start ≡ 2 + 20 * methods (now p)) × (8192 ≤ length (now work)) × (k ≤ length (now schedule)) ⌝ }
-    ensures { λ r. ⌜ (burstOp (now (p .entry)) (now (t .entry)) (now (schedule .entry)) (now (work .entry)) k known (length (now (schedule .entry)) - k)
-        ≡ burstOp (now (p .entry)) (now (t .entry)) (now (schedule .entry)) (now (work .exit)) r known (length (now (schedule .entry)) - r))
-        × (k ≤ r) × (r ≤ length (now (schedule .entry))) ⌝ }
-{
-    if known.some {
-        return k;
-    }
-    if !alike(schedule, k) {
-        return k;
-    }
-    stretch(p, start, work, schedule, k, schedule[k])
-}
-
 // The entries from `from` on, up to the first that needs more.
 pub fn silent_entries(
     p: &[u16],
@@ -172,8 +134,8 @@ pub fn silent_entries(
     requires { ⌜ (start ≡ 2 + 20 * methods (now p)) × (8192 ≤ length (now work)) × (from ≤ length (now schedule)) ⌝ }
     ensures { λ r. ⌜ stopsAt r (now (work .exit)) ≡ burstOp (now (p .entry)) (now (t .entry)) (now (schedule .entry)) (now (work .entry)) from known (length (now (schedule .entry)) - from) ⌝ }
 {
+    let mut k = from;
     let mut sure = known;
-    let mut k = leap(p, start, work, t, schedule, from, sure);
     while k < schedule.len() {
         let n = schedule[k];
         let code = step_named(p, start, work, n, sure);
