@@ -75,7 +75,7 @@ begun-config p kept work n e h =
     ∙ ap (withPart (set (encode none ++ drop n work) 0 1) 0) (began-words p 0)
     ∙ part-joined none tt (drop n work) (main-process p) (omega arith) (main-long p kept)
 
--- the words of the holders, set one after the other behind 8,192 others
+-- the words of the holders, set one after the other, after 8,192 others
 none-stored : (xs ys : List ℕ) → length xs ≡ 8192 → (j : ℕ) → j ≤ length ys
     → noneStored (xs ++ ys) j ≡ xs ++ (replicate j 255 ++ drop j ys)
 unfolding noneStored
