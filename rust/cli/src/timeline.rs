@@ -239,7 +239,9 @@ impl<'r> Drawing<'r> {
             }
             // What a meeting passes stands beside its arrow; at a fork the
             // bands change their colours.
-            Event::Gave { to, thing: Thing::Qubit(qubit) } => self.passed(x, own, to, &format!("q{qubit}")),
+            Event::Gave { to, thing: Thing::Qubit(qubit) } if !self.starts(to, line.entry) => {
+                self.passed(x, own, to, &format!("q{qubit}"))
+            }
             Event::Gave { .. } => (),
             Event::Passed { value } => {
                 self.svg.text((x + 4.0, own + 13.0), 8.0, Anchor::Start, INK, &value.to_string())
@@ -281,7 +283,12 @@ impl<'r> Drawing<'r> {
         }
     }
 
-    /// A qubit given in a meeting or a fork, beside the arrow.
+    /// The process is forked at this entry.
+    fn starts(&self, process: u16, entry: u16) -> bool {
+        self.run.lines.iter().any(|line| line.entry == entry && is_fork_of(line, process))
+    }
+
+    /// A qubit given in a meeting, beside the arrow.
     fn passed(&mut self, x: f64, own: f64, to: u16, text: &str) {
         let below = self.y(Row::Process(to)).is_some_and(|y| y > own);
         let y = if below { own + 13.0 } else { own - 8.0 };

@@ -132,6 +132,19 @@ fn the_largest_run_has_a_row_for_each() {
     assert_eq!(places.len(), rows);
 }
 
+/// A fork that gives qubits to the process in the next row: the child's name stands there alone.
+#[test]
+fn a_fork_that_gives_qubits() {
+    let main = "method void main()\n    NEWQ\n    NEWQ\n    FORK station\n    RET\n\
+                method void station(qbit first, qbit second)\n    RET\n";
+    let folder = folder("timeline-fork");
+    write(&folder, "fork.lqa", main);
+    let called = lanq_in(&folder, &["timeline", "fork.lqa", "--schedule", "until-stuck"]);
+    assert_eq!(called.status, Some(0));
+    assert!(is_well_built(&called.out) && is_legible(&called.out));
+    assert!(texts(&called.out).iter().any(|one| one == "station"));
+}
+
 /// Only some entries; what was held before them is held at their start.
 #[test]
 fn a_part_of_a_run() {
