@@ -63,54 +63,55 @@ pub record At : Type 0 where
   pub frame : Frame
   pub callers : List Frame
 
--- the operand at depth i, where it is of the kind wanted
+-- the operand at depth i
 abbrev pub operand : At → ℕ → Value
 operand a i = getD (a .operands) i empty
 
-abbrev pub asInt : Value → (ℤ → Act) → Act
+-- What goes on with a value of the kind wanted, for any type of frames.
+abbrev pub asInt : {F : Type 0} → Value → (ℤ → ActOf F) → ActOf F
 asInt empty k = stuck
 asInt (int z) k = k z
 asInt (bool b) k = stuck
 asInt (ref t) k = stuck
 
-abbrev pub asBool : Value → (Bool → Act) → Act
+abbrev pub asBool : {F : Type 0} → Value → (Bool → ActOf F) → ActOf F
 asBool empty k = stuck
 asBool (int z) k = stuck
 asBool (bool b) k = k b
 asBool (ref t) k = stuck
 
-abbrev pub asThing : Value → (Thing → Act) → Act
+abbrev pub asThing : {F : Type 0} → Value → (Thing → ActOf F) → ActOf F
 asThing empty k = stuck
 asThing (int z) k = stuck
 asThing (bool b) k = stuck
 asThing (ref t) k = k t
 
-abbrev pub thingQubit : (ℕ → Act) → Thing → Act
+abbrev pub thingQubit : {F : Type 0} → (ℕ → ActOf F) → Thing → ActOf F
 thingQubit k (qubit n) = k n
 thingQubit k (channel n) = stuck
 thingQubit k (end n s) = stuck
 
-abbrev pub thingChannel : (ℕ → Act) → Thing → Act
+abbrev pub thingChannel : {F : Type 0} → (ℕ → ActOf F) → Thing → ActOf F
 thingChannel k (qubit n) = stuck
 thingChannel k (channel n) = k n
 thingChannel k (end n s) = stuck
 
-abbrev pub thingEnd : (ℕ → Bool → Act) → Thing → Act
+abbrev pub thingEnd : {F : Type 0} → (ℕ → Bool → ActOf F) → Thing → ActOf F
 thingEnd k (qubit n) = stuck
 thingEnd k (channel n) = stuck
 thingEnd k (end n s) = k n s
 
-abbrev pub asQubit : Value → (ℕ → Act) → Act
+abbrev pub asQubit : {F : Type 0} → Value → (ℕ → ActOf F) → ActOf F
 asQubit v k = asThing v (thingQubit k)
 
-abbrev pub asChannel : Value → (ℕ → Act) → Act
+abbrev pub asChannel : {F : Type 0} → Value → (ℕ → ActOf F) → ActOf F
 asChannel v k = asThing v (thingChannel k)
 
-abbrev pub asEnd : Value → (ℕ → Bool → Act) → Act
+abbrev pub asEnd : {F : Type 0} → Value → (ℕ → Bool → ActOf F) → ActOf F
 asEnd v k = asThing v (thingEnd k)
 
 -- "20 the slot read .. is empty"
-abbrev pub present : Value → (Value → Act) → Act
+abbrev pub present : {F : Type 0} → Value → (Value → ActOf F) → ActOf F
 present empty k = faults 20
 present (int z) k = k (int z)
 present (bool b) k = k (bool b)
@@ -177,7 +178,7 @@ unfoldable pub doGate : At → Act
 doGate a = cond (oneQubit (a .argument)) (doGateOne a) (doGateTwo a)
 
 -- "qubit off, next outcome on as int"; "24 no outcome left"
-abbrev pub withOutcome : List ℕ → (ℕ → Act) → Act
+abbrev pub withOutcome : {F : Type 0} → List ℕ → (ℕ → ActOf F) → ActOf F
 withOutcome [] k = faults 24
 withOutcome (o ∷ os) k = k o
 
