@@ -1,0 +1,2 @@
+pub mod PhasesCode
+pub mod LevelsCode

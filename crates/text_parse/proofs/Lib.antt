@@ -1,0 +1,14 @@
+pub mod Opened
+pub mod Examples
+pub mod Texts
+pub mod Leaving
+pub mod LeavingExpr
+pub mod LeavingCode
+pub mod Same
+pub mod Progress
+pub mod EnoughExpr
+pub mod EnoughDeclarations
+pub mod EnoughCode
+pub mod Enough
+pub mod Equations
+pub mod WholeText

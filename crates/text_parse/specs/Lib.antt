@@ -1,0 +1,7 @@
+pub mod Tokens
+pub mod Grammar
+pub mod Text
+pub mod Left
+pub mod Enough
+pub mod Equations
+pub mod Examples
