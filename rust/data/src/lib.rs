@@ -16,6 +16,7 @@
 //! - [`types`]: types, sides and gates
 //! - [`program`]: methods as plain numbers, and the table they make
 //! - [`mod@file`]: the input file of the printing program
+//! - [`texts`]: minimal LanQ texts with what they are answered
 
 #![forbid(unsafe_code)]
 
@@ -27,6 +28,7 @@ pub mod look_up;
 pub mod program;
 pub mod refusal;
 pub mod run;
+pub mod texts;
 pub mod types;
 
 pub use configuration::{

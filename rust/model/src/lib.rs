@@ -15,6 +15,7 @@
 //! - [`owner`]: reach, holders and the ownership statement
 //! - [`lookup`]: holder look-up and same-lines answer on any words
 //! - [`mod@print`]: the printing program
+//! - [`text`]: LanQ text, Paper 1
 //!
 //! Values, frames, processes, lines and refusals are the crate `data`'s.
 
@@ -29,6 +30,7 @@ pub mod print;
 pub mod state;
 pub mod step;
 pub mod table;
+pub mod text;
 pub mod typing;
 
 pub use check::check;

@@ -40,8 +40,13 @@ pub struct TypeFault {
 /// the first method with a fault has the lowest place.
 pub fn first_fault(program: &Program) -> Option<TypeFault> {
     let faults = program.methods.iter();
-    let mut faults = faults.filter_map(|method| read_method(program, method).err());
+    let mut faults = faults.filter_map(|method| method_fault(program, method));
     faults.next()
+}
+
+/// The first instruction at fault of one method.
+pub fn method_fault(program: &Program, method: &Method) -> Option<TypeFault> {
+    read_method(program, method).err()
 }
 
 /// Reads one method from first to last, up to its first fault.
