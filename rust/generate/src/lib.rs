@@ -4,7 +4,9 @@
 //! - [`case`] gives a program, a schedule, outcomes and the lent lengths
 //! - [`fn@file`] gives the bytes of a file for the printing program
 //! - [`trace`] gives words to look holders up in, [`pair`] two traces to compare
-//! - [`Coverage`] counts what the cases have brought about
+//! - [`text_case`] gives a LanQ text with a schedule and outcomes
+//! - [`Coverage`] counts what the cases have brought about, [`TextCoverage`] what
+//!   the texts have
 
 #![forbid(unsafe_code)]
 
@@ -20,6 +22,7 @@ mod plan;
 mod random;
 mod schedule;
 mod stations;
+mod texts;
 mod traces;
 mod typed;
 
@@ -27,6 +30,7 @@ pub use coverage::{observe, Answer, Coverage};
 pub use files::file;
 pub use mark::{Mark, Stored};
 pub use random::Random;
+pub use texts::{observe_text, text_case, TextCase, TextCoverage, TextMark};
 pub use traces::{pair, trace, Difference, Pair};
 
 use data::program::{table, Method};
