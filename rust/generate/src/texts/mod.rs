@@ -6,12 +6,15 @@ mod coverage;
 mod damage;
 mod expression;
 mod limits;
+mod mark;
 mod passed;
 mod program;
+mod seen;
 mod stations;
 mod words;
 
-pub use coverage::{observe_text, TextCoverage, TextMark};
+pub use coverage::{observe_text, TextCoverage};
+pub use mark::TextMark;
 
 use data::WORK_WORDS;
 use model::check::check;
