@@ -6,7 +6,7 @@ use std::collections::BTreeMap;
 use generate::{text_case, TextCase};
 use model::text::grammar::Grammar;
 use model::text::read::{read, read_by, Rules, MOST_NESTING};
-use model::text::token::tokens;
+use model::text::token::{tokens, Kind as Sort};
 use model::text::tree::{Block, Code, Id, Kind, Method, Statement, Tree};
 use model::text::{Reason, Refusal};
 
@@ -141,6 +141,34 @@ impl<'t> Broken<'t> {
             if known == Some(&true) {
                 self.found.push(Refusal::new(Reason::Withends, name.at));
             }
+        }
+    }
+}
+
+/// Tokens cover the text but for white space, and none could be longer.
+#[test]
+fn tokens_are_the_longest() {
+    let word = |byte: u8| byte.is_ascii_alphanumeric() || byte == b'_';
+    for seed in 13_000..15_000 {
+        let text = text_case(seed).text;
+        let mut end = 0;
+        for token in tokens(&text) {
+            assert!(text[end..token.at].iter().all(|byte| b" \t\n\r".contains(byte)), "seed {seed}: {token:?}");
+            end = token.at + token.bytes.len();
+            assert_eq!(&text[token.at..end], token.bytes);
+            let next = text.get(end).copied().unwrap_or(b' ');
+            let first = token.bytes.first().copied().unwrap_or(b' ');
+            let sound = match token.kind {
+                Sort::Name | Sort::Reserved => {
+                    token.bytes.iter().all(|byte| word(*byte)) && !first.is_ascii_digit() && !word(next)
+                }
+                Sort::Number => token.bytes.iter().all(u8::is_ascii_digit) && !next.is_ascii_digit(),
+                Sort::Mark if first == b'=' => token.bytes == b"==" || (token.bytes == b"=" && next != b'='),
+                Sort::Mark => token.bytes.len() == 1 && b"(){}[],;+-<".contains(&first),
+                Sort::Bad => token.bytes.len() == 1 && !word(first) && !b"(){}[],;+-=< \t\n\r".contains(&first),
+                Sort::End => token.at == text.len(),
+            };
+            assert!(sound, "seed {seed}: {token:?}");
         }
     }
 }

@@ -2,17 +2,19 @@
 
 use std::collections::BTreeMap;
 
-use data::{Gate, Type, Value, SLOTS, WORK_WORDS};
+use data::{Gate, Value, WORK_WORDS};
 use model::check::check;
 use model::machine::{Did, Machine};
-use model::table::{Op, Program, MOST_INSTRUCTIONS, MOST_METHODS, MOST_PARAMETERS};
-use model::text::read::{read, MOST_NESTING};
+use model::table::{Op, Program};
+use model::text::names;
+use model::text::read::{read, read_by, Rules, PAPER_1};
 use model::text::run::Machine as TextMachine;
-use model::text::translate;
 use model::text::tree::Tree;
+use model::text::{translate, Reason};
 
 use super::mark::{all_marks, Limit, Part, TextMark};
-use super::seen::{depth_of_block, parts};
+use super::seen::parts;
+use super::sizes::{brackets, sizes};
 use super::TextCase;
 
 /// Counts of marks.
@@ -49,24 +51,13 @@ impl TextCoverage {
         self.add(TextMark::Has(part));
     }
 
-    // The table.
+    // Limits.
 
-    fn table(&mut self, tree: &Tree, program: &Program) {
-        let instructions: usize = program.methods.iter().map(|method| method.code.len()).sum();
-        let rows = || program.methods.iter().map(|method| &method.row);
-        let numbers = || program.methods.iter().flat_map(|method| &method.code);
-        let deepest = tree.methods.iter().map(|method| depth_of_block(&method.body, 1)).max();
-        let limits = [
-            (program.methods.len() == MOST_METHODS, Limit::Methods),
-            (instructions == MOST_INSTRUCTIONS, Limit::Instructions),
-            (rows().any(|row| row.parameters == MOST_PARAMETERS), Limit::Parameters),
-            (rows().any(|row| row.slots[SLOTS - 1] != Type::None), Limit::Slots),
-            (numbers().any(|op| *op == Op::Int(i16::MAX)), Limit::Number),
-            (deepest == Some(MOST_NESTING), Limit::Nesting),
-        ];
-        for (reached, limit) in limits {
-            if reached {
-                self.add(TextMark::Reached(limit));
+    /// Marks of the limits that the sizes reach, or go past by so many.
+    fn limits(&mut self, sizes: &[(Limit, usize)], past: usize, mark: fn(Limit) -> TextMark) {
+        for (limit, size) in sizes {
+            if *size == limit.most() + past {
+                self.add(mark(*limit));
             }
         }
     }
@@ -90,9 +81,6 @@ impl TextCoverage {
         let frames = || after.config.processes.iter().flat_map(|process| &process.frames);
         if frames().any(|frame| frame.pending.contains(&Value::Empty)) {
             self.add(TextMark::EmptiedPending);
-        }
-        if frames().any(|frame| frame.pending.len() == model::typing::MOST_PENDING) {
-            self.add(TextMark::Reached(Limit::Pending));
         }
     }
 
@@ -118,10 +106,15 @@ pub fn observe_text(case: &TextCase, coverage: &mut TextCoverage) -> Result<(), 
     if let Ok(tree) = read(&case.text) {
         parts(&tree, coverage);
     }
-    let words = match translate(&case.text) {
+    let answer = translate(&case.text);
+    if brackets(&case.text) >= 40 {
+        coverage.add(TextMark::DeepBrackets(answer.is_ok()));
+    }
+    let words = match answer {
         Ok(words) => words,
         Err(refusal) => {
             coverage.add(TextMark::Refused(refusal.reason));
+            passed_by_one(&case.text, refusal.reason, coverage);
             if refusal.place > 0 {
                 coverage.add(TextMark::FurtherOn(refusal.number));
             }
@@ -132,8 +125,29 @@ pub fn observe_text(case: &TextCase, coverage: &mut TextCoverage) -> Result<(), 
     let tree = model::text::tree(&case.text).map_err(|refusal| refusal.to_string())?;
     let checked = check(&words, &case.schedule, &case.outcomes, WORK_WORDS);
     let program = checked.map_err(|refusal| format!("the table that was given out is {refusal}"))?;
-    coverage.table(&tree, &program);
+    coverage.limits(&sizes(&tree), 0, TextMark::Reached);
     side_by_side(case, &tree, &program, coverage)
+}
+
+/// Marks of the limit that a text is refused for, where it passes it by one. Nesting is
+/// counted on the tree that is read without its limit.
+fn passed_by_one(text: &[u8], reason: Reason, coverage: &mut TextCoverage) {
+    let limit = match reason {
+        Reason::Methods => Limit::Methods,
+        Reason::Instructions => Limit::Instructions,
+        Reason::Parameters => Limit::Parameters,
+        Reason::Slots => Limit::Slots,
+        Reason::Number => Limit::Number,
+        Reason::Nesting => Limit::Nesting,
+        Reason::Types => Limit::Pending,
+        _ => return,
+    };
+    let without = Rules { nesting: 1_000, ..PAPER_1 };
+    let Ok(tree) = read_by(text, without) else { return };
+    if names::check(&tree).is_ok() {
+        let sizes = sizes(&tree).into_iter().filter(|(other, _)| *other == limit);
+        coverage.limits(&sizes.collect::<Vec<_>>(), 1, TextMark::PassedByOne);
+    }
 }
 
 fn side_by_side(case: &TextCase, tree: &Tree, program: &Program, coverage: &mut TextCoverage) -> Result<(), String> {

@@ -19,6 +19,10 @@ pub enum TextMark {
     Returned(u16),
     /// A limit that a text reaches and does not pass.
     Reached(Limit),
+    /// A limit that a text passes by one and is refused for.
+    PassedByOne(Limit),
+    /// An expression in 40 brackets or more, in a text that is accepted or not.
+    DeepBrackets(bool),
     /// An op that was executed.
     Op(u16),
     Gate(u16),
@@ -137,9 +141,8 @@ impl Part {
     ];
 }
 
-/// Every mark that texts can have. NOT (op 23) comes from no text.
-pub fn all_marks() -> Vec<TextMark> {
-    let limits = [
+impl Limit {
+    pub const ALL: [Limit; 7] = [
         Limit::Methods,
         Limit::Instructions,
         Limit::Parameters,
@@ -148,6 +151,10 @@ pub fn all_marks() -> Vec<TextMark> {
         Limit::Nesting,
         Limit::Pending,
     ];
+}
+
+/// Every mark that texts can have. NOT (op 23) comes from no text.
+pub fn all_marks() -> Vec<TextMark> {
     let types = [1, 2, 3, 17, 18, 19, 33, 34, 35];
     let mut marks = vec![TextMark::Accepted, TextMark::EmptiedPending];
     marks.extend(Reason::ALL.map(TextMark::Refused));
@@ -156,7 +163,9 @@ pub fn all_marks() -> Vec<TextMark> {
     marks.extend(types.map(TextMark::Declared));
     marks.extend(types.map(TextMark::Returned));
     marks.push(TextMark::Returned(0));
-    marks.extend(limits.map(TextMark::Reached));
+    marks.extend(Limit::ALL.map(TextMark::Reached));
+    marks.extend(Limit::ALL.map(TextMark::PassedByOne));
+    marks.extend([false, true].map(TextMark::DeepBrackets));
     marks.extend((1..=22).map(TextMark::Op));
     marks.extend((1..=8).map(TextMark::Gate));
     marks.extend((1..=3).map(TextMark::NewChannel));

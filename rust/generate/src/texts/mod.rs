@@ -10,6 +10,7 @@ mod mark;
 mod passed;
 mod program;
 mod seen;
+mod sizes;
 mod stations;
 mod words;
 

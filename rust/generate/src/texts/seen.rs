@@ -191,26 +191,3 @@ impl<'a> Seen<'a> {
         }
     }
 }
-
-/// The depth of the deepest body or block in a block of this depth, by the words of
-/// Paper 1 and apart from the reader.
-pub fn depth_of_block(block: &Block, depth: usize) -> usize {
-    let inside = block.statements.iter().map(|statement| match &statement.kind {
-        Code::Block(block) => depth_of_block(block, depth + 1),
-        _ => depth_of_bodies(statement, depth),
-    });
-    inside.max().unwrap_or(depth).max(depth)
-}
-
-/// The same of a statement that stands at this depth.
-fn depth_of_bodies(statement: &Statement, depth: usize) -> usize {
-    let body = |body: &Statement| match &body.kind {
-        Code::Block(block) => depth_of_block(block, depth + 1),
-        _ => depth_of_bodies(body, depth + 1),
-    };
-    match &statement.kind {
-        Code::If { then, otherwise, .. } => body(then).max(otherwise.as_deref().map_or(0, body)),
-        Code::While { body: inside, .. } => body(inside),
-        _ => depth,
-    }
-}
