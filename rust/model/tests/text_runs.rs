@@ -125,6 +125,25 @@ fn a_half_evaluated_call_loses_what_is_given_away() {
     assert_eq!(printed(&run), expected);
 }
 
+/// "a partner with an emptied operand is not ready": the end is given away by the method
+/// that works out the value.
+#[test]
+fn a_half_evaluated_send_loses_its_end() {
+    let text = "void main() { channel[int] c withends [a, b]; c = new channel[int](); fork f(b); send(a, lend(a)); }
+        int lend(channelEnd[int] e) { fork lent(e); return 1; }
+        void lent(channelEnd[int] e) { ; }
+        void f(channelEnd[int] e) { recv(e); }";
+    let start = [&[0u8; 11][..], &[1], &[0; 7]].concat();
+    // The receiver finds main at send, not ready, and waits; main is stopped.
+    let run = both(text, &[&start[..], &[1, 0]].concat(), &[], AMPLE);
+    let expected = ["0 0 2 0 - -", "10 0 5 1 3 1", "10 0 6 1 6 0", "16 0 5 2 2 1", "16 0 6 2 5 0", "20 0 10 20 - -"];
+    assert_eq!(printed(&run), expected);
+    // When the process that got the end has finished too, nobody is left to meet.
+    let run = both(text, &[&start[..], &[2, 1, 0]].concat(), &[], AMPLE);
+    let expected = ["19 2 9 - - -", "20 1 10 33 - -", "21 0 10 20 - -"];
+    assert_eq!(printed(&run)[5..], expected);
+}
+
 /// An inner block's variable is empty again in every round.
 #[test]
 fn a_block_starts_anew() {

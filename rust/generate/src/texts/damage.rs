@@ -60,7 +60,10 @@ fn retype(tokens: &mut [String], random: &mut Random) {
     let types = ["int", "boolean", "qbit", "channel", "channelEnd", "void", "StdBasis"];
     let found = places(tokens, |token| types.contains(&token));
     if let Some(place) = random.pick_any(&found) {
-        tokens[place] = random.pick(&types).to_string();
+        tokens[place] = match tokens[place] == "StdBasis" {
+            true => "BellBasis".to_string(),
+            false => random.pick(&types).to_string(),
+        };
     }
 }
 

@@ -11,11 +11,13 @@ const LOCALS: &str = "int x ; boolean y ; qbit q , r ;";
 const LOCAL_SLOTS: usize = 4;
 
 /// Methods that statements below call.
-const HELPERS: [&str; 4] = [
+const HELPERS: [&str; 6] = [
     "qbit away ( channelEnd [ qbit ] e , qbit old ) { send ( e , old ) ; return new qbit ( ) ; }",
     "void keep ( qbit q ) { X ( q ) ; measure ( StdBasis , q ) ; }",
     "int sum ( int a , int b ) { return a + b ; }",
     "void held ( channel [ int ] c , channelEnd [ int ] e ) { ; }",
+    "int lend ( channelEnd [ int ] e ) { fork lent ( e ) ; return 2 ; }",
+    "void lent ( channelEnd [ int ] e ) { }",
 ];
 
 /// The tokens of such a text.
@@ -143,6 +145,7 @@ fn exchange(sends: bool, carried: u16, end: &str, random: &mut Random) -> Vec<St
             "send ( a , measure ( StdBasis , q ) ) ;",
             "send ( a , x = sum ( x , 0 - 40 ) ) ;",
             "send ( a , sum ( x , measure ( StdBasis , q ) ) ) ;",
+            "send ( a , lend ( a ) ) ;",
         ]),
         (true, 2) => random.pick(&["send ( a , y ) ;", "send ( a , x < 2 ) ;", "send ( ( a ) , y = 1 == x ) ;"]),
         (true, _) => random.pick(&[
