@@ -144,6 +144,21 @@ fn a_half_evaluated_send_loses_its_end() {
     assert_eq!(printed(&run)[5..], expected);
 }
 
+/// The ends that a withends assignment fills are those declared with the channel, though
+/// an inner block declares their names anew.
+#[test]
+fn the_ends_declared_with_a_channel_are_filled() {
+    let text = "void main() {
+            channel[int] c withends [a, b];
+            { int a, b; c = new channel[int](); a = 1; }
+            fork f(b); send(a, 5);
+        }
+        void f(channelEnd[int] e) { recv(e); }";
+    let run = both(text, &[&[0u8; 16][..], &[1, 0, 0, 0]].concat(), &[], AMPLE);
+    let expected = ["2 0 2 0 - -", "15 0 5 1 1 1", "15 0 6 1 6 0", "19 0 7 1 0 0", "19 0 8 5 0 -"];
+    assert_eq!(printed(&run), expected);
+}
+
 /// An inner block's variable is empty again in every round.
 #[test]
 fn a_block_starts_anew() {

@@ -78,12 +78,17 @@ fn main(links: &[Link], random: &mut Random) -> Vec<String> {
         tokens.extend(split(&format!("c{number} withends [ a{number} , b{number} ] ;")));
     }
     tokens.extend(start(random));
-    for Link { number, carried, .. } in links {
-        tokens.extend(split(&format!("c{number} = new")));
-        tokens.extend(type_tokens(16 + carried));
-        tokens.extend(split(&format!("( ) ; fork s{number} ( b{number} ) ;")));
-    }
     let mut slots = SLOTS - LOCAL_SLOTS - 3 * links.len();
+    for Link { number, carried, .. } in links {
+        // At times in a block that has another variable of the end's name.
+        let hidden = slots > 0 && random.chance(20);
+        slots -= usize::from(hidden);
+        let open = if hidden { format!("{{ int a{number} ;") } else { String::new() };
+        tokens.extend(split(&format!("{open} c{number} = new")));
+        tokens.extend(type_tokens(16 + carried));
+        let close = if hidden { "}" } else { "" };
+        tokens.extend(split(&format!("( ) ; {close} fork s{number} ( b{number} ) ;")));
+    }
     let mut left: Vec<(usize, usize)> = links.iter().enumerate().map(|(index, _)| (index, 0)).collect();
     while !left.is_empty() {
         let turn = random.below(left.len());

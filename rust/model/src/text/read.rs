@@ -171,7 +171,6 @@ impl<'t> Reader<'t> {
             false => self.needed_type()?,
         };
         let name = self.name()?;
-        self.withends = Scopes::new();
         self.withends.open();
         let parameters = self.parameters()?;
         // "a method's body is 1"
