@@ -8,7 +8,7 @@ use Rattle.text.specs.Tree.{Name}
 use Rattle.text_parse.specs.Tokens.{Token, is, isName, isNumeral, nameOf}
 use Rattle.text_parse.specs.Grammar.{Scopes, isWithends}
 use Rattle.text_expr.specs.PhasesCode.{Open, assigning, inBrackets, inCall, Phase, operand, whole, bare, named, called, recv₁, measure₁, measure₂, measure₃, measure₄, measure₅, new₁, new₂, new₃, new₄, new₅, new₆, Step, on, off, over, closed, isOperator, ended, afterNew, wholeStep, bareStep, individualStep, operandStep, namedStep, withoutCall, calledStep, must, newStep, step}
-use Rattle.text_expr.specs.LevelsCode.{Level, assigned, bracketOf, opens, Action, stay, assigns, unassigns, opensLevel, closesLevel, nextArgument, astray, beyond, innermost, isOpen, endedAction, newAction, wholeAction, operandAction, namedAction, mustAction, allocAction, action, inside, lessOne, closedLevel, applied}
+use Rattle.text_expr.specs.LevelsCode.{Level, assigned, bracketOf, opens, Action, stay, assigns, unassigns, opensLevel, closesLevel, nextArgument, astray, beyond, innermost, isOpen, endedAction, newAction, wholeAction, operandAction, namedAction, mustAction, allocAction, action, inside, lessOne, outsideOf, withoutLevel, applied}
 
 closed-assigned : (n : ℕ) (k : List Open) → closed (assigned n k) ≡ closed k
 unfolding assigned closed
@@ -35,7 +35,7 @@ applied-cond false x y n ls = refl
 -- a token after an expression
 ended-level : (n : ℕ) (ls : List Level) (t : Token)
     → ended (opens zero ls) t ≡ applied (endedAction (innermost ls) t) n ls
-unfolding opens assigned bracketOf ended endedAction innermost applied closedLevel
+unfolding opens assigned bracketOf ended endedAction innermost applied outsideOf withoutLevel
 ended-level n [] t = refl
 ended-level n (l ∷ ls) t = by (l .ofCall)
   where
@@ -144,8 +144,9 @@ named-level scopes x n ls t = by (is "=" t) (isWithends scopes x) (is "(" t)
     by false b true = sym (ap (on called) (opened-level true n ls))
     by false b false = whole-level n ls t
 
-popped-level : (ls : List Level) → on whole (withoutCall (opens zero ls)) ≡ closedLevel ls
-unfolding opens assigned withoutCall closedLevel
+popped-level : (ls : List Level)
+    → on whole (withoutCall (opens zero ls)) ≡ on whole (opens (outsideOf ls) (withoutLevel ls))
+unfolding opens assigned withoutCall outsideOf withoutLevel
 popped-level [] = refl
 popped-level (l ∷ ls) = refl
 
@@ -155,7 +156,7 @@ unfolding calledStep applied
 called-level n ls t =
     ap (λ (k : List Open). cond (is ")" t) (on whole (withoutCall k)) (operandStep (opens n ls) t)) (closed-opens n ls)
     ∙ ap (λ (x : Step). cond (is ")" t) x (operandStep (opens n ls) t)) (popped-level ls)
-    ∙ ap (cond (is ")" t) (closedLevel ls)) (operand-level n ls t)
+    ∙ ap (cond (is ")" t) (on whole (opens (outsideOf ls) (withoutLevel ls)))) (operand-level n ls t)
     ∙ sym (applied-cond (is ")" t) closesLevel (operandAction t) n ls)
 
 must-level : (ok : Bool) (p : Phase) (n : ℕ) (ls : List Level) (t : Token)

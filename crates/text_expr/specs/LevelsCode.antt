@@ -8,6 +8,8 @@ use Prim.Native.Nat.{ℕ, zero, suc}
 use mathlib.Core.Bool.{Bool, true, false, cond, _||_}
 use mathlib.Core.List.{List, [], _∷_}
 use mathlib.Core.Option.{Option, none, some}
+use lib.ListN.{length}
+use lib.Dec.{eqb}
 use Rattle.text.specs.Tree.{Name}
 use Rattle.text_parse.specs.Tokens.{Token, is, isName, isNumeral, nameOf}
 use Rattle.text_parse.specs.Grammar.{Scopes, isWithends}
@@ -119,21 +121,98 @@ unfoldable pub inside : Bool → Phase
 inside true = called
 inside false = operand
 
--- what an action makes of what is open, n assignments and the levels ls
+-- what an action makes of what is open, n assignments and the levels ls: the phase, the assignments, the levels
 unfoldable pub lessOne : ℕ → ℕ
 lessOne zero = zero
 lessOne (suc n) = n
 
-unfoldable pub closedLevel : List Level → Step
-closedLevel [] = on whole []
-closedLevel (l ∷ ls) = on whole (opens (l .outside) ls)
+unfoldable pub phaseAfter : Action → Phase
+phaseAfter (stay p) = p
+phaseAfter assigns = operand
+phaseAfter unassigns = operand
+phaseAfter (opensLevel b) = inside b
+phaseAfter closesLevel = whole
+phaseAfter nextArgument = operand
+phaseAfter (astray i) = operand
+phaseAfter beyond = operand
+
+unfoldable pub outsideOf : List Level → ℕ
+outsideOf [] = zero
+outsideOf (l ∷ ls) = l .outside
+
+unfoldable pub countAfter : Action → ℕ → List Level → ℕ
+countAfter (stay p) n ls = n
+countAfter assigns n ls = suc n
+countAfter unassigns n ls = lessOne n
+countAfter (opensLevel b) n ls = zero
+countAfter closesLevel n ls = outsideOf ls
+countAfter nextArgument n ls = zero
+countAfter (astray i) n ls = n
+countAfter beyond n ls = n
+
+unfoldable pub withoutLevel : List Level → List Level
+withoutLevel [] = []
+withoutLevel (l ∷ ls) = ls
+
+unfoldable pub levelsAfter : Action → ℕ → List Level → List Level
+levelsAfter (stay p) n ls = ls
+levelsAfter assigns n ls = ls
+levelsAfter unassigns n ls = ls
+levelsAfter (opensLevel b) n ls = record { ofCall = b; outside = n } ∷ ls
+levelsAfter closesLevel n ls = withoutLevel ls
+levelsAfter nextArgument n ls = ls
+levelsAfter (astray i) n ls = ls
+levelsAfter beyond n ls = ls
 
 unfoldable pub applied : Action → ℕ → List Level → Step
 applied (stay p) n ls = on p (opens n ls)
 applied assigns n ls = on operand (opens (suc n) ls)
 applied unassigns n ls = on operand (opens (lessOne n) ls)
 applied (opensLevel b) n ls = on (inside b) (opens zero (record { ofCall = b; outside = n } ∷ ls))
-applied closesLevel n ls = closedLevel ls
+applied closesLevel n ls = on whole (opens (outsideOf ls) (withoutLevel ls))
 applied nextArgument n ls = on operand (opens zero ls)
 applied (astray i) n ls = off i
 applied beyond n ls = over
+
+-- Finding a level again. The code does not keep all levels: it can go over the tokens from the expression's start on
+-- once more, and note of one level what is wanted. Here d levels stand outside the one that is looked for. Up to a
+-- place that the pass has come to, what a token does needs no knowledge of the levels.
+pub record Note : Type 0 where
+  -- how many levels there are, and how many assignments are open within the d-th
+  pub depth : ℕ
+  pub count : ℕ
+  -- the level over the d-th, as it was opened last
+  pub ofCall : Bool
+  pub outside : ℕ
+
+unfoldable pub known : Scopes → Phase → Token → Action
+known scopes p t = action scopes p true (some true) t
+
+abbrev pub noted : ℕ → Note → ℕ → Note
+noted d r n = record {
+  depth = r .depth;
+  count = cond (eqb (r .depth) d) n (r .count);
+  ofCall = r .ofCall;
+  outside = r .outside;
+}
+
+unfoldable pub note : ℕ → Action → Note → Note
+note d (stay p) r = r
+note d assigns r = noted d r (suc (r .count))
+note d unassigns r = noted d r (lessOne (r .count))
+note d (opensLevel b) r = record {
+  depth = suc (r .depth);
+  count = cond (eqb (suc (r .depth)) d) zero (r .count);
+  ofCall = cond (eqb (r .depth) d) b (r .ofCall);
+  outside = cond (eqb (r .depth) d) (r .count) (r .outside);
+}
+note d closesLevel r =
+    record { depth = lessOne (r .depth); count = r .count; ofCall = r .ofCall; outside = r .outside }
+note d nextArgument r = noted d r zero
+note d (astray i) r = r
+note d beyond r = r
+
+-- the level with d levels outside it
+unfoldable pub levelOver : ℕ → List Level → Option Level
+levelOver d [] = none
+levelOver d (l ∷ ls) = cond (eqb (length ls) d) (some l) (levelOver d ls)
