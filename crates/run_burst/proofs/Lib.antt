@@ -1,3 +1,4 @@
 pub mod Knowing
 pub mod Steps
+pub mod AtOnce
 pub mod Returns

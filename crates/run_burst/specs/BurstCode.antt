@@ -1,8 +1,9 @@
 -- Entries that write no line, on the words of the store. These definitions follow the code.
 use Prim.Native.Nat.{ℕ, zero, suc, _+_, _-_}
+use mathlib.Core.Path.{_≡_}
 use mathlib.Core.Bool.{Bool, true, false, cond, _&&_, not}
 use mathlib.Core.List.{List}
-use lib.ListN.{getD}
+use lib.ListN.{getD, length}
 use lib.Dec.{eqb, leb}
 use Rattle.run_values.specs.ValuesCode.{AfterStep, afterStep, wentOn, notRunning}
 use Rattle.run_ops.specs.OpsCode.{stepOp}
@@ -52,3 +53,7 @@ burstOp p t schedule work k known (suc left) =
     (cond (stopsHere p (d .words) schedule k known m)
     (stopsAt (record { at = k; code = d .code; offer = m; known = known }) (d .words))
     (burstOp p t schedule (d .words) (k + 1) (withIdle known n) left))
+
+-- a burst that starts at entry k with these words stops where one does that starts at entry k′ with those
+pub record SameBurst (p schedule : List ℕ) (known : Knowledge) (work : List ℕ) (k : ℕ) (work′ : List ℕ) (k′ : ℕ) : Type 0 where
+  pub same : (t : List (List ℕ)) → burstOp p t schedule work k known (length schedule - k) ≡ burstOp p t schedule work′ k′ known (length schedule - k′)

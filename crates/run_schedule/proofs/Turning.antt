@@ -32,8 +32,9 @@ use Rattle.run_burst.specs.declared.burst.Burst.{Burst}
 use Rattle.run_burst.specs.declared.turn.Turn.{Turn}
 use Rattle.run_burst.specs.declared.knowledge.Knowledge.{Knowledge}
 use Rattle.run_burst.specs.KnowledgeCode.{nothingKnown, withIdle, knownAfterStep, unlessChanged}
-use Rattle.run_burst.specs.BurstCode.{Stop, stopsAt, namedOp, isDone, stopsHere, burstOp}
+use Rattle.run_burst.specs.BurstCode.{Stop, stopsAt, namedOp, isDone, stopsHere, burstOp, SameBurst}
 use Rattle.run_burst.specs.TurnCode.{afterTurn, turnAt}
+use Rattle.run_burst.proofs.AtOnce.{none-taken}
 use Rattle.run_schedule.specs.SummaryCode.{afterRun, runLeaves}
 use Rattle.run_schedule.proofs.Ready.{Inputs, Ready, AtEnd, ready-start, ready-last, state-sound}
 use Rattle.run_schedule.proofs.Resting.{linesTo, lines-to, other-rest, ready-rest}
@@ -49,6 +50,15 @@ pub record Going (p schedule outcomes : List ℕ) (room : ℕ) (beyond t0 work t
     Type 0 where
   pub given : Inputs p schedule outcomes t0 (restOf trace lines beyond) room
   pub stands : Burst-good given trace t lines used (stopsAt b work)
+
+-- the state before a burst that starts at entry k, where the entries from `from` on have been taken already
+pub record Before (p schedule outcomes : List ℕ) (room : ℕ) (beyond t0 work trace : List ℕ) (t : List (List ℕ)) (lines used k : ℕ) (known : Knowledge) :
+    Type 0 where
+  pub given : Inputs p schedule outcomes t0 (restOf trace lines beyond) room
+  pub from : ℕ
+  pub words : List ℕ
+  pub ready : Ready given from words trace t lines used known
+  pub taken : SameBurst p schedule known words from work k
 
 -- words of 16 bits
 narrow-words : (p : List ℕ) → ((i : ℕ) → getD p i 0 < 65536) → (i : ℕ) → argAt p i < 65536
@@ -86,23 +96,38 @@ burst-past p t schedule work k known (suc left) =
     d = namedOp p work (getD schedule k 0) known
 
 module _ {p schedule outcomes : List ℕ} {room : ℕ} {t0 : List ℕ} where
-  pub going-start : {w0 beyond : List ℕ} → Inputs p schedule outcomes t0 (restOf t0 0 beyond) room
+  pub before-start : {w0 beyond : List ℕ} → Inputs p schedule outcomes t0 (restOf t0 0 beyond) room
       → w0 ≡ encode (startConfig p) ++ (holderWords [] ++ beyond)
       → {t : List (List ℕ)} → t ≡ nobody → {known : Knowledge} → known ≡ nothingKnown
-      → {b : Burst} {work : List ℕ} → stopsAt b work ≡ burstOp p t schedule w0 0 known (length schedule - 0)
-      → Going p schedule outcomes room beyond t0 work t0 t 0 0 b
+      → {k : ℕ} {work : List ℕ} → SameBurst p schedule nothingKnown w0 0 work k
+      → Before p schedule outcomes room beyond t0 work t0 t 0 0 k known
   unfolding linesOf
-  going-start {w0} {beyond} given e {t} i {known} j changed = record {
+  before-start {w0} {beyond} given e {t} i {known} j {k} {work} s = record {
     given = given;
-    stands =
-        subst (Burst-good given t0 t 0 0) (sym changed)
-        (burst-law given (length schedule - 0) 0 refl
-        (subst (λ (k : Knowledge). Ready given 0 w0 t0 t 0 0 k) (sym j)
-        (subst (λ (u : List (List ℕ)). Ready given 0 w0 t0 u 0 0 nothingKnown) (sym i) (ready-start given w0 none-yet))));
+    from = 0;
+    words = w0;
+    ready =
+        subst (λ (x : Knowledge). Ready given 0 w0 t0 t 0 0 x) (sym j)
+        (subst (λ (u : List (List ℕ)). Ready given 0 w0 t0 u 0 0 nothingKnown) (sym i) (ready-start given w0 none-yet));
+    taken = subst (λ (x : Knowledge). SameBurst p schedule x w0 0 work k) (sym j) s;
   }
     where
       none-yet : w0 ≡ encode (startConfig p) ++ restOf t0 0 beyond
       none-yet = e
+
+  module _ {beyond work trace : List ℕ} {t : List (List ℕ)} {lines used k : ℕ} {known : Knowledge}
+      (x : Before p schedule outcomes room beyond t0 work trace t lines used k known) {b : Burst} {work′ : List ℕ}
+      (stops : stopsAt b work′ ≡ burstOp p t schedule work k known (length schedule - k)) where
+    pub going-burst : Going p schedule outcomes room beyond t0 work′ trace t lines used b
+    going-burst = record {
+      given = x .given;
+      stands =
+          subst (Burst-good (x .given) trace t lines used) (x .taken .same t ∙ sym stops)
+          (burst-law (x .given) (length schedule - x .from) (x .from) refl (x .ready));
+    }
+
+    pub not-back : k ≤ b .at
+    not-back = subst (λ (y : Stop). k ≤ y .burst .at) (sym stops) (burst-past p t schedule work k known (length schedule - k))
 
   module _ {work trace : List ℕ} {t : List (List ℕ)} {lines used : ℕ} {b : Burst} {beyond : List ℕ}
       (g : Going p schedule outcomes room beyond t0 work trace t lines used b) where
@@ -118,23 +143,6 @@ module _ {p schedule outcomes : List ℕ} {room : ℕ} {t0 : List ℕ} where
 
     pub near : (b .offer .sender .0 < 8) × (b .offer .receiver .0 < 8)
     near = g .stands .near
-
-    -- the words beyond these are as they were
-    pub rest-kept : drop 8256 work ≡ beyond
-    rest-kept =
-        ap (drop 8256)
-        (there .store ∙ sym (append-assoc (encode (stateAt p outcomes schedule (b .at) .config)) (holderWords (linesTo trace lines)) beyond))
-        ∙ drop-at (encode (stateAt p outcomes schedule (b .at) .config) ++ holderWords (linesTo trace lines)) beyond 8256
-        (length-append (encode (stateAt p outcomes schedule (b .at) .config)) (holderWords (linesTo trace lines))
-        ∙ omega (
-          arith,
-          encode-length p (stateAt p outcomes schedule (b .at) .config) (state-sound (g .given) (b .at)),
-          words-length (linesTo trace lines),
-        ))
-
-    pub going-from : Going p schedule outcomes room (drop 8256 work) t0 work trace t lines used b
-    going-from =
-        subst (λ (l : List ℕ). Going p schedule outcomes room l t0 work trace t lines used b) (sym rest-kept) g
 
     -- the words that a run leaves
     over-leaves : (w0 : List ℕ) → beyond ≡ drop 8256 w0 → {end : ℕ} {work′ trace′ : List ℕ} {lines′ used′ : ℕ}
@@ -220,34 +228,25 @@ module _ {p schedule outcomes : List ℕ} {room : ℕ} {t0 : List ℕ} where
         module _ {changes : Bool} (says : changes ≡ changedFrom trace′ lines (r .lines - lines)) {known : Knowledge}
             (knows : known ≡ unlessChanged (r .known) changes)
             {u : List (List ℕ)} (noted : u ≡ holdersAfterLines t trace′ lines (r .lines - lines))
-            {work‴ : List ℕ} (stored : work‴ ≡ storedAfterLines work′ trace′ lines (r .lines - lines)) {b′ : Burst}
-            {work″ : List ℕ}
-            (stops : stopsAt b′ work″ ≡ burstOp p u schedule work‴ (b .at + 1) known (length schedule - (b .at + 1)))
+            {work″ : List ℕ} (stored : work″ ≡ storedAfterLines work′ trace′ lines (r .lines - lines))
           where
             abbrev newly : Inputs p schedule outcomes t0 (restOf trace′ (r .lines) beyond) room
             newly = other-rest (g .given) (restOf trace′ (r .lines) beyond)
 
             -- it goes on
-            pub going-next : Going p schedule outcomes room beyond t0 work″ trace′ u (r .lines) (r .used) b′
-            going-next = record {
+            pub before-next : Before p schedule outcomes room beyond t0 work″ trace′ u (r .lines) (r .used) (b .at + 1) known
+            before-next = record {
               given = newly;
-              stands =
-                  subst (Burst-good newly trace′ u (r .lines) (r .used)) (sym stops)
-                  (burst-law newly (length schedule - (b .at + 1)) (b .at + 1) refl
-                  (subst (λ (n : ℕ). Ready newly n work‴ trace′ u (r .lines) (r .used) known) {x = suc (b .at)}
+              from = b .at + 1;
+              words = work″;
+              ready =
+                  subst (λ (n : ℕ). Ready newly n work″ trace′ u (r .lines) (r .used) known) {x = suc (b .at)}
                   {y = b .at + 1} (omega arith)
-                  (subst (λ (x : Knowledge). Ready newly (suc (b .at)) work‴ trace′ u (r .lines) (r .used) x)
+                  (subst (λ (x : Knowledge). Ready newly (suc (b .at)) work″ trace′ u (r .lines) (r .used) x)
                   (sym (knows ∙ ap (unlessChanged (r .known)) says))
-                  (subst (λ (v : List (List ℕ)). Ready newly (suc (b .at)) work‴ trace′ v (r .lines) (r .used)
+                  (subst (λ (v : List (List ℕ)). Ready newly (suc (b .at)) work″ trace′ v (r .lines) (r .used)
                   (unlessChanged (r .known) (changedFrom trace′ lines (r .lines - lines))))
                   (sym noted)
-                  (ready-rest (g .given) (restOf trace′ (r .lines) beyond) (next .1) (stored ∙ stored-next))))));
+                  (ready-rest (g .given) (restOf trace′ (r .lines) beyond) (next .1) (stored ∙ stored-next))));
+              taken = none-taken;
             }
-
-            pub further : b .at < b′ .at
-            further =
-                omega (
-                  arith,
-                  subst (λ (x : Stop). b .at + 1 ≤ x .burst .at) (sym stops)
-                      (burst-past p u schedule work‴ (b .at + 1) known (length schedule - (b .at + 1))),
-                )

@@ -12,7 +12,8 @@ ghost use Rattle.layout.specs.Layout.{encode};
 ghost use Rattle.layout.specs.Holders.{holderWords};
 ghost use Rattle.run_schedule.specs.SummaryCode.{afterRun, runLeaves};
 use run_ability::ending::ending;
-use run_burst::burst::silent_entries;
+use run_burst::consecutive::next_burst;
+use run_burst::consecutive::take_first;
 use run_burst::knowledge::nothing_known;
 use run_burst::turn::turn_at;
 use run_holders::ends::no_holders;
@@ -28,7 +29,8 @@ pub struct RunSummary {
 }
 
 // From the start of a run to its end: a burst of entries that write no line, then the entry at which it stops, again
-// and again. `room` is how many lines the trace holds.
+// and again. `room` is how many lines the trace holds. The burst is called in one place, so that it is compiled into this
+// loop.
 pub fn run_entries(
     p: &[u16],
     start: usize,
@@ -45,8 +47,18 @@ pub fn run_entries(
     let mut t = no_holders();
     let mut lines: u32 = 0;
     let mut used: u32 = 0;
-    let mut b = silent_entries(p, start, work, &t, schedule, 0, nothing_known());
-    while b.at < schedule.len() {
+    let mut k = take_first(p, start, work, schedule);
+    let mut known = nothing_known();
+    loop {
+        let b = next_burst(p, start, work, &t, schedule, k, known);
+        if schedule.len() <= b.at {
+            return RunSummary {
+                end: ending(p, start, work, &t),
+                entries: b.at,
+                lines: lines,
+                used: used,
+            };
+        }
         let r = turn_at(
             p,
             start,
@@ -72,21 +84,8 @@ pub fn run_entries(
         store_lines(work, trace, lines, r.lines);
         lines = r.lines;
         used = r.used;
-        let known = r.known;
-        b = silent_entries(
-            p,
-            start,
-            work,
-            &t,
-            schedule,
-            b.at + 1,
-            known.unless(changed),
-        );
-    }
-    RunSummary {
-        end: ending(p, start, work, &t),
-        entries: b.at,
-        lines: lines,
-        used: used,
+        let left = r.known;
+        known = left.unless(changed);
+        k = b.at + 1;
     }
 }

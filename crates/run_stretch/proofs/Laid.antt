@@ -174,11 +174,12 @@ module _ {h : Head} {w : List ℕ} {c : Cursor} (s : Steady h w c) where
           (omega (arith, s .long, s .most, length-set w (4 + 4 * h .frames + 1) (c .place)))
 
   -- nothing was done
-  pub halts : {d : AfterStep} {w′ : List ℕ} {r : Cursor} → r ≡ haltedAt c → w′ ≡ w → Goes d h w c w′ r
+  pub halts : {d : AfterStep} {w′ : List ℕ} {r : Cursor} {I : ℕ → Type 0} → r ≡ haltedAt c → w′ ≡ w → Goes d I h w c w′ r
   unfolding laid headWith
   halts {r = r} e q = record {
     going = λ z. absurd (true≢false (ap (λ (x : Cursor). x .halted) (sym e) ∙ z));
     halting = λ z. ap (λ (l : List ℕ). laid l h r) q ∙ ap (laid w h) e;
+    onward = λ z. absurd (true≢false (ap (λ (x : Cursor). x .halted) (sym e) ∙ z));
     steady = rw (q, e) (steady-at (haltedAt c) (s .few));
   }
 

@@ -3,3 +3,4 @@ pub mod Shapes
 pub mod Topmost
 pub mod Arms
 pub mod Runs
+pub mod Within

@@ -7,8 +7,8 @@ use native.Mathlib.Omega.{arith}
 use lib.ListN.{getD, set, length, length-set, take, drop, length-drop}
 use lib.Seq.{length-take-le, drop-at, take-at}
 use borrow.Rule.Slice.PartMut.{midOf, putMid}
-use borrow.Author.Tests.{ltb-false}
-use lib.Dec.{ltb}
+use borrow.Author.Tests.{ltb-false, leb-false}
+use lib.Dec.{ltb, leb}
 use Rattle.table.specs.Table.{word, methods}
 use Rattle.run_store.specs.declared.head.Head.{Head}
 use Rattle.run_store.specs.StoreCode.{headOf, headAt, putTop}
@@ -26,7 +26,7 @@ use Rattle.run_stretch.proofs.Shapes.{goes-as}
 -- the step of a process that runs is its op's
 pub steps-on : (p : List ℕ) (start : ℕ) {h : Head} {w : List ℕ} {c : Cursor} {w′ : List ℕ} {r : Cursor} {op a : ℕ} → Steady h w c → h .status ≡ 1
     → start ≡ 2 + 20 * methods p → op ≡ word p (start + 2 * c .place) → a ≡ word p (start + 2 * c .place + 1)
-    → Goes (actOp p (laid w h c) (headWith h c) op a) h w c w′ r → Goes (stepOp p (laid w h c)) h w c w′ r
+    → {I : ℕ → Type 0} → Goes (actOp p (laid w h c) (headWith h c) op a) I h w c w′ r → Goes (stepOp p (laid w h c)) I h w c w′ r
 unfolding headWith
 steps-on p start {h} {w} {c} s e b o i g = goes-as (sym (step-acts p (laid w h c) start {h = headWith h c} (sym (head-laid s)) e b o i refl)) g
 
@@ -52,7 +52,7 @@ module _ {p schedule : List ℕ} {n from : ℕ} {w₀ : List ℕ} where
 
   -- one step more at the cursor
   pub ran-step : {k : ℕ} {h : Head} {w w′ : List ℕ} {c d : Cursor} → Ran p schedule n from w₀ k (laid w h c) → k < length schedule → getD schedule k 0 ≡ n
-      → Steady h w c → Goes (stepOp p (laid w h c)) h w c w′ d → d .halted ≡ false → Ran p schedule n from w₀ (k + 1) (laid w′ h d)
+      → Steady h w c → {I : ℕ → Type 0} → Goes (stepOp p (laid w h c)) I h w c w′ d → d .halted ≡ false → Ran p schedule n from w₀ (k + 1) (laid w′ h d)
   ran-step r l e s g z = goes-on r l e (laid-long s) (laid-long (g .steady)) (g .going z)
 
   -- where the frame's entries end
@@ -78,6 +78,15 @@ head-fits f m e = go (ltb f 1) (ltb 8 f) (ltb 8 m) refl refl refl e
     go false true c x y z i = absurd (true≢false i)
     go false false true x y z i = absurd (true≢false i)
     go false false false x y z i = (ltb-false f 1 x, ltb-false 8 f y, ltb-false 8 m z)
+
+-- and of a place
+pub place-fits : (i first end : ℕ) → (ltb i first || leb end i) ≡ false → (first ≤ i) × (i < end)
+place-fits i first end e = go (ltb i first) (leb end i) refl refl e
+  where
+    go : (a b : Bool) → ltb i first ≡ a → leb end i ≡ b → (a || b) ≡ false → (first ≤ i) × (i < end)
+    go true b x y z = absurd (true≢false z)
+    go false true x y z = absurd (true≢false z)
+    go false false x y z = (ltb-false i first x, leb-false end i y)
 
 -- parts of the store
 

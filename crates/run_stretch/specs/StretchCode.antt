@@ -3,8 +3,11 @@
 use Prim.Native.Nat.{ℕ, _+_, _≤_, _<_}
 use mathlib.Core.Path.{_≡_}
 use mathlib.Core.Bool.{Bool, true, false}
+use mathlib.Core.Logic.{_⊎_}
 use mathlib.Core.List.{List}
 use lib.ListN.{getD, length}
+use Rattle.table.specs.Table.{opAt, argAt}
+use Rattle.table.proofs.Owners.{Inside}
 use Rattle.run_store.specs.declared.values.Val.{Val}
 use Rattle.run_store.specs.declared.head.Head.{Head}
 use Rattle.run_store.specs.StoreCode.{valueAt, headAt, putTop, topAt}
@@ -45,11 +48,25 @@ pub record Steady (h : Head) (w : List ℕ) (c : Cursor) : Type 0 where
   pub frames : getD w 2 0 ≡ h .frames
   pub method : getD w (headAt (h .frames)) 0 ≡ h .method
 
--- what d says of the words with the cursor put back was done, or nothing was
-pub record Goes (d : AfterStep) (h : Head) (w : List ℕ) (c : Cursor) (w′ : List ℕ) (r : Cursor) : Type 0 where
+-- what d says of the words with the cursor put back was done, and the cursor has come to a place of I; or nothing was done
+pub record Goes (d : AfterStep) (I : ℕ → Type 0) (h : Head) (w : List ℕ) (c : Cursor) (w′ : List ℕ) (r : Cursor) : Type 0 where
   pub going : r .halted ≡ false → d ≡ afterStep 0 (laid w′ h r)
   pub halting : r .halted ≡ true → laid w′ h r ≡ laid w h c
+  pub onward : r .halted ≡ false → I (r .place)
   pub steady : Steady h w′ r
+
+-- one place, and one of two
+abbrev pub Only : ℕ → ℕ → Type 0
+Only i x = x ≡ i
+
+abbrev pub OneOf : ℕ → ℕ → ℕ → Type 0
+OneOf i j x = (x ≡ i) ⊎ (x ≡ j)
+
+-- instruction i of method m, with its op and its argument
+pub record At (p : List ℕ) (m i op a : ℕ) : Type 0 where
+  pub inside : Inside p m i
+  pub is-op : opAt p i ≡ op
+  pub is-argument : argAt p i ≡ a
 
 -- the top value was read, and is not emptied; likewise the two topmost
 abbrev pub TopRead : List ℕ → Head → Cursor → Top → Type 0

@@ -1,8 +1,8 @@
 // ADD, SUB, EQ, LESS and NOT.
 ghost use mathlib.Core.Path.{_≡_};
-ghost use Prim.Native.Nat.{_<_, _≤_};
+ghost use Prim.Native.Nat.{_+_, _<_, _≤_};
 ghost use Rattle.run_values.specs.ValuesCode.{resultOp, addOp, subOp, eqOp, lessOp, notOp};
-ghost use Rattle.run_stretch.specs.StretchCode.{headWith, laid, Steady, Goes};
+ghost use Rattle.run_stretch.specs.StretchCode.{headWith, laid, Steady, Goes, Only};
 use super::cursor::Cursor;
 use super::cursor::read_top;
 use super::cursor::read_two;
@@ -15,7 +15,7 @@ use run_values::numbers::flag;
 // The int whose number, moved up by 2^32, is s, in place of two operands.
 pub fn result(w: &mut [u32], h: Head, c: Cursor, s: u64) -> Cursor
     requires { ⌜ Steady h (now w) c × (c .place < 65536) × (2 ≤ c .pending) ⌝ }
-    ensures { λ r. ⌜ Goes (resultOp (laid (now (w .entry)) h c) (headWith h c) s) h (now (w .entry)) c (now (w .exit)) r ⌝ }
+    ensures { λ r. ⌜ Goes (resultOp (laid (now (w .entry)) h c) (headWith h c) s) (Only (c .place + 1)) h (now (w .entry)) c (now (w .exit)) r ⌝ }
 {
     if s < 2147483648 {
         return c.halt();
@@ -28,7 +28,7 @@ pub fn result(w: &mut [u32], h: Head, c: Cursor, s: u64) -> Cursor
 
 pub fn add(w: &mut [u32], h: Head, c: Cursor) -> Cursor
     requires { ⌜ Steady h (now w) c × (c .place < 65536) ⌝ }
-    ensures { λ r. ⌜ Goes (addOp (laid (now (w .entry)) h c) (headWith h c)) h (now (w .entry)) c (now (w .exit)) r ⌝ }
+    ensures { λ r. ⌜ Goes (addOp (laid (now (w .entry)) h c) (headWith h c)) (Only (c .place + 1)) h (now (w .entry)) c (now (w .exit)) r ⌝ }
 {
     let t = read_two(w, h, c);
     if !t.there {
@@ -39,7 +39,7 @@ pub fn add(w: &mut [u32], h: Head, c: Cursor) -> Cursor
 
 pub fn sub(w: &mut [u32], h: Head, c: Cursor) -> Cursor
     requires { ⌜ Steady h (now w) c × (c .place < 65536) ⌝ }
-    ensures { λ r. ⌜ Goes (subOp (laid (now (w .entry)) h c) (headWith h c)) h (now (w .entry)) c (now (w .exit)) r ⌝ }
+    ensures { λ r. ⌜ Goes (subOp (laid (now (w .entry)) h c) (headWith h c)) (Only (c .place + 1)) h (now (w .entry)) c (now (w .exit)) r ⌝ }
 {
     let t = read_two(w, h, c);
     if !t.there {
@@ -50,7 +50,7 @@ pub fn sub(w: &mut [u32], h: Head, c: Cursor) -> Cursor
 
 pub fn eq(w: &mut [u32], h: Head, c: Cursor) -> Cursor
     requires { ⌜ Steady h (now w) c × (c .place < 65536) ⌝ }
-    ensures { λ r. ⌜ Goes (eqOp (laid (now (w .entry)) h c) (headWith h c)) h (now (w .entry)) c (now (w .exit)) r ⌝ }
+    ensures { λ r. ⌜ Goes (eqOp (laid (now (w .entry)) h c) (headWith h c)) (Only (c .place + 1)) h (now (w .entry)) c (now (w .exit)) r ⌝ }
 {
     let t = read_two(w, h, c);
     if !t.there {
@@ -62,7 +62,7 @@ pub fn eq(w: &mut [u32], h: Head, c: Cursor) -> Cursor
 
 pub fn less(w: &mut [u32], h: Head, c: Cursor) -> Cursor
     requires { ⌜ Steady h (now w) c × (c .place < 65536) ⌝ }
-    ensures { λ r. ⌜ Goes (lessOp (laid (now (w .entry)) h c) (headWith h c)) h (now (w .entry)) c (now (w .exit)) r ⌝ }
+    ensures { λ r. ⌜ Goes (lessOp (laid (now (w .entry)) h c) (headWith h c)) (Only (c .place + 1)) h (now (w .entry)) c (now (w .exit)) r ⌝ }
 {
     let t = read_two(w, h, c);
     if !t.there {
@@ -74,7 +74,7 @@ pub fn less(w: &mut [u32], h: Head, c: Cursor) -> Cursor
 
 pub fn not(w: &mut [u32], h: Head, c: Cursor) -> Cursor
     requires { ⌜ Steady h (now w) c × (c .place < 65536) ⌝ }
-    ensures { λ r. ⌜ Goes (notOp (laid (now (w .entry)) h c) (headWith h c)) h (now (w .entry)) c (now (w .exit)) r ⌝ }
+    ensures { λ r. ⌜ Goes (notOp (laid (now (w .entry)) h c) (headWith h c)) (Only (c .place + 1)) h (now (w .entry)) c (now (w .exit)) r ⌝ }
 {
     let t = read_top(w, h, c);
     if !t.there {

@@ -1,8 +1,10 @@
 // Entries one after the other, as long as they name one process and are done here.
 ghost use mathlib.Core.Path.{_≡_};
-ghost use Prim.Native.Nat.{_+_, _*_, _-_, _<_, _≤_};
+ghost use Prim.Native.Nat.{ℕ, _+_, _*_, _-_, _<_, _≤_};
 ghost use lib.ListN.{length};
 ghost use Rattle.table.specs.Table.{methods, offsetOf};
+ghost use Rattle.table.proofs.Accepted.{Kept};
+ghost use Rattle.table.proofs.Owners.{Inside};
 ghost use Rattle.run_parts.specs.PartsCode.{partOf, withPart};
 ghost use Rattle.run_stretch.specs.StretchCode.{laid, cursor, Steady, Ran};
 use super::cursor::Cursor;
@@ -23,7 +25,6 @@ pub struct Reached {
 fn run_frame(
     p: &[u16],
     start: usize,
-    limit: usize,
     w: &mut [u32],
     h: Head,
     offset: u32,
@@ -33,7 +34,7 @@ fn run_frame(
     c: Cursor,
 ) -> Reached
     requires { ⌜ Steady h (now w) c × (h .status ≡ 1) × (offset ≡ offsetOf (now p) (h .method)) × (offset < 65536)
-        × (start ≡ 2 + 20 * methods (now p)) × (limit ≤ 4096) × (2 * limit ≤ length (now p) - start) × (from ≤ length (now schedule)) ⌝ }
+        × (start ≡ 2 + 20 * methods (now p)) × Kept (now p) × Inside (now p) (h .method) (c .place) × (from ≤ length (now schedule)) ⌝ }
     ensures { λ r. ⌜ Ran (now (p .entry)) (now (schedule .entry)) n from (laid (now (w .entry)) h c) (r .at) (laid (now (w .exit)) h (cursor (r .place) (r .pending)))
         × Steady h (now (w .exit)) (cursor (r .place) (r .pending)) × (r .at ≤ length (now (schedule .entry))) ⌝ }
 {
@@ -47,7 +48,7 @@ fn run_frame(
                 pending: s.pending,
             };
         }
-        let d = step_on(p, start, limit, w, h, s, offset);
+        let d = step_on(p, start, w, h, s, offset);
         if d.halted {
             return Reached {
                 at: k,
@@ -65,18 +66,32 @@ fn run_frame(
     }
 }
 
+// The first instruction of a method and the one after its last; none where there is no such method.
+struct Span {
+    first: u32,
+    end: u32,
+}
+
+fn span_of(p: &[u16], m: u32) -> Span
+    ensures { λ r. ⌜ (r .first ≡ offsetOf (now (p .entry)) m) × (r .first < 65536) × ((i : ℕ) → r .first ≤ i → i < r .end → Inside (now (p .entry)) m i) ⌝ }
+{
+    let first = word_at(p, 2 + 2 * (m as usize)) as u32;
+    if word_at(p, 0) <= m as usize {
+        return Span {
+            first: first,
+            end: 0,
+        };
+    }
+    let length = word_at(p, 3 + 2 * (m as usize)) as u32;
+    Span {
+        first: first,
+        end: first + length,
+    }
+}
+
 // The same from the words of the process on, and back to them.
-fn run_top(
-    p: &[u16],
-    start: usize,
-    limit: usize,
-    w: &mut [u32],
-    schedule: &[u8],
-    from: usize,
-    n: u8,
-) -> usize
-    requires { ⌜ (start ≡ 2 + 20 * methods (now p)) × (limit ≤ 4096) × (2 * limit ≤ length (now p) - start) × (from ≤ length (now schedule))
-        × (length (now w) ≡ 512) ⌝ }
+fn run_top(p: &[u16], start: usize, w: &mut [u32], schedule: &[u8], from: usize, n: u8) -> usize
+    requires { ⌜ (start ≡ 2 + 20 * methods (now p)) × Kept (now p) × (from ≤ length (now schedule)) × (length (now w) ≡ 512) ⌝ }
     ensures { λ r. ⌜ Ran (now (p .entry)) (now (schedule .entry)) n from (now (w .entry)) r (now (w .exit)) × (r ≤ length (now (schedule .entry))) ⌝ }
 {
     let h = read_head(w);
@@ -86,13 +101,16 @@ fn run_top(
     if (h.frames < 1) | (8 < h.frames) | (8 < h.pending) {
         return from;
     }
-    let offset = word_at(p, 2 + 2 * (h.method as usize)) as u32;
+    let s = span_of(p, h.method);
+    if (h.place < s.first) | (s.end <= h.place) {
+        return from;
+    }
     let c = Cursor {
         place: h.place,
         pending: h.pending,
         halted: false,
     };
-    let r = run_frame(p, start, limit, w, h, offset, schedule, from, n, c);
+    let r = run_frame(p, start, w, h, s.first, schedule, from, n, c);
     put_top(
         w,
         Head {
@@ -107,20 +125,6 @@ fn run_top(
     r.at
 }
 
-// How many instructions can be read from `start` on, at most 4,096.
-fn readable(p: &[u16], start: usize) -> usize
-    ensures { λ r. ⌜ (r ≤ 4096) × (2 * r ≤ length (now (p .entry)) - start) ⌝ }
-{
-    if p.len() < start {
-        return 0;
-    }
-    let half = (p.len() - start) / 2;
-    if 4096 < half {
-        return 4096;
-    }
-    half
-}
-
 // The entries of process n from `from` on; the answer is the first that is not done.
 pub fn stretch(
     p: &[u16],
@@ -130,12 +134,11 @@ pub fn stretch(
     from: usize,
     n: u8,
 ) -> usize
-    requires { ⌜ (start ≡ 2 + 20 * methods (now p)) × (8192 ≤ length (now work)) × (from ≤ length (now schedule)) × (n < 8) ⌝ }
+    requires { ⌜ (start ≡ 2 + 20 * methods (now p)) × (8192 ≤ length (now work)) × (from ≤ length (now schedule)) × (n < 8) × Kept (now p) ⌝ }
     ensures { λ r. ⌜ Ran (now (p .entry)) (now (schedule .entry)) n from (partOf (now (work .entry)) n) r (partOf (now (work .exit)) n)
         × (now (work .exit) ≡ withPart (now (work .entry)) n (partOf (now (work .exit)) n)) × (r ≤ length (now (schedule .entry))) ⌝ }
 {
-    let limit = readable(p, start);
     let first = 512 + 512 * (n as usize);
     let end = first + 512;
-    run_top(p, start, limit, &mut work[first..end], schedule, from, n)
+    run_top(p, start, &mut work[first..end], schedule, from, n)
 }

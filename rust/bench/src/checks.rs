@@ -36,32 +36,32 @@ fn table(methods: u16, length: u16) -> Vec<u16> {
     words
 }
 
+fn named(name: &'static str, methods: u16, length: u16) -> Check {
+    Check { name, program: table(methods, length), instructions: methods as usize * length as usize }
+}
+
 pub fn all() -> Vec<Check> {
-    let named = |name, methods, length| Check {
-        name,
-        program: table(methods, length),
-        instructions: methods as usize * length as usize,
-    };
     vec![named("check-one-method", 1, 4096), named("check-32-methods", 32, 128)]
+}
+
+/// Tables of four sizes.
+pub fn growing() -> Vec<Check> {
+    vec![
+        named("check-512", 4, 128),
+        named("check-1024", 8, 128),
+        named("check-2048", 16, 128),
+        named("check-4096", 32, 128),
+    ]
 }
 
 impl Check {
     /// Nanoseconds per instruction of so many calls.
-    fn timed(&self, calls: usize, call: impl Fn(&[u16]) -> bool) -> f64 {
+    pub fn timed(&self, calls: usize) -> f64 {
         let start = Instant::now();
         for _ in 0..calls {
-            assert!(call(black_box(&self.program)), "{} is refused", self.name);
+            let answer = lanq::check_in(black_box(&self.program), &[], &[], WORK_WORDS);
+            assert!(answer.is_ok(), "{} is refused", self.name);
         }
         start.elapsed().as_nanos() as f64 / (calls * self.instructions) as f64
-    }
-
-    /// The same by the library.
-    pub fn by_library(&self, calls: usize) -> f64 {
-        self.timed(calls, |program| lanq::check_in(program, &[], &[], WORK_WORDS).is_ok())
-    }
-
-    /// The same by the model.
-    pub fn by_model(&self, calls: usize) -> f64 {
-        self.timed(calls, |program| model::check(program, &[], &[], WORK_WORDS).is_ok())
     }
 }

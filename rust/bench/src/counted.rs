@@ -5,6 +5,7 @@ use std::env;
 use std::fs;
 use std::process::Command;
 
+use crate::checks;
 use crate::runs::{self, ENTRIES};
 use crate::traces;
 
@@ -17,10 +18,7 @@ const LEFT_OUT: &str = "ability::ending::";
 pub fn print() -> Result<(), String> {
     println!("{:14} instructions per entry", "workload");
     for run in runs::all() {
-        let long = instructions(run.name, ENTRIES)?;
-        let short = instructions(run.name, ENTRIES / 2)?;
-        let entries = ENTRIES - ENTRIES / 2;
-        println!("{:14} {:.1}", run.name, (long - short) as f64 / entries as f64);
+        println!("{:14} {:.1}", run.name, per(run.name, ENTRIES / 2, ENTRIES)?);
     }
     println!("{:14} {:>6} instructions of one call", "call", "lines");
     for call in traces::all() {
@@ -29,6 +27,30 @@ pub fn print() -> Result<(), String> {
         }
     }
     Ok(())
+}
+
+/// How the instructions grow: with the entries of a run, with what an entry's
+/// cost may hang on, and with the table that is checked.
+pub fn print_growth() -> Result<(), String> {
+    println!("{:14} instructions of the whole run", "entries");
+    for entries in [15_000, 30_000, 45_000, 60_000] {
+        println!("{entries:<14} {}", within("lanq_run", "arithmetic", entries)?);
+    }
+    println!("{:14} instructions per entry", "run");
+    for run in runs::growing() {
+        println!("{:14} {:.1}", run.name, per(run.name, ENTRIES / 2, ENTRIES)?);
+    }
+    println!("{:14} instructions of one check", "table");
+    for check in checks::growing() {
+        println!("{:14} {:.0}", check.name, per(check.name, 10, 20)?);
+    }
+    Ok(())
+}
+
+/// Instructions of one more entry, or of one more call of a check.
+fn per(name: &str, short: usize, long: usize) -> Result<f64, String> {
+    let more = instructions(name, long)? - instructions(name, short)?;
+    Ok(more as f64 / (long - short) as f64)
 }
 
 /// Instructions of `count` entries of one workload, one by one, from entry

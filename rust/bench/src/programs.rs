@@ -29,11 +29,21 @@ pub fn arithmetic() -> Vec<Method> {
     vec![method(&[], &[1], sums(0))]
 }
 
-/// Eight processes that compute.
-pub fn eight() -> Vec<Method> {
-    let mut main = vec![(FORK, 1); 7];
-    main.extend(sums(7));
+/// So many processes that compute.
+pub fn processes(count: u16) -> Vec<Method> {
+    let others = count - 1;
+    let mut main = vec![(FORK, 1); others as usize];
+    main.extend(sums(others));
     vec![method(&[], &[1], main), method(&[], &[1], sums(0))]
+}
+
+/// One process that computes, and after it so many instructions that are never reached.
+pub fn longer(instructions: u16) -> Vec<Method> {
+    let mut main = sums(0);
+    while main.len() + 12 <= instructions as usize {
+        main.extend(sums(0));
+    }
+    vec![method(&[], &[1], main)]
 }
 
 /// Two processes that hand an int to and fro over one channel.
@@ -86,6 +96,24 @@ pub fn hand_over() -> Vec<Method> {
     vec![method(&[], &[19, 35, 3], main), method(&[35], &[3], child)]
 }
 
+/// The same where the first process hands on from its top frame of so many.
+pub fn hand_over_from(frames: u16) -> Vec<Method> {
+    let mut methods = hand_over();
+    let loops = methods[0].code.split_off(11);
+    let give = methods.len() as u16;
+    methods[0].code.extend([(GET, 1), (GET, 2), (CALL, give), (RET, 0)]);
+    for k in 1..frames {
+        let last = k + 1 == frames;
+        let code = if last {
+            loops.iter().map(|&(op, a)| if op == JUMP { (JUMP, 0) } else { (op, if op == GET || op == PUT { a - 1 } else { a }) }).collect()
+        } else {
+            vec![(GET, 0), (GET, 1), (CALL, give + k), (RET, 0)]
+        };
+        methods.push(method(&[35, 3], &[], code));
+    }
+    methods
+}
+
 /// A qubit handed around four processes, a gate at each.
 pub fn relay() -> Vec<Method> {
     // Slot 0 a channel, slots 1 to 8 the ends of four, slot 9 the qubit.
@@ -109,7 +137,12 @@ pub fn relay() -> Vec<Method> {
 
 /// f(n) is 0 for n below 1, else n + f(n - 1): main and seven more frames.
 pub fn calls() -> Vec<Method> {
-    let main = vec![(INT, 6), (CALL, 1), (DROP, 0), (JUMP, 0)];
+    calls_to(8)
+}
+
+/// The same with so many frames, of which one is main's.
+pub fn calls_to(frames: u16) -> Vec<Method> {
+    let main = vec![(INT, frames - 2), (CALL, 1), (DROP, 0), (JUMP, 0)];
     let code = vec![
         (GET, 0),
         (INT, 1),

@@ -44,16 +44,26 @@ fn no_waiting() -> Run {
 }
 
 /// The same with a qubit.
+const HAND_OVER: [u8; 14] = [0, 0, 0, 1, 1, 1, 1, 0, 0, 0, 0, 0, 1, 1];
+
 fn hand_over() -> Run {
     let first = [0, 0, 0, 0, 0, 0, 0, 0, 0, 0, 0, 1];
-    let turn = [0, 0, 0, 1, 1, 1, 1, 0, 0, 0, 0, 0, 1, 1];
-    turns("hand-over", programs::hand_over(), &first, &turn)
+    turns("hand-over", programs::hand_over(), &first, &HAND_OVER)
+}
+
+/// The same from the top frame of so many: three entries more for each.
+fn giving(name: &'static str, frames: u16) -> Run {
+    let mut first = vec![0; 11];
+    first.push(1);
+    first.extend(vec![0; 3 * (frames as usize - 1)]);
+    let methods = if frames == 1 { programs::hand_over() } else { programs::hand_over_from(frames) };
+    turns(name, methods, &first, &HAND_OVER)
 }
 
 pub fn all() -> Vec<Run> {
     vec![
         named("arithmetic", programs::arithmetic(), 1),
-        named("round-robin", programs::eight(), 8),
+        named("round-robin", programs::processes(8), 8),
         named("ping-pong", programs::ping_pong(), 2),
         no_waiting(),
         hand_over(),
@@ -62,6 +72,29 @@ pub fn all() -> Vec<Run> {
         named("waiting", programs::waiting(), 8),
         named("not-made", programs::arithmetic(), 8),
         named("quantum", programs::quantum(), 1),
+    ]
+}
+
+/// What the cost of an entry grows with: processes, instructions of the table, frames, and the giver's frames. Four sizes
+/// of each.
+pub fn growing() -> Vec<Run> {
+    vec![
+        named("processes-1", programs::processes(1), 1),
+        named("processes-2", programs::processes(2), 2),
+        named("processes-4", programs::processes(4), 4),
+        named("processes-8", programs::processes(8), 8),
+        named("table-516", programs::longer(516), 1),
+        named("table-1032", programs::longer(1032), 1),
+        named("table-2064", programs::longer(2064), 1),
+        named("table-4092", programs::longer(4092), 1),
+        named("frames-2", programs::calls_to(2), 1),
+        named("frames-4", programs::calls_to(4), 1),
+        named("frames-6", programs::calls_to(6), 1),
+        named("frames-8", programs::calls_to(8), 1),
+        giving("giving-1", 1),
+        giving("giving-2", 2),
+        giving("giving-4", 4),
+        giving("giving-8", 8),
     ]
 }
 
@@ -94,20 +127,10 @@ impl Run {
     }
 
     /// Nanoseconds per entry, the best of so many runs.
-    pub fn by_library(&self, runs: usize, lent: &mut Lent) -> f64 {
+    pub fn timed(&self, runs: usize, lent: &mut Lent) -> f64 {
         best(runs, || match self.once(ENTRIES, lent) {
             Ok(Answer { end: End::ScheduleUsed, entries, .. }) => entries,
             other => panic!("{}: {other:?}", self.name),
-        })
-    }
-
-    /// The same by the model.
-    pub fn by_model(&self, runs: usize, lent: &Lent) -> f64 {
-        let (trace, work) = (lent.trace.len(), lent.work.len());
-        best(runs, || {
-            let schedule = black_box(&self.schedule);
-            let run = model::check_and_run(&self.program, schedule, &self.outcomes, trace, work);
-            run.expect("a workload passes the questions").entries
         })
     }
 

@@ -1,8 +1,9 @@
 -- `jump_on_false` goes to the target, or on.
 use mathlib.Core.Path.{refl}
+use mathlib.Core.Logic.{inl, inr}
 use borrow.Author.Tests.{not-false}
 use Rattle.run_stretch.proofs.Laid.{halts}
-use Rattle.run_stretch.proofs.Shapes.{goes-as}
+use Rattle.run_stretch.proofs.Shapes.{goes-in}
 use Rattle.run_stretch.proofs.Arms.{top-some, false-jumps, true-goes-on}
 use borrow.Author.Needs.{needs}
 use Rattle.run_stretch.proofs.jumps.jump_on_false.Statement.{statement}
@@ -30,7 +31,7 @@ same-length-2 : tie.Need-same-length-2
 same-length-2 c = search needs
 
 returns-2 : tie.Need-returns-2
-returns-2 c = goes-as (false-jumps (c .before .before .before .before .before .before .before .before .before .before .before .before .pre .0) (c .before .before .before .before .before .before .before .before .read-top .result) (not-false (c .before .before .before .before .before .before .before .before .read-top .result .there) (c .before .before .before .before .before .before .if1 .left)) (c .before .before .before .before .before .before .before .before .read-top .ensures) (c .before .before .before .before .before .before .before .before .before .before .before .before .args .p .now) (c .before .before .before .before .before .before .before .before .before .before .before .before .args .a) (c .before .before .before .before .before .before .before .before .before .before .before .before .pre .2) (c .before .before .before .before .if2 .taken)) (c .before .before .discard-to .ensures)
+returns-2 c = goes-in (false-jumps (c .before .before .before .before .before .before .before .before .before .before .before .before .pre .0) (c .before .before .before .before .before .before .before .before .read-top .result) (not-false (c .before .before .before .before .before .before .before .before .read-top .result .there) (c .before .before .before .before .before .before .if1 .left)) (c .before .before .before .before .before .before .before .before .read-top .ensures) (c .before .before .before .before .before .before .before .before .before .before .before .before .args .p .now) (c .before .before .before .before .before .before .before .before .before .before .before .before .args .a) (c .before .before .before .before .before .before .before .before .before .before .before .before .pre .2) (c .before .before .before .before .if2 .taken)) (λ x e. inl e) (c .before .before .discard-to .ensures)
 
 add-discard-to-2 : tie.Need-add-discard-to-2
 add-discard-to-2 c = search needs
@@ -42,7 +43,7 @@ same-length-3 : tie.Need-same-length-3
 same-length-3 c = search needs
 
 returns-3 : tie.Need-returns-3
-returns-3 c = goes-as (true-goes-on (c .before .before .before .before .before .before .before .before .before .before .before .before .before .pre .0) (c .before .before .before .before .before .before .before .before .before .read-top .result) (not-false (c .before .before .before .before .before .before .before .before .before .read-top .result .there) (c .before .before .before .before .before .before .before .if1 .left)) (c .before .before .before .before .before .before .before .before .before .read-top .ensures) (c .before .before .before .before .before .before .before .before .before .before .before .before .before .args .p .now) (c .before .before .before .before .before .before .before .before .before .before .before .before .before .args .a) (c .before .before .before .before .before .before .before .before .before .before .before .before .before .pre .1) (c .before .before .before .before .before .if2 .left)) (c .before .before .discard-to2 .ensures)
+returns-3 c = goes-in (true-goes-on (c .before .before .before .before .before .before .before .before .before .before .before .before .before .pre .0) (c .before .before .before .before .before .before .before .before .before .read-top .result) (not-false (c .before .before .before .before .before .before .before .before .before .read-top .result .there) (c .before .before .before .before .before .before .before .if1 .left)) (c .before .before .before .before .before .before .before .before .before .read-top .ensures) (c .before .before .before .before .before .before .before .before .before .before .before .before .before .args .p .now) (c .before .before .before .before .before .before .before .before .before .before .before .before .before .args .a) (c .before .before .before .before .before .before .before .before .before .before .before .before .before .pre .1) (c .before .before .before .before .before .if2 .left)) (λ x e. inr e) (c .before .before .discard-to2 .ensures)
 
 pub jump-on-false-spec : {M : Type 1} → statement M
 jump-on-false-spec =

@@ -7,12 +7,6 @@ use borrow.Author.Needs.{needs}
 use Rattle.run_stretch.proofs.moves.get.Statement.{statement}
 use Rattle.run_stretch.proofs.moves.get.Tie as tie
 
-halt-requires : tie.Need-halt-requires
-halt-requires c κs = search needs
-
-returns : tie.Need-returns
-returns c = halts (c .before .before .before .pre .0) (c .halt .ensures) refl
-
 slot-requires : tie.Need-slot-requires
 slot-requires c κs = search needs
 
@@ -22,11 +16,11 @@ mul-tag c = search needs
 slice-read-tag : tie.Need-slice-read-tag
 slice-read-tag c = search needs
 
-halt-requires-2 : tie.Need-halt-requires-2
-halt-requires-2 c κs = search needs
+halt-requires : tie.Need-halt-requires
+halt-requires c κs = search needs
 
-returns-2 : tie.Need-returns-2
-returns-2 c = halts (c .before .before .before .before .before .before .pre .0) (c .halt2 .ensures) refl
+returns : tie.Need-returns
+returns c = halts (c .before .before .before .before .before .pre .0) (c .halt .ensures) refl
 
 add-number : tie.Need-add-number
 add-number c = search needs
@@ -43,23 +37,21 @@ push-requires c κs = search needs
 same-length : tie.Need-same-length
 same-length c = search needs
 
-returns-3 : tie.Need-returns-3
-returns-3 c = goes-as (gets (c .before .before .before .before .before .before .before .before .before .before .pre .0) (c .before .before .before .before .before .before .before .before .before .before .args .a) (c .before .before .before .before .before .before .before .slot .ensures) (c .before .before .before .before .before .if2 .left)) (c .before .before .push .ensures)
+returns-2 : tie.Need-returns-2
+returns-2 c = goes-as (gets (c .before .before .before .before .before .before .before .before .before .pre .0) (c .before .before .before .before .before .before .before .before .before .args .a) (c .before .before .before .before .before .before .before .slot .ensures) (c .before .before .before .before .before .if1 .left)) (c .before .before .push .ensures)
 
 pub get-spec : {M : Type 1} → statement M
 get-spec =
     tie.close
     (tie.spec
-    halt-requires
-    returns
     slot-requires
     mul-tag
     slice-read-tag
-    halt-requires-2
-    returns-2
+    halt-requires
+    returns
     add-number
     mul-number
     slice-read-number
     push-requires
     same-length
-    returns-3)
+    returns-2)

@@ -1,16 +1,8 @@
 -- `store_slot` writes a slot.
-use mathlib.Core.Path.{refl}
-use Rattle.run_stretch.proofs.Laid.{halts}
 use Rattle.run_stretch.proofs.Shapes.{stores}
 use borrow.Author.Needs.{needs}
 use Rattle.run_stretch.proofs.moves.store_slot.Statement.{statement}
 use Rattle.run_stretch.proofs.moves.store_slot.Tie as tie
-
-halt-requires : tie.Need-halt-requires
-halt-requires c κs = search needs
-
-returns : tie.Need-returns
-returns c = halts (c .before .before .before .pre .0) (c .halt .ensures) refl
 
 slot-requires : tie.Need-slot-requires
 slot-requires c κs = search needs
@@ -18,16 +10,14 @@ slot-requires c κs = search needs
 write-requires : tie.Need-write-requires
 write-requires c κs = search needs
 
-add-t12 : tie.Need-add-t12
-add-t12 c = search needs
+add-t11 : tie.Need-add-t11
+add-t11 c = search needs
 
 same-length : tie.Need-same-length
 same-length c = search needs
 
-returns-2 : tie.Need-returns-2
-returns-2 c = stores (c .before .before .before .before .before .before .before .before .pre .0) (c .before .before .before .before .before .before .before .before .pre .1) (c .before .before .before .before .before .before .before .before .args .a) (record { tag = c .before .before .before .before .before .before .before .before .args .tag; number = c .before .before .before .before .before .before .before .before .args .number }) (c .before .before .before .before .slot .ensures) (c .before .before .before .write .ensures)
+returns : tie.Need-returns
+returns c = stores (c .before .before .before .before .before .before .before .pre .0) (c .before .before .before .before .before .before .before .pre .1) (c .before .before .before .before .before .before .before .args .a) (record { tag = c .before .before .before .before .before .before .before .args .tag; number = c .before .before .before .before .before .before .before .args .number }) (c .before .before .before .before .slot .ensures) (c .before .before .before .write .ensures)
 
 pub store-slot-spec : {M : Type 1} → statement M
-store-slot-spec =
-    tie.close
-    (tie.spec halt-requires returns slot-requires write-requires add-t12 same-length returns-2)
+store-slot-spec = tie.close (tie.spec slot-requires write-requires add-t11 same-length returns)

@@ -2,6 +2,7 @@
 use Prim.Native.Nat.{_≤_, _-_}
 use mathlib.Core.Path.{_≡_, refl, sym, _∙_}
 use lib.ListN.{length}
+use Rattle.table.proofs.Owners.{Inside}
 use Rattle.run_stretch.specs.StretchCode.{laid, Steady, Ran, begins}
 use Rattle.run_stretch.proofs.Runs.{ran-same, ran-step, frame-ends}
 use borrow.Author.Needs.{needs}
@@ -9,14 +10,15 @@ use Rattle.run_stretch.proofs.stretch.run_frame.Statement.{statement}
 use Rattle.run_stretch.proofs.stretch.run_frame.Tie as tie
 
 abbrev Inv-loop : tie.InvT-loop
-Inv-loop p start limit w₀ h offset schedule from n k₀ s₀ w k s =
+Inv-loop p start w₀ h offset schedule from n k₀ s₀ w k s =
     (from ≤ k) × (k ≤ length schedule) × Ran p schedule n from (laid w₀ h s₀) k (laid w h s) × Steady h w s × (length w ≡ length w₀)
+    × Inside p (h .method) (s .place)
 
 abbrev μ-loop : tie.MeasureT-loop
-μ-loop p start limit w₀ h offset schedule from n k₀ s₀ w k s = length schedule - k
+μ-loop p start w₀ h offset schedule from n k₀ s₀ w k s = length schedule - k
 
 loop-holds : tie.Need-loop-holds Inv-loop μ-loop
-loop-holds c = (search needs, search needs, begins, c .before .before .before .pre .0, refl)
+loop-holds c = (search needs, search needs, begins, c .before .before .before .pre .0, refl, c .before .before .before .pre .6)
 
 shared-slice-read-if1 : tie.Need-shared-slice-read-if1 Inv-loop μ-loop
 shared-slice-read-if1 c = search needs
@@ -28,13 +30,15 @@ returns : tie.Need-returns Inv-loop μ-loop
 returns c = frame-ends (c .before .before .before .before .before .before .before .args .h) (c .before .before .before .loop .w) (c .before .before .before .loop .s) (c .before .before .before .loop .inv .2) (c .before .before .before .loop .inv .3) (search needs)
 
 step-on-requires : tie.Need-step-on-requires Inv-loop μ-loop
-step-on-requires c κs = (c .before .before .before .before .loop .inv .3, c .before .before .before .before .before .before .before .before .pre .1, c .before .before .before .before .before .before .before .before .pre .2, c .before .before .before .before .before .before .before .before .pre .3, c .before .before .before .before .before .before .before .before .pre .4, c .before .before .before .before .before .before .before .before .pre .5, c .before .before .before .before .before .before .before .before .pre .6)
+step-on-requires c κs = (c .before .before .before .before .loop .inv .3, c .before .before .before .before .before .before .before .before .pre .1, c .before .before .before .before .before .before .before .before .pre .2, c .before .before .before .before .before .before .before .before .pre .3, c .before .before .before .before .before .before .before .before .pre .4, c .before .before .before .before .before .before .before .before .pre .5, c .before .before .before .before .loop .inv .5)
 
 same-length-2 : tie.Need-same-length-2 Inv-loop μ-loop
 same-length-2 c = search needs
 
 returns-2 : tie.Need-returns-2 Inv-loop μ-loop
-returns-2 c = frame-ends (c .before .before .before .before .before .before .before .before .before .before .before .before .args .h) (c .before .before .before .step-on .last .1 .1 .1 .0) (c .before .before .before .step-on .result) (ran-same (c .before .before .before .before .before .before .before .before .loop .inv .2) (c .before .before .before .step-on .ensures .halting (c .if2 .taken))) (c .before .before .before .step-on .ensures .steady) (search needs)
+returns-2 c =
+    frame-ends (c .before .before .before .before .before .before .before .before .before .before .before .before .args .h) (c .before .before .before .step-on .last .1 .1 .0) (c .before .before .before .step-on .result) (ran-same (c .before .before .before .before .before .before .before .before .loop .inv .2) (c .before .before .before .step-on .ensures .halting (c .if2 .taken)))
+    (c .before .before .before .step-on .ensures .steady) (search needs)
 
 add-k : tie.Need-add-k Inv-loop μ-loop
 add-k c = search needs
@@ -43,7 +47,14 @@ loop-less : tie.Need-loop-less Inv-loop μ-loop
 loop-less c = search needs
 
 loop-again : tie.Need-loop-again Inv-loop μ-loop
-loop-again c = (search needs, search needs, ran-step (c .before .before .before .before .before .before .before .before .loop .inv .2) (c .before .before .before .before .before .before .before .loop-test .taken) (c .before .before .before .before .before .if1 .left) (c .before .before .before .before .before .before .before .before .loop .inv .3) (c .before .before .before .step-on .ensures) (c .if2 .left), c .before .before .before .step-on .ensures .steady, c .before .before .before .step-on .ensures .steady .long ∙ sym (c .before .before .before .before .before .before .before .before .before .before .before .before .pre .0 .long))
+loop-again c = (
+  search needs,
+  search needs,
+  ran-step (c .before .before .before .before .before .before .before .before .loop .inv .2) (c .before .before .before .before .before .before .before .loop-test .taken) (c .before .before .before .before .before .if1 .left) (c .before .before .before .before .before .before .before .before .loop .inv .3) (c .before .before .before .step-on .ensures) (c .if2 .left),
+  c .before .before .before .step-on .ensures .steady,
+  c .before .before .before .step-on .ensures .steady .long ∙ sym (c .before .before .before .before .before .before .before .before .before .before .before .before .pre .0 .long),
+  c .before .before .before .step-on .ensures .onward (c .if2 .left),
+)
 
 same-length-3 : tie.Need-same-length-3 Inv-loop μ-loop
 same-length-3 c = c .before .loop .inv .4

@@ -5,9 +5,6 @@ use borrow.Author.Needs.{needs}
 use Rattle.run_stretch.proofs.stretch.stretch.Statement.{statement}
 use Rattle.run_stretch.proofs.stretch.stretch.Tie as tie
 
-readable-requires : tie.Need-readable-requires
-readable-requires c κs = search needs
-
 mul-first : tie.Need-mul-first
 mul-first c = search needs
 
@@ -37,14 +34,17 @@ same-length c = search needs
 
 returns : tie.Need-returns
 returns c =
-    let part = stretched (c .before .before .before .before .before .before .before .before .args .work .now) (c .before .before .before .before .before .before .before .before .pre .1) (c .before .before .before .before .before .before .before .before .args .n) (c .before .before .before .before .before .before .before .before .pre .3) (c .before .before .run-top .kept .1 .1 .1 .0 ∙ part-length (c .before .before .before .before .before .before .before .before .args .work .now) (c .before .before .before .before .before .before .before .before .args .n) (c .before .before .before .before .before .before .before .before .pre .3) (c .before .before .before .before .before .before .before .before .pre .1)) (c .before .before .run-top .ensures .0) refl in
+    let work = c .before .before .before .before .before .before .before .args .work .now in
+    let long = c .before .before .before .before .before .before .before .pre .1 in
+    let n = c .before .before .before .before .before .before .before .args .n in
+    let part =
+    stretched work long n (c .before .before .before .before .before .before .before .pre .3) (c .before .before .run-top .kept .1 .1 .0 ∙ part-length work n (c .before .before .before .before .before .before .before .pre .3) long) (c .before .before .run-top .ensures .0) refl in
     (part .0, part .1, c .before .before .run-top .ensures .1)
 
 pub stretch-spec : {M : Type 1} → statement M
 stretch-spec =
     tie.close
     (tie.spec
-    readable-requires
     mul-first
     add-first
     add-end

@@ -1,22 +1,15 @@
 -- `step_on` reads the instruction at the cursor.
-use Prim.Native.Nat.{_+_, _*_}
 use mathlib.Core.Path.{refl}
 use native.Mathlib.Omega.{arith}
 use Rattle.table.specs.Table.{word}
-use Rattle.run_stretch.proofs.Laid.{halts}
 use Rattle.run_stretch.proofs.Runs.{steps-on}
+use Rattle.run_stretch.proofs.Within.{words-there, low-place, at-place, op-kept}
 use borrow.Author.Needs.{needs}
 use Rattle.run_stretch.proofs.turn.step_on.Statement.{statement}
 use Rattle.run_stretch.proofs.turn.step_on.Tie as tie
 
-cast-i : tie.Need-cast-i
-cast-i c = search needs
-
-halt-requires : tie.Need-halt-requires
-halt-requires c κs = search needs
-
-returns : tie.Need-returns
-returns c = halts (c .before .before .before .before .before .pre .0) (c .halt .ensures) refl
+cast-at : tie.Need-cast-at
+cast-at c = search needs
 
 mul-at : tie.Need-mul-at
 mul-at c = search needs
@@ -28,10 +21,10 @@ mul-op : tie.Need-mul-op
 mul-op c = search needs
 
 shared-slice-read-op : tie.Need-shared-slice-read-op
-shared-slice-read-op c = search needs
+shared-slice-read-op c = omega (arith, words-there (c .before .before .before .before .pre .5) (c .before .before .before .before .pre .6) (c .before .before .before .before .pre .4))
 
 cast-op : tie.Need-cast-op
-cast-op c = omega (arith, c .shared-slice-known2 .given (c .before .before .before .before .before .args .start + 2 * c .before .before .before .before .before .args .c .place))
+cast-op c = search needs
 
 add-act : tie.Need-add-act
 add-act c = search needs
@@ -40,25 +33,34 @@ mul-act : tie.Need-mul-act
 mul-act c = search needs
 
 shared-slice-read-act : tie.Need-shared-slice-read-act
-shared-slice-read-act c = search needs
+shared-slice-read-act c = omega (arith, words-there (c .before .before .before .before .before .before .pre .5) (c .before .before .before .before .before .before .pre .6) (c .before .before .before .before .before .before .pre .4))
 
 act-requires : tie.Need-act-requires
-act-requires c κs = search needs
+unfolding word
+act-requires c κs =
+    let pre = c .before .before .before .before .before .before .pre in (
+      pre .0,
+      omega (arith, low-place (pre .5) (pre .6)),
+      pre .2,
+      pre .3,
+      pre .5,
+      at-place (pre .5) (pre .6) (pre .4),
+    )
 
 same-length : tie.Need-same-length
 same-length c = search needs
 
-returns-2 : tie.Need-returns-2
+returns : tie.Need-returns
 unfolding word
-returns-2 c = steps-on (c .before .before .before .before .before .before .before .before .before .before .args .p .now) (c .before .before .before .before .before .before .before .before .before .before .args .start) (c .before .before .before .before .before .before .before .before .before .before .pre .0) (c .before .before .before .before .before .before .before .before .before .before .pre .1) (c .before .before .before .before .before .before .before .before .before .before .pre .4) refl refl (c .before .before .act .ensures)
+returns c =
+    let pre = c .before .before .before .before .before .before .before .before .before .pre in
+    steps-on (c .before .before .before .before .before .before .before .before .before .args .p .now) (c .before .before .before .before .before .before .before .before .before .args .start) (pre .0) (pre .1) (pre .4) (op-kept (pre .5) (pre .6) (pre .4)) refl (c .before .before .act .ensures)
 
 pub step-on-spec : {M : Type 1} → statement M
 step-on-spec =
     tie.close
     (tie.spec
-    cast-i
-    halt-requires
-    returns
+    cast-at
     mul-at
     add-at
     mul-op
@@ -69,4 +71,4 @@ step-on-spec =
     shared-slice-read-act
     act-requires
     same-length
-    returns-2)
+    returns)
