@@ -1,0 +1,5 @@
+pub mod Places
+pub mod PlacesCode
+pub mod KindsCode
+pub mod NextCode
+pub mod Numbers
