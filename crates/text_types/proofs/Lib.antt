@@ -1,0 +1,7 @@
+pub mod Answers
+pub mod TypeLaws
+pub mod Finding
+pub mod NameLaws
+pub mod DeclarationLaws
+pub mod ParameterLaws
+pub mod LookupLaws

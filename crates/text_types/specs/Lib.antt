@@ -1,0 +1,3 @@
+pub mod SaysCode
+pub mod Found
+pub mod FoundCode
