@@ -1,4 +1,5 @@
 pub mod Tests
+pub mod Numbers
 pub mod Laws
 pub mod Any
 pub mod First

@@ -47,11 +47,11 @@ use Rattle.run_parts.proofs.Encoded.{Laid, laid-sound, part-is, part-unmade}
 use Rattle.run_holders.specs.HoldersCode.{holderIn}
 use Rattle.run_holders.proofs.Holding.{Holding}
 use Rattle.run_parts.specs.declared.readiness.Readiness.{Readiness}
-use Rattle.run_parts.specs.ReadinessCode.{noOffer, sendOf, receiveOf, readinessOp, meetsOp}
+use Rattle.run_parts.specs.ReadinessCode.{overKind, offerKind, noOffer, sendOf, receiveOf, readinessOp, meetsOp}
 use Rattle.run_parts.proofs.Standing.{Stands, stand-is, finished-stand, stopped-stand, unmade-stand, meets-act}
 use Rattle.run_ability.specs.PartnerCode.{oppositeOf, Partner, waits, ready, isNoOther, readyOp, isMoving, partnerOp}
 use Rattle.run_ability.specs.PartnerCode as code
-use Rattle.run_ability.specs.EndingCode.{abilityOf, abilityOp, someIs, endingOp}
+use Rattle.run_ability.specs.EndingCode.{aloneAbility, abilityOf, abilityOp, someIs, endingOp}
 
 module _ {p outcomes : List ℕ} {s : State} (reached : Reached p outcomes s) (rest : List ℕ) where
   abbrev config : Config
@@ -104,26 +104,27 @@ module _ {p outcomes : List ℕ} {s : State} (reached : Reached p outcomes s) (r
   not-stuck q e = rw e at (act-typed p (reached .kept) outcomes (reached .bytes) s (reached .kinds) (reached .typed) q)
 
   -- the readiness of a process that acts is not that of one that is over
-  stands-busy : (a : Act) (st : Readiness) → Busy a → a ≢ stuck → Stands a st → eqb (st .kind) 0 ≡ false
+  stands-busy : (a : Act) (st : Readiness) → Busy a → a ≢ stuck → Stands a st → overKind (st .kind) ≡ false
+  unfolding overKind
   stands-busy idle st b ns h = absurd b
   stands-busy stuck st b ns h = absurd (ns refl)
-  stands-busy (faults f) st b ns h = ap (λ (x : Readiness). eqb (x .kind) 0) h
-  stands-busy (goes fs es u) st b ns h = ap (λ (x : Readiness). eqb (x .kind) 0) h
-  stands-busy ends st b ns h = ap (λ (x : Readiness). eqb (x .kind) 0) h
-  stands-busy (makes x fs) st b ns h = ap (λ (x : Readiness). eqb (x .kind) 0) h
-  stands-busy (forks m args fs) st b ns h = ap (λ (x : Readiness). eqb (x .kind) 0) h
-  stands-busy (offers (sends c d v fs)) st b ns h = ap (λ (x : Readiness). eqb (x .kind) 0) h
-  stands-busy (offers (receives c d fs)) st b ns h = ap (λ (x : Readiness). eqb (x .kind) 0) h
+  stands-busy (faults f) st b ns h = ap (λ (x : Readiness). overKind (x .kind)) h
+  stands-busy (goes fs es u) st b ns h = ap (λ (x : Readiness). overKind (x .kind)) h
+  stands-busy ends st b ns h = ap (λ (x : Readiness). overKind (x .kind)) h
+  stands-busy (makes x fs) st b ns h = ap (λ (x : Readiness). overKind (x .kind)) h
+  stands-busy (forks m args fs) st b ns h = ap (λ (x : Readiness). overKind (x .kind)) h
+  stands-busy (offers (sends c d v fs)) st b ns h = ap (λ (x : Readiness). overKind (x .kind)) h
+  stands-busy (offers (receives c d fs)) st b ns h = ap (λ (x : Readiness). overKind (x .kind)) h
 
-  over-ready : (q : ℕ) → q < 8 → eqb (readinessOp p (partOf work q) .kind) 0 ≡ isOver (processAt config q)
-  unfolding actOf byStatus
+  over-ready : (q : ℕ) → q < 8 → overKind (readinessOp p (partOf work q) .kind) ≡ isOver (processAt config q)
+  unfolding actOf byStatus overKind
   over-ready q h = go (processAt config q .status) refl
     where
       over : (st : Status) → processAt config q .status ≡ st
           → byStatus st (atFrames p outcomes s (processAt config q .frames)) ≡ idle
-          → eqb (readinessOp p (partOf work q) .kind) 0 ≡ true
+          → overKind (readinessOp p (partOf work q) .kind) ≡ true
       over st e i =
-          ap (λ (x : Readiness). eqb (x .kind) 0)
+          ap (λ (x : Readiness). overKind (x .kind))
           (subst (λ (a : Act). Stands a (readinessOp p (partOf work q)))
           (ap (λ (x : Status). byStatus x (atFrames p outcomes s (processAt config q .frames))) e ∙ i) (stand-at q h))
 
@@ -131,7 +132,7 @@ module _ {p outcomes : List ℕ} {s : State} (reached : Reached p outcomes s) (r
       by-status st = isOver (record { status = st; frames = processAt config q .frames })
 
       go : (st : Status) → processAt config q .status ≡ st
-          → eqb (readinessOp p (partOf work q) .kind) 0 ≡ isOver (processAt config q)
+          → overKind (readinessOp p (partOf work q) .kind) ≡ isOver (processAt config q)
       go running e =
           stands-busy (actOf p outcomes s q) (readinessOp p (partOf work q)) (running-busy p outcomes s q e)
           (not-stuck q) (stand-at q h)
@@ -216,7 +217,7 @@ module _ {p outcomes : List ℕ} {s : State} (reached : Reached p outcomes s) (r
         over-beyond l = ap isOver (process-beyond config h (omega (arith, l, sound .processCount)))
 
         near : h < 8 → (b : Bool) → isOver (processAt config h) ≡ b
-            → cond (eqb (readinessOp p (partOf work h) .kind) 0) code.gone
+            → cond (overKind (readinessOp p (partOf work h) .kind)) code.gone
             (cond (meetsOp st (readinessOp p (partOf work h))) (ready h) waits)
             ≡ comes b (isMeeting met) h
         near l true e =
@@ -229,7 +230,7 @@ module _ {p outcomes : List ℕ} {s : State} (reached : Reached p outcomes s) (r
 
         same : (x y : Bool) → leb 8 h ≡ y
             → cond (x || y) code.gone
-            (cond (eqb (readinessOp p (partOf work h) .kind) 0) code.gone
+            (cond (overKind (readinessOp p (partOf work h) .kind)) code.gone
             (cond (meetsOp st (readinessOp p (partOf work h))) (ready h) waits))
             ≡ comes (x || isOver (processAt config h)) (isMeeting (cond x none met)) h
         same true y e = refl
@@ -312,11 +313,11 @@ module _ {p outcomes : List ℕ} {s : State} (reached : Reached p outcomes s) (r
         both false = either (isMeeting (meetingOf p outcomes s n o))
 
     offer-rank : (n : ℕ) (o : Offer) (st : Readiness) → OfferWithin (valuesOf (processAt config n .frames)) o
-        → Stands (offers o) st → ltb (st .kind) 2 ≡ false
+        → Stands (offers o) st → not (offerKind (st .kind)) ≡ false
         → abilityOf p work t n st ≡ rank n (offers o)
     unfolding abilityOf rank isMoving
     offer-rank n o st w h k =
-        ap₂ (λ (b : Bool) (q : Partner). cond b (st .kind) (cond (isMoving q) 1 2)) k (partner-law n o st w h)
+        ap₂ (λ (b : Bool) (q : Partner). cond b (aloneAbility (st .kind)) (cond (isMoving q) 1 2)) k (partner-law n o st w h)
         ∙ ap (λ (b : Bool). cond {A = ℕ} b 1 2) (either (gone s n o) (isMeeting (meetingOf p outcomes s n o)))
       where
         either : (g m : Bool) → isMoving (comes g m (found o)) ≡ (g || m)
@@ -328,7 +329,7 @@ module _ {p outcomes : List ℕ} {s : State} (reached : Reached p outcomes s) (r
         → ActWithin (valuesOf (processAt config n .frames)) (config .qubits) (config .channels) a → a ≢ stuck
         → Stands a st
         → abilityOf p work t n st ≡ rank n a
-    unfolding abilityOf rank
+    unfolding abilityOf rank aloneAbility offerKind overKind
     act-rank n idle st w ns h = ap (λ (x : Readiness). abilityOf p work t n x) h
     act-rank n stuck st w ns h = absurd (ns refl)
     act-rank n (faults f) st w ns h = ap (λ (x : Readiness). abilityOf p work t n x) h
@@ -337,9 +338,9 @@ module _ {p outcomes : List ℕ} {s : State} (reached : Reached p outcomes s) (r
     act-rank n (makes x fs) st w ns h = ap (λ (x : Readiness). abilityOf p work t n x) h
     act-rank n (forks m args fs) st w ns h = ap (λ (x : Readiness). abilityOf p work t n x) h
     act-rank n (offers (sends c d v fs)) st w ns h =
-        offer-rank n (sends c d v fs) st w h (ap (λ (x : Readiness). ltb (x .kind) 2) h)
+        offer-rank n (sends c d v fs) st w h (ap (λ (x : Readiness). not (offerKind (x .kind))) h)
     act-rank n (offers (receives c d fs)) st w ns h =
-        offer-rank n (receives c d fs) st w h (ap (λ (x : Readiness). ltb (x .kind) 2) h)
+        offer-rank n (receives c d fs) st w h (ap (λ (x : Readiness). not (offerKind (x .kind))) h)
 
     ability-is : (n : ℕ) → n < 8 → abilityOp p work t n ≡ rank n (actOf p outcomes s n)
     unfolding abilityOp

@@ -1,24 +1,30 @@
 -- What a function has found at its returns, from what its callees found and how its tests came out.
 use Prim.Native.Nat.{ℕ, _+_, _*_, _%_, _≤_, _<_}
 use mathlib.Core.Path.{_≡_, refl, sym, _∙_, ap, ap₂}
-use mathlib.Core.Bool.{Bool, true, false, cond, _||_, true≢false}
-use mathlib.Core.List.{List}
+use mathlib.Core.Bool.{Bool, true, false, cond, not, _||_, true≢false}
+use mathlib.Core.List.{List, [], _∷_}
+use types.Run.{OneOf, miss}
+use denote.Enum.Declared.{tagOf}
 use native.Mathlib.Omega.{arith}
 use lib.Dec.{eqb, leb}
-use borrow.Author.Tests.{eq-eqb, ne-eqb, lt-ltb, le-ltb, leb-false}
+use borrow.Author.Tests.{leb-false}
 use Rattle.table.specs.Table.{word, methods, argAt}
 use Rattle.run_store.specs.declared.head.Head.{Head}
 use Rattle.run_store.specs.StoreCode.{headOf}
 use Rattle.run_ops.proofs.Returns.{took, passed-by}
 use Rattle.run_parts.specs.declared.readiness.Readiness.{Readiness}
-use Rattle.run_parts.specs.ReadinessCode.{readinessOp, offerOf, meetsOp}
+use Rattle.run_parts.specs.ReadinessCode.{overKind, offerKind, readinessOp, offerOf, meetsOp}
 use Rattle.run_parts.specs.PartsCode.{partOf}
 use Rattle.run_holders.specs.HoldersCode.{holderIn}
+use Rattle.run_values.specs.declared.steps.StepResult.{StepResult}
 use Rattle.run_ability.specs.ReadsCode.{argumentIn}
 use Rattle.run_ability.specs.PartnerCode.{oppositeOf, Partner, waits, gone, ready, isNoOther, readyOp, isMoving, partnerOp}
+use Rattle.run_ability.specs.declared.pairing.PairingKind.{PairingKind}
+use Rattle.run_ability.specs.declared.pairing.PairingKind.the-variants.{NoOffer, Waits, Meets, PartnerGone}
+use Rattle.run_ability.proofs.pairing.PairingKind.{the-type}
 use Rattle.run_ability.specs.declared.pairing.Pairing.{Pairing}
-use Rattle.run_ability.specs.PairingCode.{unpaired, pairedOf, pairWith, pairingOf, pairingOp}
-use Rattle.run_ability.specs.EndingCode.{abilityOf, abilityOp}
+use Rattle.run_ability.specs.PairingCode.{waitKind, unpaired, pairedOf, pairWith, pairingOf, pairingOp}
+use Rattle.run_ability.specs.EndingCode.{aloneAbility, abilityOf, abilityOp}
 
 -- the word after the op at the frame's place
 pub argument-read : (p w : List ℕ) (start : ℕ) {h : Head} {a : ℕ} → h ≡ headOf w → start ≡ 2 + 20 * methods p
@@ -39,8 +45,8 @@ other-low n q e h = leb-false 8 q (second (eqb q n) (leb 8 q) (sym e ∙ h))
     second true y i = absurd (true≢false i)
     second false y i = i
 
-kind-test : {a b : Readiness} → a ≡ b → eqb (a .kind) 0 ≡ eqb (b .kind) 0
-kind-test e = ap (λ (r : Readiness). eqb (r .kind) 0) e
+kind-test : {a b : Readiness} {over : Bool} → over ≡ overKind (a .kind) → a ≡ b → over ≡ overKind (b .kind)
+kind-test t e = t ∙ ap (λ (r : Readiness). overKind (r .kind)) e
 
 module _ (p work : List ℕ) (t : List (List ℕ)) (n : ℕ) where
   -- the holder q of the opposite end was asked
@@ -62,18 +68,19 @@ module _ (p work : List ℕ) (t : List (List ℕ)) (n : ℕ) where
     unfolding readyOp isMoving
     itself-asked h = asked {r = gone} refl (took _ _ _ other h refl)
 
-    module _ (no : x ≡ false) {s : Readiness} (stands : s ≡ readinessOp p (partOf work q)) where
-      pub over-asked : s .kind ≡ 0 → true ≡ isMoving (partnerOp p work t n a)
+    module _ (no : x ≡ false) {s : Readiness} (stands : s ≡ readinessOp p (partOf work q)) {over : Bool}
+        (tested : over ≡ overKind (s .kind)) where
+      pub over-asked : over ≡ true → true ≡ isMoving (partnerOp p work t n a)
       unfolding readyOp isMoving
       over-asked k =
-          asked {r = gone} refl (passed-by _ _ _ other no (took _ _ _ (kind-test stands) (eq-eqb (s .kind) 0 k) refl))
+          asked {r = gone} refl (passed-by _ _ _ other no (took _ _ _ (kind-test tested stands) k refl))
 
-      pub other-asked : (s .kind ≡ 0 → ⊥) → {b : Bool} → b ≡ meetsOp a s → b ≡ isMoving (partnerOp p work t n a)
+      pub other-asked : over ≡ false → {b : Bool} → b ≡ meetsOp a s → b ≡ isMoving (partnerOp p work t n a)
       unfolding readyOp isMoving
       other-asked k {b} m =
           asked {r = cond (meetsOp a (readinessOp p (partOf work q))) (ready q) waits}
           (m ∙ ap (meetsOp a) stands ∙ found (meetsOp a (readinessOp p (partOf work q))))
-          (passed-by _ _ _ other no (passed-by _ _ _ (kind-test stands) (ne-eqb (s .kind) 0 k) refl))
+          (passed-by _ _ _ other no (passed-by _ _ _ (kind-test tested stands) k refl))
         where
           found : (y : Bool) → y ≡ isMoving (cond y (ready q) waits)
           found true = refl
@@ -81,16 +88,18 @@ module _ (p work : List ℕ) (t : List (List ℕ)) (n : ℕ) where
 
   -- a process that offers nothing, one whose offer has no partner, and one whose offer has
 
-  pub no-offer : {a : Readiness} → a ≡ readinessOp p (partOf work n) → a .kind < 2 → a .kind ≡ abilityOp p work t n
+  pub no-offer : {a : Readiness} {x : Bool} {r : ℕ} → a ≡ readinessOp p (partOf work n) → x ≡ offerKind (a .kind)
+      → not x ≡ true → r ≡ aloneAbility (a .kind) → r ≡ abilityOp p work t n
   unfolding abilityOp abilityOf
-  no-offer {a} e h = took _ _ _ refl (lt-ltb (a .kind) 2 h) refl ∙ ap (abilityOf p work t n) e
+  no-offer e k h q = took _ _ _ (ap not k) h q ∙ ap (abilityOf p work t n) e
 
-  module _ {a : Readiness} (stands : a ≡ readinessOp p (partOf work n)) (offer : 2 ≤ a .kind) {b : Bool}
+  module _ {a : Readiness} {x : Bool} (stands : a ≡ readinessOp p (partOf work n)) (kind : x ≡ offerKind (a .kind))
+      (offer : not x ≡ false) {b : Bool}
       (tested : b ≡ isMoving (partnerOp p work t n a)) where
     offers-so : cond {A = ℕ} b 1 2 ≡ abilityOp p work t n
     unfolding abilityOp abilityOf
     offers-so =
-        passed-by _ _ _ refl (le-ltb (a .kind) 2 offer) (ap (λ (y : Bool). cond {A = ℕ} y 1 2) tested)
+        passed-by _ _ _ (ap not kind) offer (ap (λ (y : Bool). cond {A = ℕ} y 1 2) tested)
         ∙ ap (abilityOf p work t n) stands
 
     pub met : b ≡ true → 1 ≡ abilityOp p work t n
@@ -103,40 +112,53 @@ module _ (p work : List ℕ) (t : List (List ℕ)) (n : ℕ) where
 
 module _ (p work : List ℕ) (n : ℕ) (a : Readiness) (q : ℕ) {r : Pairing} where
   module _ {x : Bool} (other : x ≡ isNoOther n q) where
-    pub pairs-itself : x ≡ true → r ≡ unpaired 3 → r ≡ pairWith p work n a q
+    pub pairs-itself : x ≡ true → r ≡ unpaired PartnerGone → r ≡ pairWith p work n a q
     unfolding pairWith
     pairs-itself h e = took _ _ _ other h e
 
-    module _ (no : x ≡ false) {b : Readiness} (stands : b ≡ readinessOp p (partOf work q)) where
-      pub pairs-over : b .kind ≡ 0 → r ≡ unpaired 3 → r ≡ pairWith p work n a q
+    module _ (no : x ≡ false) {b : Readiness} (stands : b ≡ readinessOp p (partOf work q)) {over : Bool}
+        (kind : over ≡ overKind (b .kind)) where
+      pub pairs-over : over ≡ true → r ≡ unpaired PartnerGone → r ≡ pairWith p work n a q
       unfolding pairWith
-      pairs-over k e = passed-by _ _ _ other no (took _ _ _ (kind-test stands) (eq-eqb (b .kind) 0 k) e)
+      pairs-over k e = passed-by _ _ _ other no (took _ _ _ (kind-test kind stands) k e)
 
-      module _ (going : b .kind ≡ 0 → ⊥) {m : Bool} (tested : m ≡ meetsOp a b) where
+      module _ (going : over ≡ false) {m : Bool} (tested : m ≡ meetsOp a b) where
         pub pairs-with : m ≡ true → r ≡ pairedOf n a q b → r ≡ pairWith p work n a q
         unfolding pairWith
         pairs-with h e =
             passed-by _ _ _ other no
-            (passed-by _ _ _ (kind-test stands) (ne-eqb (b .kind) 0 going)
+            (passed-by _ _ _ (kind-test kind stands) going
             (took _ _ _ (tested ∙ ap (meetsOp a) stands) h (e ∙ ap (pairedOf n a q) stands)))
 
-        pub pairs-not : m ≡ false → r ≡ unpaired 1 → r ≡ pairWith p work n a q
+        pub pairs-not : m ≡ false → r ≡ unpaired Waits → r ≡ pairWith p work n a q
         unfolding pairWith
         pairs-not h e =
             passed-by _ _ _ other no
-            (passed-by _ _ _ (kind-test stands) (ne-eqb (b .kind) 0 going)
+            (passed-by _ _ _ (kind-test kind stands) going
             (passed-by _ _ _ (tested ∙ ap (meetsOp a) stands) h e))
 
-module _ (p work : List ℕ) (t : List (List ℕ)) (n code : ℕ) {a : Readiness}
-    (stands : a ≡ offerOf (partOf work n) code) {r : Pairing} where
-  pub pairs-none : a .kind < 2 → r ≡ unpaired 0 → r ≡ pairingOp p work t n code
+module _ (p work : List ℕ) (t : List (List ℕ)) (n : ℕ) (step : StepResult) {a : Readiness}
+    (stands : a ≡ offerOf (partOf work n) step) {x : Bool} (kind : x ≡ offerKind (a .kind)) {r : Pairing} where
+  pub pairs-none : not x ≡ true → r ≡ unpaired NoOffer → r ≡ pairingOp p work t n step
   unfolding pairingOp pairingOf
-  pairs-none h e = took _ _ _ refl (lt-ltb (a .kind) 2 h) e ∙ ap (pairingOf p work t n) stands
+  pairs-none h e = took _ _ _ (ap not kind) h e ∙ ap (pairingOf p work t n) stands
 
-  pub pairs-asked : 2 ≤ a .kind → {c d q : ℕ} → c ≡ a .end .number % 65536 → d ≡ oppositeOf (a .end .tag)
+  pub pairs-asked : not x ≡ false → {c d q : ℕ} → c ≡ a .end .number % 65536 → d ≡ oppositeOf (a .end .tag)
       → q ≡ holderIn t c d
-      → r ≡ pairWith p work n a q → r ≡ pairingOp p work t n code
+      → r ≡ pairWith p work n a q → r ≡ pairingOp p work t n step
   unfolding pairingOp pairingOf
   pairs-asked h f g k e =
-      passed-by _ _ _ refl (le-ltb (a .kind) 2 h) (e ∙ ap (pairWith p work n a) (k ∙ ap₂ (holderIn t) f g))
+      passed-by _ _ _ (ap not kind) h (e ∙ ap (pairWith p work n a) (k ∙ ap₂ (holderIn t) f g))
       ∙ ap (pairingOf p work t n) stands
+
+-- an offer of any other kind does not wait
+
+abbrev butWaits : List ℕ
+butWaits = 0 ∷ 2 ∷ 3 ∷ []
+
+pub not-waiting : (k : PairingKind) → OneOf butWaits (tagOf the-type k) → false ≡ waitKind k
+unfolding waitKind
+not-waiting NoOffer h = refl
+not-waiting Waits h = absurd (miss butWaits 1 tt h)
+not-waiting Meets h = refl
+not-waiting PartnerGone h = refl

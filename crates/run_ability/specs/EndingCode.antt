@@ -1,15 +1,21 @@
 -- Whether the run can go on, on the words of the store. These definitions follow the code.
 use Prim.Native.Nat.{ℕ, zero, suc}
-use mathlib.Core.Bool.{Bool, cond, _||_, false}
+use mathlib.Core.Bool.{Bool, cond, not, _||_, false}
 use mathlib.Core.List.{List}
-use lib.Dec.{eqb, ltb}
+use lib.Dec.{eqb}
 use Rattle.run_parts.specs.PartsCode.{partOf}
 use Rattle.run_parts.specs.declared.readiness.Readiness.{Readiness}
-use Rattle.run_parts.specs.ReadinessCode.{readinessOp, kindSends}
+use Rattle.run_parts.specs.declared.readiness.ReadinessKind.{ReadinessKind}
+use Rattle.run_parts.specs.ReadinessCode.{overKind, offerKind, readinessOp}
 use Rattle.run_ability.specs.PartnerCode.{isMoving, partnerOp}
 
+-- of a process that offers nothing
+unfoldable pub aloneAbility : ReadinessKind → ℕ
+aloneAbility k = cond (overKind k) 0 1
+
 unfoldable pub abilityOf : List ℕ → List ℕ → List (List ℕ) → ℕ → Readiness → ℕ
-abilityOf p work t n a = cond (ltb (a .kind) kindSends) (a .kind) (cond (isMoving (partnerOp p work t n a)) 1 2)
+abilityOf p work t n a =
+    cond (not (offerKind (a .kind))) (aloneAbility (a .kind)) (cond (isMoving (partnerOp p work t n a)) 1 2)
 
 -- 0 over or not made, 1 able to move, 2 waiting
 unfoldable pub abilityOp : List ℕ → List ℕ → List (List ℕ) → ℕ → ℕ

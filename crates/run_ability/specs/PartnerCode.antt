@@ -7,7 +7,7 @@ use lib.Dec.{eqb, leb}
 use Rattle.run_parts.specs.PartsCode.{partOf}
 use Rattle.run_holders.specs.HoldersCode.{holderIn}
 use Rattle.run_parts.specs.declared.readiness.Readiness.{Readiness}
-use Rattle.run_parts.specs.ReadinessCode.{readinessOp, meetsOp, kindOver}
+use Rattle.run_parts.specs.ReadinessCode.{overKind, readinessOp, meetsOp}
 
 unfoldable pub oppositeOf : ℕ → ℕ
 oppositeOf tag = cond (eqb tag 5) 1 0
@@ -26,7 +26,7 @@ isNoOther n q = eqb q n || leb 8 q
 unfoldable pub readyOp : List ℕ → List ℕ → ℕ → Readiness → ℕ → Partner
 readyOp p work n a q =
     cond (isNoOther n q) gone
-    (cond (eqb (readinessOp p (partOf work q) .kind) kindOver) gone
+    (cond (overKind (readinessOp p (partOf work q) .kind)) gone
     (cond (meetsOp a (readinessOp p (partOf work q))) (ready q) waits))
 
 -- an offer that finds this moves its process, by a meeting or by fault 33

@@ -4,16 +4,30 @@ ghost use mathlib.Core.Path.{_≡_};
 ghost use Prim.Native.Nat.{_+_, _*_, _<_, _≤_};
 ghost use lib.ListN.{length};
 ghost use Rattle.table.specs.Table.{methods};
-ghost use Rattle.run_ability.specs.EndingCode.{abilityOp, endingOp};
+ghost use Rattle.run_ability.specs.EndingCode.{aloneAbility, abilityOp, endingOp};
 use super::partner::is_moved;
 use super::reads::readiness_of;
-use run_parts::readiness::SENDS;
+use run_parts::readiness::ReadinessKind;
+use run_parts::readiness::is_offering;
+use run_parts::readiness::is_over;
 use run_store::references::ProcessNo;
 
 // What a process can do: it is over, it is able to move, or it waits.
+const OVER: u32 = 0;
+
 const ABLE: u32 = 1;
 
 const WAITING: u32 = 2;
+
+// Of a process that offers nothing.
+fn alone_ability(kind: ReadinessKind) -> u32
+    ensures { λ r. ⌜ r ≡ aloneAbility kind ⌝ }
+{
+    if is_over(kind) {
+        return OVER;
+    }
+    ABLE
+}
 
 // `OVER`, `ABLE` or `WAITING`.
 pub fn ability(p: &[u16], start: usize, work: &[u32], t: &[[u16; 2]; 16], n: ProcessNo) -> u32
@@ -21,8 +35,9 @@ pub fn ability(p: &[u16], start: usize, work: &[u32], t: &[[u16; 2]; 16], n: Pro
     ensures { λ r. ⌜ r ≡ abilityOp (now (p .entry)) (now (work .entry)) (now (t .entry)) (n .0) ⌝ }
 {
     let a = readiness_of(p, start, work, n);
-    if a.kind < SENDS {
-        return a.kind;
+    let kind = a.kind;
+    if !is_offering(kind) {
+        return alone_ability(kind);
     }
     if is_moved(p, start, work, t, n, a) {
         return ABLE;

@@ -3,38 +3,49 @@ ghost use mathlib.Core.Path.{_≡_};
 ghost use Prim.Native.Nat.{_+_, _*_, _<_, _≤_};
 ghost use lib.ListN.{length};
 ghost use Rattle.table.specs.Table.{methods};
-ghost use Rattle.run_ability.specs.PairingCode.{unpaired, meetingOf, pairedOf, pairWith, pairingOp};
+ghost use Rattle.run_ability.specs.PairingCode.{waitKind, unpaired, meetingOf, pairedOf, pairWith, pairingOp};
 use super::partner::is_no_other;
 use super::partner::opposite;
 use super::reads::offer_of;
 use super::reads::readiness_of;
 use run_holders::ends::holder_of;
-use run_parts::readiness::OVER;
 use run_parts::readiness::Readiness;
-use run_parts::readiness::SENDS;
+use run_parts::readiness::is_offering;
+use run_parts::readiness::is_over;
+use run_parts::readiness::is_sends;
 use run_parts::readiness::meets;
 use run_store::references::ProcessNo;
 use run_store::values::Val;
 use run_store::values::empty;
+use run_values::steps::StepResult;
 
-// What an offer comes to: there is none; it waits; a meeting, with its sender's end and value; its partner has gone.
-pub const NO_OFFER: u32 = 0;
+// What an offer comes to: there is none; it waits; it meets its partner; its partner has gone.
+pub enum PairingKind {
+    NoOffer,
+    Waits,
+    Meets,
+    PartnerGone,
+}
 
-pub const WAITS: u32 = 1;
+pub fn waits(kind: PairingKind) -> bool
+    ensures { λ r. ⌜ r ≡ waitKind kind ⌝ }
+{
+    match kind {
+        PairingKind::Waits => true,
+        _ => false,
+    }
+}
 
-pub const MEETS: u32 = 2;
-
-pub const PARTNER_GONE: u32 = 3;
-
+// A meeting has its sender's end and value.
 pub struct Pairing {
-    pub kind: u32,
+    pub kind: PairingKind,
     pub sender: ProcessNo,
     pub receiver: ProcessNo,
     pub end: Val,
     pub value: Val,
 }
 
-pub fn no_meeting(kind: u32) -> Pairing
+pub fn no_meeting(kind: PairingKind) -> Pairing
     ensures { λ r. ⌜ r ≡ unpaired kind ⌝ }
 {
     Pairing {
@@ -50,7 +61,7 @@ fn meeting(sender: ProcessNo, receiver: ProcessNo, end: Val, value: Val) -> Pair
     ensures { λ r. ⌜ r ≡ meetingOf (sender .0) (receiver .0) end value ⌝ }
 {
     Pairing {
-        kind: MEETS,
+        kind: PairingKind::Meets,
         sender: sender,
         receiver: receiver,
         end: end,
@@ -62,7 +73,8 @@ fn meeting(sender: ProcessNo, receiver: ProcessNo, end: Val, value: Val) -> Pair
 fn pair_of(n: ProcessNo, a: Readiness, q: ProcessNo, b: Readiness) -> Pairing
     ensures { λ r. ⌜ r ≡ pairedOf (n .0) a (q .0) b ⌝ }
 {
-    if a.kind == SENDS {
+    let kind = a.kind;
+    if is_sends(kind) {
         return meeting(n, q, a.end, a.value);
     }
     meeting(q, n, b.end, b.value)
@@ -81,33 +93,35 @@ fn pair_with(
     ensures { λ r. ⌜ r ≡ pairWith (now (p .entry)) (now (work .entry)) (n .0) a (q .0) ⌝ }
 {
     if is_no_other(n, q) {
-        return no_meeting(PARTNER_GONE);
+        return no_meeting(PairingKind::PartnerGone);
     }
     let b = readiness_of(p, start, work, q);
-    if b.kind == OVER {
-        return no_meeting(PARTNER_GONE);
+    let kind = b.kind;
+    if is_over(kind) {
+        return no_meeting(PairingKind::PartnerGone);
     }
     if meets(a, b) {
         return pair_of(n, a, q, b);
     }
-    no_meeting(WAITS)
+    no_meeting(PairingKind::Waits)
 }
 
-// The offer of process n, by the code of its step.
+// What the offer of process n comes to, where its step answered that it stands at SEND or RECV.
 pub fn pair_up(
     p: &[u16],
     start: usize,
     work: &[u32],
     t: &[[u16; 2]; 16],
     n: ProcessNo,
-    code: u32,
+    step: StepResult,
 ) -> Pairing
     requires { ⌜ (start ≡ 2 + 20 * methods (now p)) × (8192 ≤ length (now work)) × (n .0 < 8) ⌝ }
-    ensures { λ r. ⌜ r ≡ pairingOp (now (p .entry)) (now (work .entry)) (now (t .entry)) (n .0) code ⌝ }
+    ensures { λ r. ⌜ r ≡ pairingOp (now (p .entry)) (now (work .entry)) (now (t .entry)) (n .0) step ⌝ }
 {
-    let a = offer_of(work, n, code);
-    if a.kind < SENDS {
-        return no_meeting(NO_OFFER);
+    let a = offer_of(work, n, step);
+    let kind = a.kind;
+    if !is_offering(kind) {
+        return no_meeting(PairingKind::NoOffer);
     }
     let q = holder_of(t, opposite(a));
     pair_with(p, start, work, n, a, q)

@@ -6,8 +6,8 @@ ghost use Rattle.table.specs.Table.{methods};
 ghost use Rattle.run_ability.specs.PartnerCode.{oppositeOf, isNoOther, isMoving, partnerOp};
 use super::reads::readiness_of;
 use run_holders::ends::holder_of;
-use run_parts::readiness::OVER;
 use run_parts::readiness::Readiness;
+use run_parts::readiness::is_over;
 use run_parts::readiness::meets;
 use run_store::references::EndNo;
 use run_store::references::ProcessNo;
@@ -47,7 +47,8 @@ pub fn is_moved(
         return true;
     }
     let b = readiness_of(p, start, work, q);
-    if b.kind == OVER {
+    let kind = b.kind;
+    if is_over(kind) {
         return true;
     }
     meets(a, b)

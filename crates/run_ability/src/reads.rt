@@ -15,6 +15,7 @@ use run_store::blocks::any_empty;
 use run_store::head::Head;
 use run_store::head::read_head;
 use run_store::references::ProcessNo;
+use run_values::steps::StepResult;
 use table::words::word_at;
 
 pub fn readiness_of(p: &[u16], start: usize, work: &[u32], n: ProcessNo) -> Readiness
@@ -26,14 +27,14 @@ pub fn readiness_of(p: &[u16], start: usize, work: &[u32], n: ProcessNo) -> Read
     read_readiness(p, start, &work[from..to])
 }
 
-// The offer of process n, by the code of its step.
-pub fn offer_of(work: &[u32], n: ProcessNo, code: u32) -> Readiness
+// The offer of process n, where its step answered that it stands at SEND or RECV.
+pub fn offer_of(work: &[u32], n: ProcessNo, step: StepResult) -> Readiness
     requires { ⌜ (8192 ≤ length (now work)) × (n .0 < 8) ⌝ }
-    ensures { λ r. ⌜ r ≡ offerOf (partOf (now (work .entry)) (n .0)) code ⌝ }
+    ensures { λ r. ⌜ r ≡ offerOf (partOf (now (work .entry)) (n .0)) step ⌝ }
 {
     let from = part_at(n);
     let to = from + 512;
-    read_offer(&work[from..to], code)
+    read_offer(&work[from..to], step)
 }
 
 // Process n stands at no offer, and runs.

@@ -6,7 +6,8 @@ use mathlib.Core.List.{List, _++_}
 use native.Mathlib.Omega.{arith}
 use lib.ListN.{getD, length, take, drop}
 use lib.Seq.{length-take-le, take-at, drop-at, drop-drop, drop-append-add}
-use Rattle.run_values.specs.ValuesCode.{afterStep}
+use Rattle.run_values.specs.declared.steps.StepResult.the-variants.{WentOn}
+use Rattle.run_values.specs.ValuesCode.{afterStep, wentOn}
 use Rattle.run_ops.specs.OpsCode.{stepOp}
 use Rattle.run_parts.specs.PartsCode.{partAt, partOf, withPart, onPart}
 use Rattle.run_parts.proofs.Apart.{part-same}
@@ -60,20 +61,21 @@ not-some b e = ap not e
 
 module _ (p schedule work : List ℕ) (long : 8192 ≤ length work) (n : ℕ) (l : n < 8) (known : Knowledge) (none : known .some ≡ false) where
   -- one more of them
-  one-taken : (t : List (List ℕ)) (k : ℕ) (w w′ : List ℕ) → k < length schedule → getD schedule k 0 ≡ n → length w ≡ 512 → stepOp p w ≡ afterStep 0 w′
+  one-taken : (t : List (List ℕ)) (k : ℕ) (w w′ : List ℕ) → k < length schedule → getD schedule k 0 ≡ n → length w ≡ 512 → stepOp p w ≡ afterStep WentOn w′
       → burstOp p t schedule (withPart work n w) k known (length schedule - k) ≡ burstOp p t schedule (withPart work n w′) (k + 1) known (length schedule - (k + 1))
-  unfolding onPart
+  unfolding onPart wentOn
   one-taken t k w w′ h e s q =
-      burst-goes p t schedule (withPart work n w) k known {code = 0} {words = withPart work n w′} h stepped (done-step 0 known refl) refl
-      (knew-nothing p (withPart work n w′) (getD schedule k 0) known 0 (not-some (known .some) none))
+      burst-goes p t schedule (withPart work n w) k known {step = WentOn} {words = withPart work n w′} h stepped
+      (done-step WentOn known refl refl) refl
+      (knew-nothing p (withPart work n w′) (getD schedule k 0) known WentOn (not-some (known .some) none))
     where
-      done : onPart (withPart work n w) n (stepOp p (partOf (withPart work n w) n)) ≡ afterStep 0 (withPart work n w′)
+      done : onPart (withPart work n w) n (stepOp p (partOf (withPart work n w) n)) ≡ afterStep WentOn (withPart work n w′)
       done =
           ap (λ (u : List ℕ). onPart (withPart work n w) n (stepOp p u)) (part-back work long n l w s)
           ∙ ap (onPart (withPart work n w) n) q
-          ∙ ap (afterStep 0) (part-twice work long n l w w′ s)
+          ∙ ap (afterStep WentOn) (part-twice work long n l w w′ s)
 
-      stepped : afterStep 0 (withPart work n w′) ≡ namedOp p (withPart work n w) (getD schedule k 0) known
+      stepped : afterStep WentOn (withPart work n w′) ≡ namedOp p (withPart work n w) (getD schedule k 0) known
       stepped =
           named-steps p (withPart work n w) n known l (not-idle known n none) refl (sym done)
           ∙ ap (λ (m : ℕ). namedOp p (withPart work n w) m known) (sym e)

@@ -4,8 +4,8 @@ use mathlib.Core.Path.{_≡_, refl, sym, _∙_, ap}
 use mathlib.Core.Bool.{Bool, true, false, cond, not, true≢false}
 use mathlib.Core.List.{List}
 use lib.ListN.{replicate}
-use lib.Dec.{eqb, leb}
-use borrow.Author.Tests.{eq-eqb, ne-eqb, le-leb, lt-leb, leb-false}
+use lib.Dec.{leb}
+use borrow.Author.Tests.{le-leb, lt-leb, leb-false}
 use Rattle.run_ops.proofs.Returns.{took, passed-by}
 use Rattle.run_parts.specs.PartsCode.{partOf}
 use Rattle.run_parts.specs.ReadinessCode.{readinessOp, offersNothing}
@@ -13,6 +13,10 @@ use Rattle.run_parts.proofs.Returns.{nothing-alone}
 use Rattle.run_ability.specs.EndingCode.{endingOp}
 use Rattle.run_ability.proofs.Idle.{alone-goes}
 use Rattle.run_entry.specs.EntryCode.{oneLine}
+use Rattle.run_values.specs.ValuesCode.{wentOn}
+use Rattle.run_values.specs.declared.steps.StepResult.{StepResult}
+use Rattle.run_values.specs.declared.steps.StepResult.the-variants.{WentOn}
+use Rattle.run_parts.specs.declared.readiness.ReadinessKind.the-variants.{Moves}
 use Rattle.run_burst.specs.declared.knowledge.Knowledge.{Knowledge}
 use Rattle.run_burst.specs.KnowledgeCode.{nothingKnown, marked, withIdle, alone, knownAfterStep, knownAfterEntry, unlessChanged}
 
@@ -47,45 +51,47 @@ module _ (known : Knowledge) (n : ℕ) where
 
 -- what is known still
 
-module _ (p work : List ℕ) (n : ℕ) (known : Knowledge) (code : ℕ) where
-  pub knew-nothing : not (known .some) ≡ true → known ≡ knownAfterStep p work n known code
+module _ (p work : List ℕ) (n : ℕ) (known : Knowledge) (step : StepResult) where
+  pub knew-nothing : not (known .some) ≡ true → known ≡ knownAfterStep p work n known step
   unfolding knownAfterStep
-  knew-nothing e = λ i. record { some = passed-by (known .some) (cond (eqb code 0) (alone p work n) true) false refl (no-longer (known .some) e) (no-longer (known .some) e) i; idle = known .idle }
+  knew-nothing e = λ i. record { some = passed-by (known .some) (cond (wentOn step) (alone p work n) true) false refl (no-longer (known .some) e) (no-longer (known .some) e) i; idle = known .idle }
 
-  pub no-step : not (known .some) ≡ false → (code ≡ 0 → ⊥) → known ≡ knownAfterStep p work n known code
+  pub no-step : not (known .some) ≡ false → {x : Bool} → x ≡ wentOn step → not x ≡ true → known ≡ knownAfterStep p work n known step
   unfolding knownAfterStep
-  no-step e h = λ i. record {
+  no-step e {x} w h = λ i. record {
     some =
-        took (known .some) (cond (eqb code 0) (alone p work n) true) false refl (still (known .some) e)
-        (passed-by (eqb code 0) (alone p work n) true refl (ne-eqb code 0 h) (still (known .some) e)) i;
+        took (known .some) (cond (wentOn step) (alone p work n) true) false refl (still (known .some) e)
+        (passed-by (wentOn step) (alone p work n) true w (no-longer x h) (still (known .some) e)) i;
     idle = known .idle;
   }
 
-  pub looked-at : not (known .some) ≡ false → code ≡ 0 → {b : Bool} → b ≡ alone p work n
-      → record { some = b; idle = known .idle } ≡ knownAfterStep p work n known code
+  pub looked-at : not (known .some) ≡ false → {x : Bool} → x ≡ wentOn step → not x ≡ false → {b : Bool}
+      → b ≡ alone p work n
+      → record { some = b; idle = known .idle } ≡ knownAfterStep p work n known step
   unfolding knownAfterStep
-  looked-at e h {b} q = λ i. record {
+  looked-at e {x} w h {b} q = λ i. record {
     some =
-        took (known .some) (cond (eqb code 0) (alone p work n) true) false refl (still (known .some) e)
-        (took (eqb code 0) (alone p work n) true refl (eq-eqb code 0 h) q) i;
+        took (known .some) (cond (wentOn step) (alone p work n) true) false refl (still (known .some) e)
+        (took (wentOn step) (alone p work n) true w (still x h) q) i;
     idle = known .idle;
   }
 
 -- what is known still was known before, and after a step the process moves on by itself
 
 module _ (p work : List ℕ) (n : ℕ) (known : Knowledge) where
-  pub still-some : (code : ℕ) → knownAfterStep p work n known code .some ≡ true → known .some ≡ true
+  pub still-some : (step : StepResult) → knownAfterStep p work n known step .some ≡ true → known .some ≡ true
   unfolding knownAfterStep
-  still-some code e = go (known .some) e
+  still-some step e = go (known .some) e
     where
-      go : (b : Bool) → cond b (cond (eqb code 0) (alone p work n) true) false ≡ true → b ≡ true
+      go : (b : Bool) → cond b (cond (wentOn step) (alone p work n) true) false ≡ true → b ≡ true
       go true i = refl
       go false i = i
 
-  pub still-alone : (code : ℕ) → code ≡ 0 → knownAfterStep p work n known code .some ≡ true → alone p work n ≡ true
+  pub still-alone : (step : StepResult) → wentOn step ≡ true → knownAfterStep p work n known step .some ≡ true
+      → alone p work n ≡ true
   unfolding knownAfterStep
-  still-alone code z e =
-      go (known .some) (sym (ap (λ (c : ℕ). cond (known .some) (cond (eqb c 0) (alone p work n) true) false) z) ∙ e)
+  still-alone step z e =
+      go (known .some) (sym (ap (λ (x : Bool). cond (known .some) (cond x (alone p work n) true) false) z) ∙ e)
     where
       go : (b : Bool) → cond b (alone p work n) false ≡ true → alone p work n ≡ true
       go true i = i
@@ -103,12 +109,12 @@ unfolding alone
 stand-alone p work n h e = passed-by _ _ _ refl (lt-leb 8 n h) e
 
 -- a process that moves by itself can be, and its readiness says so
-pub alone-so : (p work : List ℕ) (n : ℕ) → alone p work n ≡ true → (n < 8) × (readinessOp p (partOf work n) .kind ≡ 1)
+pub alone-so : (p work : List ℕ) (n : ℕ) → alone p work n ≡ true → (n < 8) × (readinessOp p (partOf work n) .kind ≡ Moves)
 unfolding alone
 alone-so p work n e = go (leb 8 n) refl e
   where
     go : (b : Bool) → leb 8 n ≡ b → cond b false (offersNothing p (partOf work n)) ≡ true
-        → (n < 8) × (readinessOp p (partOf work n) .kind ≡ 1)
+        → (n < 8) × (readinessOp p (partOf work n) .kind ≡ Moves)
     go true i h = absurd (true≢false (sym h))
     go false i h = (leb-false 8 n i, nothing-alone p (partOf work n) h)
 
@@ -118,13 +124,13 @@ ends-alone p work t n e h = alone-goes p work t n (alone-so p work n (sym e ∙ 
 
 -- after an entry with lines
 
-module _ (p work : List ℕ) (n : ℕ) (known : Knowledge) (code : ℕ) {b : Bool} (e : b ≡ oneLine code) where
-  pub one-entered : b ≡ true → {k : Knowledge} → k ≡ knownAfterStep p work n known 0
-      → k ≡ knownAfterEntry p work n known code
+module _ (p work : List ℕ) (n : ℕ) (known : Knowledge) (step : StepResult) {b : Bool} (e : b ≡ oneLine step) where
+  pub one-entered : b ≡ true → {k : Knowledge} → k ≡ knownAfterStep p work n known WentOn
+      → k ≡ knownAfterEntry p work n known step
   unfolding knownAfterEntry
   one-entered h q = took _ _ _ e h q
 
-  pub more-entered : b ≡ false → {k : Knowledge} → k ≡ nothingKnown → k ≡ knownAfterEntry p work n known code
+  pub more-entered : b ≡ false → {k : Knowledge} → k ≡ nothingKnown → k ≡ knownAfterEntry p work n known step
   unfolding knownAfterEntry
   more-entered h q = passed-by _ _ _ e h q
 
@@ -138,11 +144,11 @@ unfolding unlessChanged
 not-forgotten known h = passed-by _ _ _ refl h refl
 
 -- what is known after an entry with lines was known before it
-pub entered-so : (p work : List ℕ) (n : ℕ) (known : Knowledge) (code : ℕ) (changed : Bool)
-    → unlessChanged (knownAfterEntry p work n known code) changed .some ≡ true
-    → (changed ≡ false) × (oneLine code ≡ true) × (known .some ≡ true) × (alone p work n ≡ true)
-unfolding unlessChanged knownAfterEntry knownAfterStep nothingKnown
-entered-so p work n known code changed z = go changed (oneLine code) (known .some) z
+pub entered-so : (p work : List ℕ) (n : ℕ) (known : Knowledge) (step : StepResult) (changed : Bool)
+    → unlessChanged (knownAfterEntry p work n known step) changed .some ≡ true
+    → (changed ≡ false) × (oneLine step ≡ true) × (known .some ≡ true) × (alone p work n ≡ true)
+unfolding unlessChanged knownAfterEntry knownAfterStep nothingKnown wentOn
+entered-so p work n known step changed z = go changed (oneLine step) (known .some) z
   where
     go : (a b c : Bool)
         → cond a nothingKnown

@@ -6,10 +6,13 @@ use mathlib.Core.List.{List}
 use lib.ListN.{getD, length}
 use lib.Dec.{eqb, leb}
 use Rattle.run_values.specs.ValuesCode.{AfterStep, afterStep, wentOn, notRunning}
+use Rattle.run_values.specs.declared.steps.StepResult.{StepResult}
+use Rattle.run_values.specs.declared.steps.StepResult.the-variants.{WentOn, NotRunning}
 use Rattle.run_ops.specs.OpsCode.{stepOp}
 use Rattle.run_parts.specs.PartsCode.{partOf, onPart}
 use Rattle.run_ability.specs.declared.pairing.Pairing.{Pairing}
-use Rattle.run_ability.specs.PairingCode.{unpaired, kindNone, kindWaits}
+use Rattle.run_ability.specs.PairingCode.{waitKind, unpaired}
+use Rattle.run_ability.specs.declared.pairing.PairingKind.the-variants.{NoOffer}
 use Rattle.run_entry.specs.EntryCode.{offerAt}
 use Rattle.run_burst.specs.declared.burst.Burst.{Burst}
 use Rattle.run_burst.specs.declared.knowledge.Knowledge.{Knowledge}
@@ -26,12 +29,12 @@ stopsAt b w = record { burst = b; words = w }
 -- one step of process n, not running where no process can have that number, or where it is known not to be able to move
 unfoldable pub namedOp : List ℕ → List ℕ → ℕ → Knowledge → AfterStep
 namedOp p work n known =
-    cond (leb 8 n) (afterStep notRunning work)
-    (cond (isIdle known n) (afterStep notRunning work) (onPart work n (stepOp p (partOf work n))))
+    cond (leb 8 n) (afterStep NotRunning work)
+    (cond (isIdle known n) (afterStep NotRunning work) (onPart work n (stepOp p (partOf work n))))
 
 -- the entry is over with the step: the process went on, or it does not run and some other is known to be able to move
-unfoldable pub isDone : ℕ → Knowledge → Bool
-isDone code known = cond (eqb code wentOn) true (eqb code notRunning && known .some)
+unfoldable pub isDone : StepResult → Knowledge → Bool
+isDone step known = cond (wentOn step) true (notRunning step && known .some)
 
 -- the process that the entry before names
 unfoldable pub namedBefore : List ℕ → ℕ → ℕ
@@ -40,18 +43,19 @@ namedBefore schedule k = cond (eqb k 0) 0 (getD schedule (k - 1) 0)
 -- the named process does not wait, or no other is known or seen to be able to move
 unfoldable pub stopsHere : List ℕ → List ℕ → List ℕ → ℕ → Knowledge → Pairing → Bool
 stopsHere p work schedule k known m =
-    cond (eqb (m .kind) kindWaits) (cond (known .some) false (not (alone p work (namedBefore schedule k)))) true
+    cond (waitKind (m .kind)) (cond (known .some) false (not (alone p work (namedBefore schedule k)))) true
 
 unfoldable pub burstOp : List ℕ → List (List ℕ) → List ℕ → List ℕ → ℕ → Knowledge → ℕ → Stop
-burstOp p t schedule work k known zero = stopsAt (record { at = k; code = wentOn; offer = unpaired kindNone; known = known }) work
+burstOp p t schedule work k known zero =
+    stopsAt (record { at = k; step = WentOn; offer = unpaired NoOffer; known = known }) work
 burstOp p t schedule work k known (suc left) =
     let n = getD schedule k 0 in
     let d = namedOp p work n known in
-    let m = offerAt p (d .words) t n (d .code) in
-    cond (isDone (d .code) known)
-    (burstOp p t schedule (d .words) (k + 1) (knownAfterStep p (d .words) n known (d .code)) left)
+    let m = offerAt p (d .words) t n (d .result) in
+    cond (isDone (d .result) known)
+    (burstOp p t schedule (d .words) (k + 1) (knownAfterStep p (d .words) n known (d .result)) left)
     (cond (stopsHere p (d .words) schedule k known m)
-    (stopsAt (record { at = k; code = d .code; offer = m; known = known }) (d .words))
+    (stopsAt (record { at = k; step = d .result; offer = m; known = known }) (d .words))
     (burstOp p t schedule (d .words) (k + 1) (withIdle known n) left))
 
 -- a burst that starts at entry k with these words stops where one does that starts at entry k′ with those

@@ -3,12 +3,14 @@ use Prim.Native.Nat.{ℕ}
 use mathlib.Core.Bool.{Bool, true, false, cond, _&&_}
 use mathlib.Core.List.{List}
 use lib.ListN.{getD, set, replicate}
-use lib.Dec.{eqb, leb, ltb}
+use lib.Dec.{leb, ltb}
 use Rattle.run_parts.specs.PartsCode.{partOf}
 use Rattle.run_parts.specs.ReadinessCode.{offersNothing}
 use Rattle.run_entry.specs.EntryCode.{oneLine}
 use Rattle.run_burst.specs.declared.knowledge.Knowledge.{Knowledge}
 use Rattle.run_values.specs.ValuesCode.{wentOn}
+use Rattle.run_values.specs.declared.steps.StepResult.{StepResult}
+use Rattle.run_values.specs.declared.steps.StepResult.the-variants.{WentOn}
 
 unfoldable pub nothingKnown : Knowledge
 nothingKnown = record { some = false; idle = replicate 8 false }
@@ -28,14 +30,14 @@ withIdle known n = record { some = true; idle = marked (cond (known .some) (know
 unfoldable pub alone : List ℕ → List ℕ → ℕ → Bool
 alone p work n = cond (leb 8 n) false (offersNothing p (partOf work n))
 
--- what is known still after an entry with this code: after a step, only where the process moves on by itself
-unfoldable pub knownAfterStep : List ℕ → List ℕ → ℕ → Knowledge → ℕ → Knowledge
-knownAfterStep p work n known code =
-    record { some = cond (known .some) (cond (eqb code wentOn) (alone p work n) true) false; idle = known .idle }
+-- what is known still after an entry with this step: where the process went on, only if it moves on by itself
+unfoldable pub knownAfterStep : List ℕ → List ℕ → ℕ → Knowledge → StepResult → Knowledge
+knownAfterStep p work n known step =
+    record { some = cond (known .some) (cond (wentOn step) (alone p work n) true) false; idle = known .idle }
 
 -- an entry with one line is like a step in this; after any other nothing is known
-unfoldable pub knownAfterEntry : List ℕ → List ℕ → ℕ → Knowledge → ℕ → Knowledge
-knownAfterEntry p work n known code = cond (oneLine code) (knownAfterStep p work n known wentOn) nothingKnown
+unfoldable pub knownAfterEntry : List ℕ → List ℕ → ℕ → Knowledge → StepResult → Knowledge
+knownAfterEntry p work n known step = cond (oneLine step) (knownAfterStep p work n known WentOn) nothingKnown
 
 -- nor where a line changed a holder
 unfoldable pub unlessChanged : Knowledge → Bool → Knowledge

@@ -4,6 +4,7 @@ use mathlib.Core.Bool.{cond}
 use mathlib.Core.List.{List}
 use lib.ListN.{getD}
 use lib.Dec.{leb}
+use Rattle.run_values.specs.declared.steps.StepResult.{StepResult}
 use Rattle.run_ability.specs.EndingCode.{endingOp}
 use Rattle.run_ability.specs.declared.pairing.Pairing.{Pairing}
 use Rattle.run_single.specs.declared.result.Count.{Count}
@@ -24,9 +25,9 @@ pub record AfterTurn : Type 0 where
 abbrev pub afterTurn : Turn → List ℕ → List ℕ → AfterTurn
 afterTurn r t w = record { turn = r; trace = t; work = w }
 
-unfoldable pub namedEntryOp : List ℕ → List ℕ → List ℕ → List ℕ → ℕ → Count → ℕ → ℕ → Pairing → AfterEntry
-namedEntryOp p outcomes trace work room g n code m =
-    cond (leb 8 n) (afterEntry (idleAt g) trace work) (entryOp p outcomes trace work room g n code m)
+unfoldable pub namedEntryOp : List ℕ → List ℕ → List ℕ → List ℕ → ℕ → Count → ℕ → StepResult → Pairing → AfterEntry
+namedEntryOp p outcomes trace work room g n step m =
+    cond (leb 8 n) (afterEntry (idleAt g) trace work) (entryOp p outcomes trace work room g n step m)
 
 -- the end that an entry gives, 0 where the run goes on, and what is known after it
 unfoldable pub endAfter : Progress → List ℕ → List ℕ → List (List ℕ) → ℕ
@@ -34,30 +35,31 @@ endAfter Full p work t = 3
 endAfter Taken p work t = 0
 endAfter Unable p work t = endingOp p work t 8
 
-unfoldable pub knownAfter : Progress → List ℕ → List ℕ → ℕ → ℕ → Knowledge → Knowledge
-knownAfter Full p work n code known = nothingKnown
-knownAfter Taken p work n code known = knownAfterEntry p work n known code
-knownAfter Unable p work n code known = withIdle known n
+unfoldable pub knownAfter : Progress → List ℕ → List ℕ → ℕ → StepResult → Knowledge → Knowledge
+knownAfter Full p work n step known = nothingKnown
+knownAfter Taken p work n step known = knownAfterEntry p work n known step
+knownAfter Unable p work n step known = withIdle known n
 
 -- what an entry means for the run
-unfoldable pub turnBy : List ℕ → List (List ℕ) → ℕ → ℕ → Knowledge → AfterEntry → AfterTurn
-turnBy p t n code known c =
+unfoldable pub turnBy : List ℕ → List (List ℕ) → ℕ → StepResult → Knowledge → AfterEntry → AfterTurn
+turnBy p t n step known c =
     afterTurn
     (record {
       end = endAfter (c .result .progress) p (c .work) t;
       lines = c .result .lines;
       used = c .result .used;
-      known = knownAfter (c .result .progress) p (c .work) n code known;
+      known = knownAfter (c .result .progress) p (c .work) n step known;
     })
     (c .trace)
     (c .work)
 
-unfoldable pub turnOp : List ℕ → List ℕ → List ℕ → List ℕ → ℕ → List (List ℕ) → Count → ℕ → ℕ → Pairing → Knowledge
+unfoldable pub turnOp : List ℕ → List ℕ → List ℕ → List ℕ → ℕ → List (List ℕ) → Count → ℕ → StepResult → Pairing → Knowledge
     → AfterTurn
-turnOp p outcomes trace work room t g n code m known =
-    turnBy p t n code known (namedEntryOp p outcomes trace work room g n code m)
+turnOp p outcomes trace work room t g n step m known =
+    turnBy p t n step known (namedEntryOp p outcomes trace work room g n step m)
 
 -- the entry at which a burst has stopped
 unfoldable pub turnAt : List ℕ → List ℕ → List ℕ → List ℕ → List ℕ → ℕ → List (List ℕ) → ℕ → ℕ → Burst → AfterTurn
 turnAt p schedule outcomes trace work room t lines used b =
-    turnOp p outcomes trace work room t (record { entry = b .at; lines = lines; used = used }) (getD schedule (b .at) 0) (b .code) (b .offer) (b .known)
+    turnOp p outcomes trace work room t (record { entry = b .at; lines = lines; used = used }) (getD schedule (b .at) 0)
+    (b .step) (b .offer) (b .known)

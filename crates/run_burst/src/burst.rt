@@ -8,37 +8,38 @@ ghost use Rattle.run_values.specs.ValuesCode.{afterStep};
 ghost use Rattle.run_burst.specs.KnowledgeCode.{alone, knownAfterStep};
 ghost use Rattle.run_burst.specs.BurstCode.{stopsAt, namedOp, isDone, namedBefore, stopsHere, burstOp};
 use super::knowledge::Knowledge;
-use run_ability::pairing::NO_OFFER;
 use run_ability::pairing::Pairing;
-use run_ability::pairing::WAITS;
+use run_ability::pairing::PairingKind;
 use run_ability::pairing::no_meeting;
+use run_ability::pairing::waits;
 use run_ability::reads::alone_of;
 use run_entry::entry::offer_at;
 use run_parts::part::step_process;
 use run_store::references::ProcessNo;
-use run_values::codes::NOT_RUNNING;
-use run_values::codes::WENT_ON;
+use run_values::steps::StepResult;
+use run_values::steps::not_running;
+use run_values::steps::went_on;
 
 // The first entry that needs more, with what its step answered, what its offer comes to, and what is known before it;
-// `WENT_ON` where the schedule is used up.
+// `WentOn` where the schedule is used up.
 pub struct Burst {
     pub at: usize,
-    pub code: u32,
+    pub step: StepResult,
     pub offer: Pairing,
     pub known: Knowledge,
 }
 
-// One step of the process that the byte names; `NOT_RUNNING` where no process can have that number, or where it is
+// One step of the process that the byte names; `NotRunning` where no process can have that number, or where it is
 // known not to be able to move.
-fn step_named(p: &[u16], start: usize, work: &mut [u32], n: u8, known: Knowledge) -> u32
+fn step_named(p: &[u16], start: usize, work: &mut [u32], n: u8, known: Knowledge) -> StepResult
     requires { ⌜ (start ≡ 2 + 20 * methods (now p)) × (8192 ≤ length (now work)) ⌝ }
     ensures { λ r. ⌜ afterStep r (now (work .exit)) ≡ namedOp (now (p .entry)) (now (work .entry)) n known ⌝ }
 {
     if 8 <= n {
-        return NOT_RUNNING;
+        return StepResult::NotRunning;
     }
     if known.is_idle(n) {
-        return NOT_RUNNING;
+        return StepResult::NotRunning;
     }
     step_process(p, start, work, ProcessNo(n as u16))
 }
@@ -61,15 +62,15 @@ pub fn known_after_step(
     work: &[u32],
     n: u8,
     mut known: Knowledge,
-    code: u32,
+    step: StepResult,
 ) -> Knowledge
     requires { ⌜ (start ≡ 2 + 20 * methods (now p)) × (8192 ≤ length (now work)) ⌝ }
-    ensures { λ r. ⌜ r ≡ knownAfterStep (now (p .entry)) (now (work .entry)) n known code ⌝ }
+    ensures { λ r. ⌜ r ≡ knownAfterStep (now (p .entry)) (now (work .entry)) n known step ⌝ }
 {
     if !known.some {
         return known;
     }
-    if code != WENT_ON {
+    if !went_on(step) {
         return known;
     }
     known.some = moves_alone(p, start, work, n);
@@ -78,13 +79,13 @@ pub fn known_after_step(
 
 // The entry is over with the step: the process went on, or it does not run and some other is known to be able to
 // move.
-fn is_done(code: u32, known: Knowledge) -> bool
-    ensures { λ r. ⌜ r ≡ isDone code known ⌝ }
+fn is_done(step: StepResult, known: Knowledge) -> bool
+    ensures { λ r. ⌜ r ≡ isDone step known ⌝ }
 {
-    if code == WENT_ON {
+    if went_on(step) {
         return true;
     }
-    (code == NOT_RUNNING) & known.some
+    not_running(step) & known.some
 }
 
 // The process that the entry before names; 0 before the first.
@@ -112,7 +113,8 @@ fn stops_here(
     requires { ⌜ (start ≡ 2 + 20 * methods (now p)) × (8192 ≤ length (now work)) × (k < length (now schedule)) ⌝ }
     ensures { λ r. ⌜ r ≡ stopsHere (now (p .entry)) (now (work .entry)) (now (schedule .entry)) k known m ⌝ }
 {
-    if m.kind != WAITS {
+    let kind = m.kind;
+    if !waits(kind) {
         return true;
     }
     if known.some {
@@ -138,15 +140,15 @@ pub fn silent_entries(
     let mut sure = known;
     while k < schedule.len() {
         let n = schedule[k];
-        let code = step_named(p, start, work, n, sure);
-        if is_done(code, sure) {
-            sure = known_after_step(p, start, work, n, sure, code);
+        let step = step_named(p, start, work, n, sure);
+        if is_done(step, sure) {
+            sure = known_after_step(p, start, work, n, sure, step);
         } else {
-            let m = offer_at(p, start, work, t, n, code);
+            let m = offer_at(p, start, work, t, n, step);
             if stops_here(p, start, work, schedule, k, sure, m) {
                 return Burst {
                     at: k,
-                    code: code,
+                    step: step,
                     offer: m,
                     known: sure,
                 };
@@ -157,8 +159,8 @@ pub fn silent_entries(
     }
     Burst {
         at: k,
-        code: WENT_ON,
-        offer: no_meeting(NO_OFFER),
+        step: StepResult::WentOn,
+        offer: no_meeting(PairingKind::NoOffer),
         known: sure,
     }
 }

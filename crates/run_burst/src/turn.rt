@@ -19,7 +19,7 @@ use run_single::result::EntryResult;
 use run_single::result::Progress;
 use run_single::result::idle;
 use run_store::references::ProcessNo;
-use run_values::codes::WENT_ON;
+use run_values::steps::StepResult;
 
 // End 0 is a run that goes on; then the lines written, the outcomes used, and what is known of the processes.
 pub struct Turn {
@@ -39,11 +39,11 @@ fn named_entry(
     room: usize,
     g: Count,
     n: u8,
-    code: u32,
+    step: StepResult,
     m: Pairing,
 ) -> EntryResult
     requires { ⌜ (start ≡ 2 + 20 * methods (now p)) × (8192 ≤ length (now work)) × (g .lines < 16000000) × (m .sender .0 < 8) × (m .receiver .0 < 8) ⌝ }
-    ensures { λ r. ⌜ afterEntry r (now (trace .exit)) (now (work .exit)) ≡ namedEntryOp (now (p .entry)) (now (outcomes .entry)) (now (trace .entry)) (now (work .entry)) room g n code m ⌝ }
+    ensures { λ r. ⌜ afterEntry r (now (trace .exit)) (now (work .exit)) ≡ namedEntryOp (now (p .entry)) (now (outcomes .entry)) (now (trace .entry)) (now (work .entry)) room g n step m ⌝ }
 {
     if 8 <= n {
         return idle(g);
@@ -57,7 +57,7 @@ fn named_entry(
         room,
         g,
         ProcessNo(n as u16),
-        code,
+        step,
         m,
     )
 }
@@ -70,13 +70,13 @@ fn known_after_entry(
     work: &[u32],
     n: u8,
     known: Knowledge,
-    code: u32,
+    step: StepResult,
 ) -> Knowledge
     requires { ⌜ (start ≡ 2 + 20 * methods (now p)) × (8192 ≤ length (now work)) ⌝ }
-    ensures { λ r. ⌜ r ≡ knownAfterEntry (now (p .entry)) (now (work .entry)) n known code ⌝ }
+    ensures { λ r. ⌜ r ≡ knownAfterEntry (now (p .entry)) (now (work .entry)) n known step ⌝ }
 {
-    if one_line(code) {
-        return known_after_step(p, start, work, n, known, WENT_ON);
+    if one_line(step) {
+        return known_after_step(p, start, work, n, known, StepResult::WentOn);
     }
     nothing_known()
 }
@@ -93,14 +93,14 @@ fn take_turn(
     t: &[[u16; 2]; 16],
     g: Count,
     n: u8,
-    code: u32,
+    step: StepResult,
     offer: Pairing,
     known: Knowledge,
 ) -> Turn
     requires { ⌜ (start ≡ 2 + 20 * methods (now p)) × (8192 ≤ length (now work)) × (g .lines < 16000000) × (offer .sender .0 < 8) × (offer .receiver .0 < 8) ⌝ }
-    ensures { λ r. ⌜ afterTurn r (now (trace .exit)) (now (work .exit)) ≡ turnOp (now (p .entry)) (now (outcomes .entry)) (now (trace .entry)) (now (work .entry)) room (now (t .entry)) g n code offer known ⌝ }
+    ensures { λ r. ⌜ afterTurn r (now (trace .exit)) (now (work .exit)) ≡ turnOp (now (p .entry)) (now (outcomes .entry)) (now (trace .entry)) (now (work .entry)) room (now (t .entry)) g n step offer known ⌝ }
 {
-    let m = named_entry(p, start, outcomes, trace, work, room, g, n, code, offer);
+    let m = named_entry(p, start, outcomes, trace, work, room, g, n, step, offer);
     let progress = m.progress;
     match progress {
         Progress::Full => Turn {
@@ -113,7 +113,7 @@ fn take_turn(
             end: 0,
             lines: m.lines,
             used: m.used,
-            known: known_after_entry(p, start, work, n, known, code),
+            known: known_after_entry(p, start, work, n, known, step),
         },
         Progress::Unable => Turn {
             end: ending(p, start, work, t),
@@ -149,6 +149,7 @@ pub fn turn_at(
         used: used,
     };
     let n = schedule[at];
+    let step = b.step;
     let offer = b.offer;
     let known = b.known;
     take_turn(
@@ -161,7 +162,7 @@ pub fn turn_at(
         t,
         g,
         n,
-        b.code,
+        step,
         offer,
         known,
     )

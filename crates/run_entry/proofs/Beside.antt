@@ -2,7 +2,7 @@
 use Prim.Native.Nat.{ℕ, _+_, _%_, _≤_, _<_}
 use mathlib.Core.Path.{_≡_, refl, sym, _∙_, ap}
 use mathlib.Core.Logic.{_≢_}
-use mathlib.Core.Bool.{Bool, true, false, cond, not, _&&_, _||_, true≢false}
+use mathlib.Core.Bool.{Bool, true, false, cond, true≢false}
 use mathlib.Core.List.{List}
 use native.Mathlib.Omega.{arith}
 use lib.ListN.{getD, set, length, length-set}
@@ -14,7 +14,11 @@ use Rattle.run_ability.specs.declared.pairing.Pairing.{Pairing}
 use Rattle.run_single.specs.declared.result.Count.{Count}
 use Rattle.run_single.specs.ResultCode.{AfterEntry, afterEntry, fullAt}
 use Rattle.run_single.specs.SingleCode.{inPart, concludedAt, countedWords, recorded, singleOp}
-use Rattle.run_entry.specs.EntryCode.{oneLine, isOffer, entryOp}
+use Rattle.run_values.specs.declared.steps.StepResult.{StepResult}
+use Rattle.run_events.specs.declared.conclude.Single.{Single}
+use Rattle.run_entry.specs.declared.entry.Rest.{Rest}
+use Rattle.run_entry.specs.declared.entry.Rest.the-variants.{Nothing, Fork, Offer, Line}
+use Rattle.run_entry.specs.EntryCode.{restOf, restOp, entryOp, isLine, oneLine}
 
 -- the counts stand in front of the parts
 
@@ -40,30 +44,15 @@ length-counted w kind = go (eqb kind 1) (eqb kind 2)
     go false true = length-set w 2 ((getD w 2 0 + 1) % 4294967296)
     go false false = refl
 
-module _ (p outcomes trace work : List ℕ) (room : ℕ) (g : Count) (n code : ℕ) (m : Pairing)
-    (long : 8192 ≤ length work) (low : n < 8) where
-  single-is : oneLine code ≡ true
-      → entryOp p outcomes trace work room g n code m ≡ singleOp p outcomes trace work room g n (code % 65536)
-  unfolding oneLine entryOp isOffer
-  single-is e = go (eqb code 1) (eqb code 114) (eqb code 115) (eqb code 116) _ _ _ e
-    where
-      go : (a b c d : Bool) (u v x : AfterEntry) {y : AfterEntry} → (not a && (not b && (not c && not d))) ≡ true
-          → cond a u (cond b v (cond (c || d) x y)) ≡ y
-      go true b c d u v x e = absurd (true≢false (sym e))
-      go false true c d u v x e = absurd (true≢false (sym e))
-      go false false true d u v x e = absurd (true≢false (sym e))
-      go false false false true u v x e = absurd (true≢false (sym e))
-      go false false false false u v x e = refl
-
-  pub beside : oneLine code ≡ true → length (entryOp p outcomes trace work room g n code m .work) ≡ length work
-      → (q : ℕ) → q < 8 → q ≢ n → partOf (entryOp p outcomes trace work room g n code m .work) q ≡ partOf work q
+module _ (p outcomes trace work : List ℕ) (room : ℕ) (g : Count) (n : ℕ) (step : StepResult) (m : Pairing)
+    (long : 8192 ≤ length work) (low : n < 8) (q : ℕ) (h : q < 8) (ne : q ≢ n) where
+  single-beside : (does : Single) → length (singleOp p outcomes trace work room g n does .work) ≡ length work
+      → partOf (singleOp p outcomes trace work room g n does .work) q ≡ partOf work q
   unfolding singleOp recorded concludedAt inPart
-  beside e l q h ne =
-      ap (λ (c : AfterEntry). partOf (c .work) q) (single-is e)
-      ∙ go (leb room (g .lines)) (sym (ap (λ (c : AfterEntry). length (c .work)) (single-is e)) ∙ l)
+  single-beside does = go (leb room (g .lines))
     where
       done : AfterEvent
-      done = concludedAt p work n (code % 65536) outcomes (g .used)
+      done = concludedAt p work n does outcomes (g .used)
 
       go : (b : Bool) → length (cond b (afterEntry (fullAt g) trace work) (recorded trace g n done) .work) ≡ length work
           → partOf (cond b (afterEntry (fullAt g) trace work) (recorded trace g n done) .work) q ≡ partOf work q
@@ -72,3 +61,15 @@ module _ (p outcomes trace work : List ℕ) (room : ℕ) (g : Count) (n code : �
           part-counted (done .words) (done .event .kind) q
           ∙ part-other work long n q _ low h ne
           (part-kept work long n _ low (sym (length-counted (done .words) (done .event .kind)) ∙ l))
+
+  pub beside : oneLine step ≡ true → length (entryOp p outcomes trace work room g n step m .work) ≡ length work
+      → partOf (entryOp p outcomes trace work room g n step m .work) q ≡ partOf work q
+  unfolding entryOp restOp oneLine isLine
+  beside = go (restOf step)
+    where
+      go : (r : Rest) → isLine r ≡ true → length (restOp p outcomes trace work room g n r m .work) ≡ length work
+          → partOf (restOp p outcomes trace work room g n r m .work) q ≡ partOf work q
+      go Nothing e l = absurd (true≢false (sym e))
+      go Fork e l = absurd (true≢false (sym e))
+      go Offer e l = absurd (true≢false (sym e))
+      go (Line does) e l = single-beside does l

@@ -39,6 +39,7 @@ use Rattle.run_ability.specs.ReadsCode.{argumentIn, emptyIn}
 use Rattle.run_single.specs.ResultCode.{AfterEntry, afterEntry, takenTo}
 use Rattle.run_single.specs.SingleCode.{singleOp}
 use Rattle.run_transfer.specs.ForkLinesCode.{forkWritten}
+use Rattle.run_events.specs.declared.conclude.Single.the-variants.{Fault}
 use Rattle.run_entry.specs.ForkCode.{forkDone, startOp, tryOp, forkOp}
 use Rattle.run_single.proofs.Here.{Here}
 use Rattle.run_single.proofs.Singly.{sound, laid, count, took, full, tried, part-now, fault-law}
@@ -240,7 +241,7 @@ module _ {p outcomes : List ℕ} {s : State} {t0 : List ℕ} {room : ℕ} (here 
           (cond (j t) (faults 20) (cond (l t) (forks m (given params) (passedBy params f ∷ fs)) (faults 23))) stuck)
 
       stopped-by : (x : ℕ) → IsFault x → actOf p outcomes s n ≡ faults x
-          → singleOp p outcomes lines store room (count here rest k n) n x ≡ tries
+          → singleOp p outcomes lines store room (count here rest k n) n (Fault x) ≡ tries
           (applied p outcomes k s n (actOf p outcomes s n))
       stopped-by x listed i =
           fault-law here rest k n live x listed
@@ -248,8 +249,8 @@ module _ {p outcomes : List ℕ} {s : State} {t0 : List ℕ} {room : ℕ} (here 
 
       free : (x y : Bool) → leb params (length (f .pending)) ≡ true → any isEmpty (take params (f .pending)) ≡ x
           → ltb (length (c .processes)) 8 ≡ y
-          → cond x (singleOp p outcomes lines store room (count here rest k n) n 20)
-          (cond (not y) (singleOp p outcomes lines store room (count here rest k n) n 23)
+          → cond x (singleOp p outcomes lines store room (count here rest k n) n (Fault 20))
+          (cond (not y) (singleOp p outcomes lines store room (count here rest k n) n (Fault 23))
           (startOp p lines store room (count here rest k n) n (length (c .processes)) m params))
           ≡ tries (applied p outcomes k s n (actOf p outcomes s n))
       free true y i j l = stopped-by 20 (inl (omega arith, omega arith)) (doing true true y i j l)
@@ -270,9 +271,9 @@ module _ {p outcomes : List ℕ} {s : State} {t0 : List ℕ} {room : ℕ} (here 
           → left ≡ tries (applied p outcomes k s n (actOf p outcomes s n))
       enough true i =
           (λ t. cond (reads-empty (leb-true params (length (f .pending)) i) t)
-          (singleOp p outcomes lines store room (count here rest k n) n 20)
+          (singleOp p outcomes lines store room (count here rest k n) n (Fault 20))
           (cond (full-house (ltb (length (c .processes)) 8) refl t)
-          (singleOp p outcomes lines store room (count here rest k n) n 23)
+          (singleOp p outcomes lines store room (count here rest k n) n (Fault 23))
           (startOp p lines store room (count here rest k n) n (processes-word c rest t) m params)))
           ∙ free (any isEmpty (take params (f .pending))) (ltb (length (c .processes)) 8) i refl refl
       enough false i =

@@ -35,7 +35,7 @@ use Rattle.run_ops.proofs.Meaning.{act-one, act-two, act-short, taken-by, scene
 use Rattle.run_parts.specs.PartsCode.{partOf}
 use Rattle.run_holders.proofs.Holding.{Holding}
 use Rattle.run_parts.specs.declared.readiness.Readiness.{Readiness}
-use Rattle.run_parts.specs.ReadinessCode.{readinessOp, offerOf}
+use Rattle.run_parts.specs.ReadinessCode.{sendKind, offerKind, readinessOp, offerOf}
 use Rattle.run_parts.proofs.Returns.{offers-send, offers-receive}
 use Rattle.run_parts.proofs.Standing.{Stands}
 use Rattle.run_ability.specs.PairingCode.{pairingOp}
@@ -44,6 +44,9 @@ use Rattle.run_ability.specs.PartnerCode as code
 use Rattle.run_ability.proofs.Able.{process-sound, stand-at, found, partner-law, met-with, found-partner}
 use Rattle.run_single.specs.ResultCode.{AfterEntry, afterEntry, idleAt}
 use Rattle.run_single.specs.SingleCode.{singleOp}
+use Rattle.run_values.specs.declared.steps.StepResult.{StepResult}
+use Rattle.run_values.specs.declared.steps.StepResult.the-variants.{AtSend, AtRecv}
+use Rattle.run_events.specs.declared.conclude.Single.the-variants.{Fault}
 use Rattle.run_entry.specs.MeetingCode.{exchangeOp, meetBy}
 use Rattle.run_single.proofs.Here.{Here}
 use Rattle.run_single.proofs.Singly.{sound, count, tried, part-now, fault-law}
@@ -125,7 +128,7 @@ module _ {p outcomes : List ℕ} {s : State} {t0 : List ℕ} {room : ℕ} (here 
       → Stands (offers r) (readinessOp p (partOf store q)) → joins n o q r ≡ some e
       → Typed p (meetIn (tableMachine p outcomes) k s e .config)
       → pairOp p lines store room (count here rest k n) n st q ≡ tries (meetIn (tableMachine p outcomes) k s e)
-  unfolding joins pairOp pairBy
+  unfolding joins pairOp pairBy sendKind
   pair-law q (sends i d v hs) (sends i′ d′ v′ hs′) e st x y near two h h′ j after = absurd (Option·none-ne-some e j)
   pair-law q (sends i d v hs) (receives i′ d′ hs′) e st x y near two h h′ j after =
       let w = cond-some (eqb i i′ && Bool·beq d (not d′)) _ e j in
@@ -135,7 +138,7 @@ module _ {p outcomes : List ℕ} {s : State} {t0 : List ℕ} {room : ℕ} (here 
       ∙ ap (λ (m : Meeting). tries (meetIn (tableMachine p outcomes) k s m)) (w .1)
   pair-law q (receives i d hs) (sends i′ d′ v hs′) e st x y near two h h′ j after =
       let w = cond-some (eqb i i′ && Bool·beq d (not d′)) _ e j in
-      ap₂ (λ (a b : Readiness). cond (eqb (a .kind) 2)
+      ap₂ (λ (a b : Readiness). cond (sendKind (a .kind))
       (exchangeOp lines store room (count here rest k n) n q (a .end) (a .value))
       (exchangeOp lines store room (count here rest k n) q n (b .end) (b .value))) h h′
       ∙ exchange-law here rest k n (y .live) (x .live) two i′ i d′ d v hs′ hs (y .offer) (x .offer)
@@ -212,7 +215,7 @@ module _ {p outcomes : List ℕ} {s : State} {t0 : List ℕ} {room : ℕ} (here 
     module _ {f : Frame} {fs : List Frame} (live : Running p c n f fs) where
       stands-law : (a : Act) (st : Readiness) → actOf p outcomes s n ≡ a → Offering a → a ≢ stuck → Stands a st
           → standsOp p outcomes lines store room t (count here rest k n) n st ≡ went a
-      unfolding standsOp movesIn judged
+      unfolding standsOp offerKind movesIn judged
       stands-law idle st does o going h = absurd o
       stands-law stuck st does o going h = absurd (going refl)
       stands-law (faults m) st does o going h =
@@ -224,14 +227,14 @@ module _ {p outcomes : List ℕ} {s : State} {t0 : List ℕ} {room : ℕ} (here 
       stands-law (makes x gs) st does o going h = absurd o
       stands-law (forks m args gs) st does o going h = absurd o
       stands-law (offers (sends i d v hs)) st does o going h =
-          ap (λ (b : Bool). cond b (singleOp p outcomes lines store room (count here rest k n) n 20)
+          ap (λ (b : Bool). cond b (singleOp p outcomes lines store room (count here rest k n) n (Fault 20))
           (offerOp p outcomes lines store room t (count here rest k n) n st))
-          (ap (λ (x : Readiness). ltb (x .kind) 2) h)
+          (ap (λ (x : Readiness). not (offerKind (x .kind))) h)
           ∙ offer-law live (sends i d v hs) st does h
       stands-law (offers (receives i d hs)) st does o going h =
-          ap (λ (b : Bool). cond b (singleOp p outcomes lines store room (count here rest k n) n 20)
+          ap (λ (b : Bool). cond b (singleOp p outcomes lines store room (count here rest k n) n (Fault 20))
           (offerOp p outcomes lines store room t (count here rest k n) n st))
-          (ap (λ (x : Readiness). ltb (x .kind) 2) h)
+          (ap (λ (x : Readiness). not (offerKind (x .kind))) h)
           ∙ offer-law live (receives i d hs) st does h
 
       offering : (b : Bool) (a : Act) → Offering a → Offering (cond b (faults 20) a)
@@ -296,12 +299,12 @@ module _ {p outcomes : List ℕ} {s : State} {t0 : List ℕ} {room : ℕ} (here 
       unfolding actOf byStatus atFrames
       act-here = ap (λ (pr : Process). byStatus (pr .status) (atFrames p outcomes s (pr .frames))) (live .stands)
 
-      pub meet-law : (code : ℕ) → Offering (atFrame p outcomes s f fs) → actOf p outcomes s n ≢ stuck → n < 8
-          → offerOf (partOf store n) code ≡ readinessOp p (partOf store n)
-          → meetBy p outcomes lines store room (count here rest k n) n (pairingOp p store t n code) ≡ went
+      pub meet-law : (step : StepResult) → Offering (atFrame p outcomes s f fs) → actOf p outcomes s n ≢ stuck → n < 8
+          → offerOf (partOf store n) step ≡ readinessOp p (partOf store n)
+          → meetBy p outcomes lines store room (count here rest k n) n (pairingOp p store t n step) ≡ went
           (actOf p outcomes s n)
       unfolding pairingOp meetOp
-      meet-law code o going near e =
+      meet-law step o going near e =
           meet-same p outcomes lines store room t (count here rest k n) n e
           ∙ stands-law (actOf p outcomes s n) (readinessOp p (partOf store n)) refl (subst Offering (sym act-here) o)
           going
@@ -319,13 +322,13 @@ module _ {p outcomes : List ℕ} {s : State} {t0 : List ℕ} {room : ℕ} (here 
       op-here e = ap (λ (h : Head). opAt p (h .place)) head-here ∙ e
 
       pub send-law : opAt p (f .place) ≡ 15 → actOf p outcomes s n ≢ stuck → n < 8
-          → meetBy p outcomes lines store room (count here rest k n) n (pairingOp p store t n 115) ≡ went
+          → meetBy p outcomes lines store room (count here rest k n) n (pairingOp p store t n AtSend) ≡ went
           (actOf p outcomes s n)
       send-law e going near =
-          meet-law 115 (send-offering e) going near (offers-send p (partOf store n) runs-here (op-here e))
+          meet-law AtSend (send-offering e) going near (offers-send p (partOf store n) runs-here (op-here e))
 
       pub receive-law : opAt p (f .place) ≡ 16 → actOf p outcomes s n ≢ stuck → n < 8
-          → meetBy p outcomes lines store room (count here rest k n) n (pairingOp p store t n 116) ≡ went
+          → meetBy p outcomes lines store room (count here rest k n) n (pairingOp p store t n AtRecv) ≡ went
           (actOf p outcomes s n)
       receive-law e going near =
-          meet-law 116 (receive-offering e) going near (offers-receive p (partOf store n) runs-here (op-here e))
+          meet-law AtRecv (receive-offering e) going near (offers-receive p (partOf store n) runs-here (op-here e))

@@ -1,7 +1,7 @@
 -- An entry at SEND or RECV, said by the partner in place of what the offer comes to.
 use Prim.Native.Nat.{ℕ, _%_, _<_}
 use mathlib.Core.Path.{_≡_, refl, sym, _∙_, ap}
-use mathlib.Core.Bool.{Bool, true, false, cond, _&&_, _||_, true≢false}
+use mathlib.Core.Bool.{Bool, true, false, cond, not, _&&_, _||_, true≢false}
 use mathlib.Core.List.{List}
 use native.Mathlib.Omega.{arith}
 use lib.Dec.{eqb, leb, ltb}
@@ -10,20 +10,27 @@ use Rattle.lists.proofs.Tests.{cond-both, cond-each}
 use Rattle.run_parts.specs.PartsCode.{partOf}
 use Rattle.run_holders.specs.HoldersCode.{holderIn}
 use Rattle.run_parts.specs.declared.readiness.Readiness.{Readiness}
-use Rattle.run_parts.specs.ReadinessCode.{readinessOp, offerOf, meetsOp}
+use Rattle.run_parts.specs.ReadinessCode.{overKind, sendKind, offerKind, readinessOp, offerOf, meetsOp}
 use Rattle.run_ability.specs.declared.pairing.Pairing.{Pairing}
 use Rattle.run_ability.specs.PartnerCode.{oppositeOf, Partner, waits, gone, ready, isNoOther, readyOp, partnerOp}
-use Rattle.run_ability.specs.PairingCode.{unpaired, meetingOf, pairedOf, pairWith, pairingOf, pairingOp}
+use Rattle.run_ability.specs.PairingCode.{waitKind, unpaired, meetingOf, pairedOf, pairWith, pairingOf, pairingOp}
 use Rattle.run_single.specs.declared.result.Count.{Count}
 use Rattle.run_single.specs.ResultCode.{AfterEntry, afterEntry, idleAt}
 use Rattle.run_single.specs.SingleCode.{singleOp}
-use Rattle.run_entry.specs.ForkCode.{forkOp}
-use Rattle.run_entry.specs.MeetingCode.{exchangeOp, meetBy}
-use Rattle.run_entry.specs.EntryCode.{isOffer, offerAt, entryOp}
+use Rattle.run_values.specs.ValuesCode.{notRunning, isOffer}
+use Rattle.run_values.specs.declared.steps.StepResult.{StepResult}
+use Rattle.run_values.specs.declared.steps.StepResult.the-variants.{WentOn, NotRunning, AtNewQ, AtNewC, AtGate, AtMeas, AtLastRet, AtFork, AtSend, AtRecv, Empty, FrameBeyond8, OutOfRange}
+use Rattle.run_events.specs.declared.conclude.Single.the-variants.{Fault}
+use Rattle.run_ability.specs.declared.pairing.PairingKind.{PairingKind}
+use Rattle.run_ability.specs.declared.pairing.PairingKind.the-variants.{NoOffer, Waits, PartnerGone}
+use Rattle.run_entry.specs.declared.entry.Rest.{Rest}
+use Rattle.run_entry.specs.declared.entry.Rest.the-variants.{Nothing, Fork, Offer, Line}
+use Rattle.run_entry.specs.MeetingCode.{exchangeOp, meetAs, meetBy}
+use Rattle.run_entry.specs.EntryCode.{restOf, offerAt, restOp, entryOp}
 
 unfoldable pub pairBy : List ℕ → List ℕ → ℕ → Count → ℕ → Readiness → ℕ → Readiness → AfterEntry
 pairBy trace work room g n a q b =
-    cond (eqb (a .kind) 2) (exchangeOp trace work room g n q (a .end) (a .value))
+    cond (sendKind (a .kind)) (exchangeOp trace work room g n q (a .end) (a .value))
     (exchangeOp trace work room g q n (b .end) (b .value))
 
 unfoldable pub pairOp : List ℕ → List ℕ → List ℕ → ℕ → Count → ℕ → Readiness → ℕ → AfterEntry
@@ -31,7 +38,7 @@ pairOp p trace work room g n a q = pairBy trace work room g n a q (readinessOp p
 
 unfoldable pub joinOp : List ℕ → List ℕ → List ℕ → List ℕ → ℕ → Count → ℕ → Readiness → Partner → AfterEntry
 joinOp p outcomes trace work room g n a waits = afterEntry (idleAt g) trace work
-joinOp p outcomes trace work room g n a gone = singleOp p outcomes trace work room g n 33
+joinOp p outcomes trace work room g n a gone = singleOp p outcomes trace work room g n (Fault 33)
 joinOp p outcomes trace work room g n a (ready q) = pairOp p trace work room g n a q
 
 unfoldable pub offerOp : List ℕ → List ℕ → List ℕ → List ℕ → ℕ → List (List ℕ) → Count → ℕ → Readiness → AfterEntry
@@ -39,7 +46,8 @@ offerOp p outcomes trace work room t g n a = joinOp p outcomes trace work room g
 
 unfoldable pub standsOp : List ℕ → List ℕ → List ℕ → List ℕ → ℕ → List (List ℕ) → Count → ℕ → Readiness → AfterEntry
 standsOp p outcomes trace work room t g n a =
-    cond (ltb (a .kind) 2) (singleOp p outcomes trace work room g n 20) (offerOp p outcomes trace work room t g n a)
+    cond (not (offerKind (a .kind))) (singleOp p outcomes trace work room g n (Fault 20))
+    (offerOp p outcomes trace work room t g n a)
 
 unfoldable pub meetOp : List ℕ → List ℕ → List ℕ → List ℕ → ℕ → List (List ℕ) → Count → ℕ → AfterEntry
 meetOp p outcomes trace work room t g n = standsOp p outcomes trace work room t g n (readinessOp p (partOf work n))
@@ -49,8 +57,8 @@ module _ (p outcomes trace work : List ℕ) (room : ℕ) (t : List (List ℕ)) (
   meets = meetBy p outcomes trace work room g n
 
   paired-same : (a : Readiness) (q : ℕ) (b : Readiness) → meets (pairedOf n a q b) ≡ pairBy trace work room g n a q b
-  unfolding meetBy pairedOf pairBy
-  paired-same a q b = go (eqb (a .kind) 2)
+  unfolding meetBy meetAs pairedOf pairBy
+  paired-same a q b = go (sendKind (a .kind))
     where
       go : (u : Bool) → meets (cond u (meetingOf n q (a .end) (a .value)) (meetingOf q n (b .end) (b .value)))
           ≡ cond u (exchangeOp trace work room g n q (a .end) (a .value))
@@ -60,14 +68,14 @@ module _ (p outcomes trace work : List ℕ) (room : ℕ) (t : List (List ℕ)) (
 
   with-holder : (a : Readiness) (q : ℕ)
       → meets (pairWith p work n a q) ≡ joinOp p outcomes trace work room g n a (readyOp p work n a q)
-  unfolding meetBy pairWith unpaired joinOp pairOp readyOp
+  unfolding meetBy meetAs pairWith unpaired joinOp pairOp readyOp
   with-holder a q =
-      go (isNoOther n q) (eqb (readinessOp p (partOf work q) .kind) 0) (meetsOp a (readinessOp p (partOf work q)))
+      go (isNoOther n q) (overKind (readinessOp p (partOf work q) .kind)) (meetsOp a (readinessOp p (partOf work q)))
     where
       go : (x y z : Bool)
           → meets
-          (cond x (unpaired 3)
-          (cond y (unpaired 3) (cond z (pairedOf n a q (readinessOp p (partOf work q))) (unpaired 1))))
+          (cond x (unpaired PartnerGone)
+          (cond y (unpaired PartnerGone) (cond z (pairedOf n a q (readinessOp p (partOf work q))) (unpaired Waits))))
           ≡ joinOp p outcomes trace work room g n a (cond x gone (cond y gone (cond z (ready q) waits)))
       go true y z = refl
       go false true z = refl
@@ -75,14 +83,14 @@ module _ (p outcomes trace work : List ℕ) (room : ℕ) (t : List (List ℕ)) (
       go false false false = refl
 
   stands-same : (a : Readiness) → meets (pairingOf p work t n a) ≡ standsOp p outcomes trace work room t g n a
-  unfolding meetBy pairingOf unpaired standsOp offerOp partnerOp
-  stands-same a = go (ltb (a .kind) 2)
+  unfolding meetBy meetAs pairingOf unpaired standsOp offerOp partnerOp
+  stands-same a = go (not (offerKind (a .kind)))
     where
       q : ℕ
       q = holderIn t (a .end .number % 65536) (oppositeOf (a .end .tag))
 
-      go : (x : Bool) → meets (cond x (unpaired 0) (pairWith p work n a q))
-          ≡ cond x (singleOp p outcomes trace work room g n 20)
+      go : (x : Bool) → meets (cond x (unpaired NoOffer) (pairWith p work n a q))
+          ≡ cond x (singleOp p outcomes trace work room g n (Fault 20))
           (joinOp p outcomes trace work room g n a (readyOp p work n a q))
       go true = refl
       go false = with-holder a q
@@ -92,43 +100,58 @@ module _ (p outcomes trace work : List ℕ) (room : ℕ) (t : List (List ℕ)) (
   unfolding meetOp
   meet-same e = ap (λ (x : Readiness). meets (pairingOf p work t n x)) e ∙ stands-same (readinessOp p (partOf work n))
 
-no-fork : (code : ℕ) → isOffer code ≡ true → eqb code 114 ≡ true → ⊥
-unfolding isOffer
-no-fork code o i = true≢false (sym o ∙ ap isOffer (eqb-true code 114 i))
+-- only what is left of an offer, or nothing, waits
+abbrev MayWait : Rest → Type 0
+MayWait Nothing = Unit {0}
+MayWait Fork = ⊥
+MayWait Offer = Unit {0}
+MayWait (Line does) = ⊥
 
--- a process whose offer comes to waiting stays, whatever the code
-pub waiting-stays : (p outcomes trace work : List ℕ) (room : ℕ) (t : List (List ℕ)) (g : Count) (n code : ℕ)
-    → offerAt p work t n code .kind ≡ 1
-    → entryOp p outcomes trace work room g n code (offerAt p work t n code) ≡ afterEntry (idleAt g) trace work
-unfolding offerAt entryOp meetBy unpaired
-waiting-stays p outcomes trace work room t g n code h = go (eqb code 1) (isOffer code) (ltb n 8) refl h
+no-wait : NoOffer ≡ Waits → ⊥
+unfolding waitKind
+no-wait e = true≢false (sym (ap waitKind e))
+
+left-waits : (p work : List ℕ) (t : List (List ℕ)) (n : ℕ) (step : StepResult) → offerAt p work t n step .kind ≡ Waits
+    → MayWait (restOf step)
+unfolding offerAt unpaired restOf notRunning isOffer
+left-waits p work t n WentOn h = tt
+left-waits p work t n NotRunning h = tt
+left-waits p work t n AtNewQ h = absurd (no-wait h)
+left-waits p work t n AtNewC h = absurd (no-wait h)
+left-waits p work t n AtGate h = absurd (no-wait h)
+left-waits p work t n AtMeas h = absurd (no-wait h)
+left-waits p work t n AtLastRet h = absurd (no-wait h)
+left-waits p work t n AtFork h = absurd (no-wait h)
+left-waits p work t n AtSend h = tt
+left-waits p work t n AtRecv h = tt
+left-waits p work t n Empty h = absurd (no-wait h)
+left-waits p work t n FrameBeyond8 h = absurd (no-wait h)
+left-waits p work t n OutOfRange h = absurd (no-wait h)
+
+-- a process whose offer comes to waiting stays, whatever its step answered
+pub waiting-stays : (p outcomes trace work : List ℕ) (room : ℕ) (t : List (List ℕ)) (g : Count) (n : ℕ)
+    (step : StepResult)
+    → offerAt p work t n step .kind ≡ Waits
+    → entryOp p outcomes trace work room g n step (offerAt p work t n step) ≡ afterEntry (idleAt g) trace work
+unfolding entryOp restOp meetBy meetAs
+waiting-stays p outcomes trace work room t g n step h =
+    go (restOf step) (offerAt p work t n step) h (left-waits p work t n step h)
   where
     stay : AfterEntry
     stay = afterEntry (idleAt g) trace work
 
-    offers : (m : Pairing) → m .kind ≡ 1 → isOffer code ≡ true → (b : Bool) → eqb code 114 ≡ b
-        → cond b (forkOp p outcomes trace work room g n) (meetBy p outcomes trace work room g n m) ≡ stay
-    offers m e o true i = absurd (no-fork code o i)
-    offers m e o false i =
-        ap (λ (j : ℕ). cond (eqb j 0) (singleOp p outcomes trace work room g n 20)
-        (cond (eqb j 1) stay
-        (cond (eqb j 3) (singleOp p outcomes trace work room g n 33)
-        (exchangeOp trace work room g (m .sender .0) (m .receiver .0) (m .end) (m .value))))) e
+    go : (r : Rest) (m : Pairing) → m .kind ≡ Waits → MayWait r → restOp p outcomes trace work room g n r m ≡ stay
+    go Nothing m e w = refl
+    go Fork m e w = absurd w
+    go Offer m e w = ap (λ (k : PairingKind). meetAs p outcomes trace work room g n k m) e
+    go (Line does) m e w = absurd w
 
-    go : (x o l : Bool) → isOffer code ≡ o
-        → cond x (unpaired 1) (cond (o && l) (pairingOp p work t n code) (unpaired 0)) .kind ≡ 1
-        → cond x stay (cond (eqb code 114) (forkOp p outcomes trace work room g n)
-        (cond o (meetBy p outcomes trace work room g n
-        (cond x (unpaired 1) (cond (o && l) (pairingOp p work t n code) (unpaired 0))))
-        (singleOp p outcomes trace work room g n (code % 65536)))) ≡ stay
-    go true o l i e = refl
-    go false true true i e = offers (pairingOp p work t n code) e i (eqb code 114) refl
-    go false true false i e = absurd (omega (arith, e))
-    go false false l i e = absurd (omega (arith, e))
-
-pub over-waits : (p work : List ℕ) (t : List (List ℕ)) (n : ℕ) → offerAt p work t n 1 .kind ≡ 1
+pub over-waits : (p work : List ℕ) (t : List (List ℕ)) (n : ℕ) (step : StepResult) → notRunning step ≡ true
+    → offerAt p work t n step .kind ≡ Waits
 unfolding offerAt unpaired
-over-waits p work t n = refl
+over-waits p work t n step e =
+    ap (λ (b : Bool). cond b (unpaired Waits)
+    (cond (isOffer step && ltb n 8) (pairingOp p work t n step) (unpaired NoOffer)) .kind) e
 
 -- the two of a meeting can be
 
@@ -137,7 +160,7 @@ Near m = (m .sender .0 < 8) × (m .receiver .0 < 8)
 
 pairs-near : (p work : List ℕ) (t : List (List ℕ)) (n : ℕ) (a : Readiness) → n < 8 → Near (pairingOf p work t n a)
 unfolding pairingOf pairWith pairedOf unpaired isNoOther Near
-pairs-near p work t n a h = cond-both Near (ltb (a .kind) 2) none (other (eqb q n) (leb 8 q) refl)
+pairs-near p work t n a h = cond-both Near (not (offerKind (a .kind))) none (other (eqb q n) (leb 8 q) refl)
   where
     q : ℕ
     q = holderIn t (a .end .number % 65536) (oppositeOf (a .end .tag))
@@ -150,28 +173,28 @@ pairs-near p work t n a h = cond-both Near (ltb (a .kind) 2) none (other (eqb q 
 
     other : (x y : Bool) → leb 8 q ≡ y
         → Near
-        (cond (x || y) (unpaired 3)
-        (cond (eqb (b .kind) 0) (unpaired 3) (cond (meetsOp a b) (pairedOf n a q b) (unpaired 1))))
+        (cond (x || y) (unpaired PartnerGone)
+        (cond (overKind (b .kind)) (unpaired PartnerGone) (cond (meetsOp a b) (pairedOf n a q b) (unpaired Waits))))
     other true y i = none
     other false true i = none
     other false false i =
-        cond-both Near (eqb (b .kind) 0) none
+        cond-both Near (overKind (b .kind)) none
         (cond-both Near (meetsOp a b)
-        (cond-both Near (eqb (a .kind) 2) (h, leb-false 8 q i) (leb-false 8 q i, h)) none)
+        (cond-both Near (sendKind (a .kind)) (h, leb-false 8 q i) (leb-false 8 q i, h)) none)
 
-pub offer-near : (p work : List ℕ) (t : List (List ℕ)) (n code : ℕ)
-    → (offerAt p work t n code .sender .0 < 8) × (offerAt p work t n code .receiver .0 < 8)
+pub offer-near : (p work : List ℕ) (t : List (List ℕ)) (n : ℕ) (step : StepResult)
+    → (offerAt p work t n step .sender .0 < 8) × (offerAt p work t n step .receiver .0 < 8)
 unfolding offerAt pairingOp unpaired Near
-offer-near p work t n code = cond-both Near (eqb code 1) none (paired (ltb n 8) refl)
+offer-near p work t n step = cond-both Near (notRunning step) none (paired (ltb n 8) refl)
   where
     none : (0 < 8) × (0 < 8)
     none = (omega arith, omega arith)
 
-    paired : (x : Bool) → ltb n 8 ≡ x → Near (cond (isOffer code && x) (pairingOp p work t n code) (unpaired 0))
+    paired : (x : Bool) → ltb n 8 ≡ x → Near (cond (isOffer step && x) (pairingOp p work t n step) (unpaired NoOffer))
     paired true i =
-        cond-both Near (isOffer code && true) (pairs-near p work t n (offerOf (partOf work n) code) (ltb-true n 8 i))
+        cond-both Near (isOffer step && true) (pairs-near p work t n (offerOf (partOf work n) step) (ltb-true n 8 i))
         none
-    paired false i = cond-each Near (isOffer code && false) (λ z. absurd (never (isOffer code) z)) (λ z. none)
+    paired false i = cond-each Near (isOffer step && false) (λ z. absurd (never (isOffer step) z)) (λ z. none)
       where
         never : (y : Bool) → (y && false) ≡ true → ⊥
         never true z = true≢false (sym z)

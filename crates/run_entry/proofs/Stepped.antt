@@ -5,12 +5,12 @@ use mathlib.Core.Path.{_≡_, refl, sym, _∙_, ap, subst}
 use mathlib.Core.Logic.{_≢_, _⊎_, inl, inr, ⊎-elim}
 use mathlib.Core.Bool.{Bool, true, false, cond, true≢false}
 use mathlib.Core.List.{List, [], _∷_, _++_}
-use native.Mathlib.Nat.{mod-eq-of-lt}
 use native.Mathlib.Omega.{arith}
 use lib.ListN.{length, length-append, replicate}
 use lib.Dec.{eqb, ltb}
 use borrow.Author.Tests.{eqb-true, eqb-false, ne-eqb, ltb-true, ltb-false, lt-ltb}
 use Rattle.lists.proofs.Tests.{decide}
+use Rattle.lists.proofs.Numbers.{by-number, _▹_}
 use Rattle.lists.proofs.Each.{both-length}
 use Rattle.table.specs.Table.{argAt, opAt}
 use Rattle.table.proofs.Accepted.{Kept}
@@ -33,23 +33,30 @@ use Rattle.machine.proofs.Unmade.{unmade-idle}
 use Rattle.machine.proofs.Ownership as own
 use Rattle.layout.specs.Layout.{padded, statusWords, processWords, encode}
 use Rattle.run_store.specs.StoreCode.{headOf}
-use Rattle.run_values.specs.ValuesCode.{AfterStep, afterStep}
+use Rattle.run_values.specs.ValuesCode.{wentOn, notRunning, isOffer, AfterStep, afterStep}
 use Rattle.run_ops.specs.OpsCode.{actOp, stepOp}
-use Rattle.run_ops.proofs.Meaning.{Agrees, Height, isLeft, step-agrees, step-left}
+use Rattle.run_ops.proofs.Meaning.{FaultIs, Agrees, Height, isLeft, leftAt, step-agrees, step-left}
 use Rattle.run_parts.specs.PartsCode.{partOf, withPart}
 use Rattle.run_parts.proofs.Encoded.{part-is, part-put, part-unmade}
 use Rattle.run_events.specs.ConcludeCode.{concludeOp}
-use Rattle.run_events.proofs.Concluding.{writesLine, Concluded, concluded-op}
+use Rattle.run_events.proofs.Concluding.{writesLine, singleAt, Concluded, concluded-op}
 use Rattle.run_holders.proofs.Holding.{Holding}
 use Rattle.run_parts.proofs.Alone.{Alone, frame-alone}
 use Rattle.run_ability.specs.declared.pairing.Pairing.{Pairing}
 use Rattle.run_ability.specs.PairingCode.{unpaired, pairingOp}
+use Rattle.run_ability.specs.declared.pairing.PairingKind.the-variants.{NoOffer}
 use Rattle.run_ability.proofs.Able.{process-sound, not-stuck}
 use Rattle.run_single.specs.declared.result.Count.{Count}
 use Rattle.run_single.specs.ResultCode.{AfterEntry, afterEntry, idleAt}
 use Rattle.run_single.specs.SingleCode.{singleOp}
+use Rattle.run_values.specs.declared.steps.StepResult.{StepResult}
+use Rattle.run_values.specs.declared.steps.StepResult.the-variants.{WentOn, NotRunning, AtNewQ, AtNewC, AtGate, AtMeas, AtLastRet, AtFork, AtSend, AtRecv, Empty, FrameBeyond8, OutOfRange}
+use Rattle.run_events.specs.declared.conclude.Single.{Single}
+use Rattle.run_events.specs.declared.conclude.Single.the-variants.{LastRet, Fault}
+use Rattle.run_entry.specs.declared.entry.Rest.{Rest}
+use Rattle.run_entry.specs.declared.entry.Rest.the-variants.{Nothing, Fork, Offer, Line}
 use Rattle.run_entry.specs.MeetingCode.{meetBy}
-use Rattle.run_entry.specs.EntryCode.{isOffer, offerAt, entryOp}
+use Rattle.run_entry.specs.EntryCode.{restOf, offerAt, restOp, entryOp}
 use Rattle.run_single.proofs.Here.{Here}
 use Rattle.run_single.proofs.Singly.{sound, laid, count, tried, part-now, fault-as, fault-law, ends-as, ends-law, after-long, line-law, made-law}
 use Rattle.run_entry.proofs.Forked.{fork-law}
@@ -84,62 +91,57 @@ module _ (p : List ℕ) (kept : Kept p) where
 
 -- the ops that are left to the entry are those with one line, FORK, SEND and RECV
 left-writes-line : (op : ℕ) → isLeft op ≡ true → op ≢ 14 → op ≢ 15 → op ≢ 16 → writesLine op ≡ true
-left-writes-line zero t a b c = absurd (true≢false (sym t))
-left-writes-line (suc zero) t a b c = absurd (true≢false (sym t))
-left-writes-line (suc (suc zero)) t a b c = absurd (true≢false (sym t))
-left-writes-line (suc (suc (suc zero))) t a b c = absurd (true≢false (sym t))
-left-writes-line (suc (suc (suc (suc zero)))) t a b c = absurd (true≢false (sym t))
-left-writes-line (suc (suc (suc (suc (suc zero))))) t a b c = absurd (true≢false (sym t))
-left-writes-line (suc (suc (suc (suc (suc (suc zero)))))) t a b c = absurd (true≢false (sym t))
-left-writes-line (suc (suc (suc (suc (suc (suc (suc zero))))))) t a b c = refl
-left-writes-line (suc (suc (suc (suc (suc (suc (suc (suc zero)))))))) t a b c = refl
-left-writes-line (suc (suc (suc (suc (suc (suc (suc (suc (suc zero))))))))) t a b c = absurd (true≢false (sym t))
-left-writes-line (suc (suc (suc (suc (suc (suc (suc (suc (suc (suc zero)))))))))) t a b c = refl
-left-writes-line (suc (suc (suc (suc (suc (suc (suc (suc (suc (suc (suc zero))))))))))) t a b c = refl
-left-writes-line (suc (suc (suc (suc (suc (suc (suc (suc (suc (suc (suc (suc zero)))))))))))) t a b c =
-    absurd (true≢false (sym t))
-left-writes-line (suc (suc (suc (suc (suc (suc (suc (suc (suc (suc (suc (suc (suc zero))))))))))))) t a b c =
-    absurd (true≢false (sym t))
-left-writes-line (suc (suc (suc (suc (suc (suc (suc (suc (suc (suc (suc (suc (suc (suc zero)))))))))))))) t a b c =
-    absurd (a refl)
-left-writes-line (suc (suc (suc (suc (suc (suc (suc (suc (suc (suc (suc (suc (suc (suc (suc zero))))))))))))))) t a b c =
-    absurd (b refl)
-left-writes-line (suc (suc (suc (suc (suc (suc (suc (suc (suc (suc (suc (suc (suc (suc (suc (suc zero)))))))))))))))) t a b c = absurd (c refl)
-left-writes-line (suc (suc (suc (suc (suc (suc (suc (suc (suc (suc (suc (suc (suc (suc (suc (suc (suc op))))))))))))))))) t a b c = absurd (true≢false (sym t))
-
-writes-line-small : (op : ℕ) → writesLine op ≡ true → op < 12
-writes-line-small op t =
-    ⊎-elim (λ h. ltb-true op 12 h) (λ h. absurd (true≢false (sym t ∙ beyond op (ltb-false op 12 h))))
-    (decide (ltb op 12))
+left-writes-line =
+    by-number (λ (op : ℕ). isLeft op ≡ true → op ≢ 14 → op ≢ 15 → op ≢ 16 → writesLine op ≡ true) 17
+    (never ▹ never ▹ never ▹ never ▹ never ▹ never ▹ never ▹ line ▹ line ▹ never ▹ line ▹ line ▹ never ▹ never ▹
+    (λ t a b c. absurd (a refl)) ▹ (λ t a b c. absurd (b refl)) ▹ (λ t a b c. absurd (c refl)) ▹ (λ k. never))
   where
-    beyond : (op : ℕ) → 12 ≤ op → writesLine op ≡ false
-    beyond zero h = absurd (omega (arith, h))
-    beyond (suc zero) h = absurd (omega (arith, h))
-    beyond (suc (suc zero)) h = absurd (omega (arith, h))
-    beyond (suc (suc (suc zero))) h = absurd (omega (arith, h))
-    beyond (suc (suc (suc (suc zero)))) h = absurd (omega (arith, h))
-    beyond (suc (suc (suc (suc (suc zero))))) h = absurd (omega (arith, h))
-    beyond (suc (suc (suc (suc (suc (suc zero)))))) h = absurd (omega (arith, h))
-    beyond (suc (suc (suc (suc (suc (suc (suc zero))))))) h = absurd (omega (arith, h))
-    beyond (suc (suc (suc (suc (suc (suc (suc (suc zero)))))))) h = absurd (omega (arith, h))
-    beyond (suc (suc (suc (suc (suc (suc (suc (suc (suc zero))))))))) h = absurd (omega (arith, h))
-    beyond (suc (suc (suc (suc (suc (suc (suc (suc (suc (suc zero)))))))))) h = absurd (omega (arith, h))
-    beyond (suc (suc (suc (suc (suc (suc (suc (suc (suc (suc (suc zero))))))))))) h = absurd (omega (arith, h))
-    beyond (suc (suc (suc (suc (suc (suc (suc (suc (suc (suc (suc (suc op)))))))))))) h = refl
+    never : {A : Type 0} → false ≡ true → A
+    never t = absurd (true≢false (sym t))
+
+    line : {A B C D : Type 0} → A → B → C → D → true ≡ true
+    line t a b c = refl
+
+-- what the step answers at an op that writes a line leaves the line's entry
+record Leaves (op : ℕ) : Type 0 where
+  stops : wentOn (leftAt op) ≡ false
+  rest : restOf (leftAt op) ≡ Line (singleAt op)
+  small : op < 12
+
+line-left : (op : ℕ) → writesLine op ≡ true → Leaves op
+unfolding wentOn restOf
+line-left =
+    by-number (λ (op : ℕ). writesLine op ≡ true → Leaves op) 12
+    (never ▹ never ▹ never ▹ never ▹ never ▹ never ▹ never ▹
+    (λ t. record { stops = refl; rest = refl; small = omega arith }) ▹
+    (λ t. record { stops = refl; rest = refl; small = omega arith }) ▹ never ▹
+    (λ t. record { stops = refl; rest = refl; small = omega arith }) ▹
+    (λ t. record { stops = refl; rest = refl; small = omega arith }) ▹ (λ k. never))
+  where
+    never : {A : Type 0} → false ≡ true → A
+    never t = absurd (true≢false (sym t))
+
+-- and a fault that a step answers leaves the fault's
+fault-left : (r : StepResult) (m : ℕ) → FaultIs m r → (wentOn r ≡ false) × (restOf r ≡ Line (Fault m))
+unfolding wentOn restOf
+fault-left WentOn m h = absurd h
+fault-left NotRunning m h = absurd h
+fault-left AtNewQ m h = absurd h
+fault-left AtNewC m h = absurd h
+fault-left AtGate m h = absurd h
+fault-left AtMeas m h = absurd h
+fault-left AtLastRet m h = absurd h
+fault-left AtFork m h = absurd h
+fault-left AtSend m h = absurd h
+fault-left AtRecv m h = absurd h
+fault-left Empty m h = (refl, ap (λ (i : ℕ). Line (Fault i)) (sym h))
+fault-left FrameBeyond8 m h = (refl, ap (λ (i : ℕ). Line (Fault i)) (sym h))
+fault-left OutOfRange m h = (refl, ap (λ (i : ℕ). Line (Fault i)) (sym h))
 
 -- zeros are no running process
 no-status : eqb (headOf (replicate 512 0) .status) 1 ≡ false
 unfolding headOf
 no-status = refl
-
--- a code that is none of the five goes to the entry with one line
-entry-single : (p outcomes trace work : List ℕ) (room : ℕ) (g : Count) (n code : ℕ) (m : Pairing) → code ≢ 1
-    → code ≢ 114 → code ≢ 115 → code ≢ 116
-    → code < 65536 → entryOp p outcomes trace work room g n code m ≡ singleOp p outcomes trace work room g n code
-unfolding entryOp isOffer
-entry-single p outcomes trace work room g n code m a b c d small =
-    rw (ne-eqb code 1 a, ne-eqb code 114 b, ne-eqb code 115 c, ne-eqb code 116 d)
-    (ap (singleOp p outcomes trace work room g n) (mod-eq-of-lt small))
 
 module _ {p outcomes : List ℕ} {s : State} {t0 : List ℕ} {room : ℕ} (here : Here p outcomes s t0 room)
     (rest : List ℕ) (k n : ℕ) (owned : own.Kept (s .config) (s .lines)) (t : List (List ℕ))
@@ -168,7 +170,7 @@ module _ {p outcomes : List ℕ} {s : State} {t0 : List ℕ} {room : ℕ} (here 
 
   -- a plain step: the process goes on, with no line
   pub record Plain (d : AfterStep) : Type 0 where
-    pub code : d .code ≡ 0
+    pub result : d .result ≡ WentOn
     pub can : able p outcomes s n ≡ true
     pub words : withPart store n (d .words) ≡ encode (effect .config) ++ rest
     pub lines : effect .lines ≡ []
@@ -176,10 +178,10 @@ module _ {p outcomes : List ℕ} {s : State} {t0 : List ℕ} {room : ℕ} (here 
 
   -- any other entry: the step changes nothing, and the rest of the entry does all
   pub record Other (d : AfterStep) : Type 0 where
-    pub code : d .code ≢ 0
+    pub result : wentOn (d .result) ≡ false
     pub words : d .words ≡ partOf store n
     pub entry :
-        entryOp p outcomes lines store room counted n (d .code) (offerAt p store t n (d .code)) ≡ comes
+        entryOp p outcomes lines store room counted n (d .result) (offerAt p store t n (d .result)) ≡ comes
         (actOf p outcomes s n)
 
   abbrev pub Law : Type 0
@@ -188,16 +190,17 @@ module _ {p outcomes : List ℕ} {s : State} {t0 : List ℕ} {room : ℕ} (here 
   going : actOf p outcomes s n ≢ stuck
   going = not-stuck reached rest n
 
-  other : (code : ℕ) → stepOp p (partOf store n) ≡ afterStep code (partOf store n) → code ≢ 0
-      → entryOp p outcomes lines store room counted n code (offerAt p store t n code) ≡ comes (actOf p outcomes s n)
+  other : (r : StepResult) → stepOp p (partOf store n) ≡ afterStep r (partOf store n) → wentOn r ≡ false
+      → entryOp p outcomes lines store room counted n r (offerAt p store t n r) ≡ comes (actOf p outcomes s n)
       → Law
-  other code e z h =
+  other r e z h =
       inr (record {
-        code = λ i. z (sym (ap (λ (d : AfterStep). d .code) e) ∙ i);
+        result = ap (λ (d : AfterStep). wentOn (d .result)) e ∙ z;
         words = ap (λ (d : AfterStep). d .words) e;
         entry =
             ap
-            (λ (d : AfterStep). entryOp p outcomes lines store room counted n (d .code) (offerAt p store t n (d .code)))
+            (λ (d : AfterStep). entryOp p outcomes lines store room counted n (d .result)
+            (offerAt p store t n (d .result)))
             e
             ∙ h;
       })
@@ -216,14 +219,14 @@ module _ {p outcomes : List ℕ} {s : State} {t0 : List ℕ} {room : ℕ} (here 
 
   -- a process that does not run
   over : (w : List ℕ) → partOf store n ≡ w → eqb (headOf w .status) 1 ≡ false → actOf p outcomes s n ≡ idle → Law
-  unfolding stepOp entryOp movesIn judged
+  unfolding stepOp entryOp restOp restOf wentOn movesIn judged
   over w e h i =
-      other 1
+      other NotRunning
       (ap (λ (b : Bool). cond b
       (actOp p (partOf store n) (headOf (partOf store n)) (opAt p (headOf (partOf store n) .place))
-      (argAt p (headOf (partOf store n) .place))) (afterStep 1 (partOf store n)))
+      (argAt p (headOf (partOf store n) .place))) (afterStep NotRunning (partOf store n)))
       (ap (λ (l : List ℕ). eqb (headOf l .status) 1) e ∙ h))
-      (λ z. absurd (omega (arith, z)))
+      refl
       (sym (ap comes i))
 
   module _ {f : Frame} {fs : List Frame} (live : Running p c n f fs) where
@@ -253,32 +256,32 @@ module _ {p outcomes : List ℕ} {s : State} {t0 : List ℕ} {room : ℕ} (here 
         typed-act
 
     -- the step's answer with the words as they were
-    left-at : (code : ℕ) → stepOp p words ≡ afterStep code words
-        → stepOp p (partOf store n) ≡ afterStep code (partOf store n)
-    left-at code e = ap (stepOp p) part ∙ e ∙ ap (afterStep code) (sym part)
+    left-at : (r : StepResult) → stepOp p words ≡ afterStep r words
+        → stepOp p (partOf store n) ≡ afterStep r (partOf store n)
+    left-at r e = ap (stepOp p) part ∙ e ∙ ap (afterStep r) (sym part)
 
-    single-other : (code : ℕ) → stepOp p words ≡ afterStep code words → code ≢ 0 → code ≢ 1 → code ≢ 114 → code ≢ 115
-        → code ≢ 116 → code < 65536
-        → singleOp p outcomes lines store room counted n code ≡ comes (actOf p outcomes s n) → Law
-    single-other code e z a b d x less h =
-        other code (left-at code e) z
-        (entry-single p outcomes lines store room counted n code (offerAt p store t n code) a b d x less ∙ h)
+    single-other : (r : StepResult) (does : Single) → stepOp p words ≡ afterStep r words → wentOn r ≡ false
+        → restOf r ≡ Line does
+        → singleOp p outcomes lines store room counted n does ≡ comes (actOf p outcomes s n) → Law
+    unfolding entryOp restOp
+    single-other r does e z q h =
+        other r (left-at r e) z
+        (ap (λ (x : Rest). restOp p outcomes lines store room counted n x (offerAt p store t n r)) q ∙ h)
 
     -- an op that stays within the process and writes no line
     quiet : (a : Act) → atFrame p outcomes s f fs ≡ a
         → ActTyped p (reached .kinds) (c .qubits) (length (c .processes)) a → Agrees a words (stepOp p words) → Law
-    unfolding movesIn appliedIn effectIn ableIn judged
+    unfolding movesIn appliedIn effectIn ableIn judged wentOn restOf
     quiet idle i ty g = absurd g
     quiet stuck i ty g = absurd ty
     quiet (faults m) i ty g =
-        single-other m g (λ z. absurd (omega (arith, z, ty .0))) (λ z. absurd (omega (arith, z, ty .0)))
-        (λ z. absurd (omega (arith, z, ty .1)))
-        (λ z. absurd (omega (arith, z, ty .1))) (λ z. absurd (omega (arith, z, ty .1))) (omega (arith, ty .1))
+        let left = fault-left (stepOp p words .result) m (g .0) in
+        single-other (stepOp p words .result) (Fault m) (ap (afterStep (stepOp p words .result)) (g .1)) (left .0) (left .1)
         (fault-law here rest k n live m (inl ty)
         ∙ ap comes (sym (act-here ∙ i)))
     quiet (goes gs [] zero) i ty g =
         inl (record {
-          code = ap (λ (d : AfterStep). d .code) stepped;
+          result = ap (λ (d : AfterStep). d .result) stepped;
           can = ap (λ (a : Act). moves p outcomes s n (judged s n a)) does;
           words =
               ap (λ (d : AfterStep). withPart store n (d .words)) stepped
@@ -292,39 +295,37 @@ module _ {p outcomes : List ℕ} {s : State} {t0 : List ℕ} {room : ℕ} (here 
         does : actOf p outcomes s n ≡ goes gs [] 0
         does = act-here ∙ i
 
-        stepped : stepOp p (partOf store n) ≡ afterStep 0 (processWords (runs gs))
+        stepped : stepOp p (partOf store n) ≡ afterStep WentOn (processWords (runs gs))
         stepped = ap (stepOp p) part ∙ g
     quiet (goes gs [] (suc u)) i ty g = absurd g
     quiet (goes gs (e ∷ es) u) i ty g = absurd g
     quiet ends i ty g =
-        single-other 113 g (λ z. absurd (omega (arith, z))) (λ z. absurd (omega (arith, z)))
-        (λ z. absurd (omega (arith, z)))
-        (λ z. absurd (omega (arith, z))) (λ z. absurd (omega (arith, z))) (omega arith)
+        single-other AtLastRet LastRet g refl refl
         (ends-law here rest k n live ∙ ap comes (sym (act-here ∙ i)))
     quiet (makes x gs) i ty g = absurd g
     quiet (forks m args gs) i ty g = absurd g
     quiet (offers o) i ty g = absurd g
 
     -- an op with one line
-    one-line : (code : ℕ) (a : Act) → atFrame p outcomes s f fs ≡ a
+    one-line : (does : Single) (a : Act) → atFrame p outcomes s f fs ≡ a
         → ActTyped p (reached .kinds) (c .qubits) (length (c .processes)) a
         → ActWithin (valuesOf (processAt c n .frames)) (c .qubits) (c .channels) a → Alone a
         → Concluded outcomes s (live .busy) (sound here rest k n .qubitCount) a
-        (concludeOp p words code (c .qubits) (c .channels) outcomes (s .used))
-        → singleOp p outcomes lines store room counted n code ≡ comes a
+        (concludeOp p words does (c .qubits) (c .channels) outcomes (s .used))
+        → singleOp p outcomes lines store room counted n does ≡ comes a
     unfolding movesIn judged
-    one-line code idle i ty wi al g = absurd g
-    one-line code stuck i ty wi al g = absurd ty
-    one-line code (faults m) i ty wi al g =
-        fault-as here rest k n live code m (inl ty) g
-    one-line code (goes gs [] u) i ty wi al g = absurd g
-    one-line code (goes gs (e ∷ []) u) i ty wi al g =
-        line-law here rest k n live code gs e u (act-here ∙ i) g
+    one-line does idle i ty wi al g = absurd g
+    one-line does stuck i ty wi al g = absurd ty
+    one-line does (faults m) i ty wi al g =
+        fault-as here rest k n live does m (inl ty) g
+    one-line does (goes gs [] u) i ty wi al g = absurd g
+    one-line does (goes gs (e ∷ []) u) i ty wi al g =
+        line-law here rest k n live does gs e u (act-here ∙ i) g
         (wi .1 .0 .notMade .0) (wi .1 .0 .notMade .1) (al .1)
-    one-line code (goes gs (e ∷ g ∷ es) u) i ty wi al h = absurd h
-    one-line code ends i ty wi al g = ends-as here rest k n live code g
-    one-line code (makes (qubit q) gs) i ty wi al g =
-        made-law here rest k n live code (qubit q) gs (act-here ∙ i) g (λ j d e. not-end e)
+    one-line does (goes gs (e ∷ g ∷ es) u) i ty wi al h = absurd h
+    one-line does ends i ty wi al g = ends-as here rest k n live does g
+    one-line does (makes (qubit q) gs) i ty wi al g =
+        made-law here rest k n live does (qubit q) gs (act-here ∙ i) g (λ j d e. not-end e)
       where
         not-end : {j : ℕ} {d : Bool} → qubit q ≡ end j d → ⊥
         not-end e = subst is-qubit e tt
@@ -333,8 +334,8 @@ module _ {p outcomes : List ℕ} {s : State} {t0 : List ℕ} {room : ℕ} (here 
             is-qubit (qubit x) = Unit {0}
             is-qubit (channel x) = ⊥
             is-qubit (end x y) = ⊥
-    one-line code (makes (channel q) gs) i ty wi al g =
-        made-law here rest k n live code (channel q) gs (act-here ∙ i) g (λ j d e. not-end e)
+    one-line does (makes (channel q) gs) i ty wi al g =
+        made-law here rest k n live does (channel q) gs (act-here ∙ i) g (λ j d e. not-end e)
       where
         not-end : {j : ℕ} {d : Bool} → channel q ≡ end j d → ⊥
         not-end e = subst is-channel e tt
@@ -343,39 +344,38 @@ module _ {p outcomes : List ℕ} {s : State} {t0 : List ℕ} {room : ℕ} (here 
             is-channel (qubit x) = ⊥
             is-channel (channel x) = Unit {0}
             is-channel (end x y) = ⊥
-    one-line code (makes (end q d) gs) i ty wi al g = absurd ty
-    one-line code (forks m args gs) i ty wi al g = absurd g
-    one-line code (offers o) i ty wi al g = absurd g
+    one-line does (makes (end q d) gs) i ty wi al g = absurd ty
+    one-line does (forks m args gs) i ty wi al g = absurd g
+    one-line does (offers o) i ty wi al g = absurd g
 
-    left-one-line : (op : ℕ) → opAt p (f .place) ≡ op → writesLine op ≡ true → stepOp p words ≡ afterStep (100 + op) words → Law
+    left-one-line : (op : ℕ) → opAt p (f .place) ≡ op → writesLine op ≡ true
+        → stepOp p words ≡ afterStep (leftAt op) words → Law
     left-one-line op e h g =
-        let less = writes-line-small op h in
-        single-other (100 + op) g (λ z. absurd (omega (arith, z))) (λ z. absurd (omega (arith, z)))
-        (λ z. absurd (omega (arith, z, less)))
-        (λ z. absurd (omega (arith, z, less))) (λ z. absurd (omega (arith, z, less))) (omega (arith, less))
-        (one-line (100 + op) (atFrame p outcomes s f fs) refl typed-act within-act
-        (frame-alone p outcomes s f fs (λ z. absurd (omega (arith, z, e, less)))
-        (λ z. absurd (omega (arith, z, e, less))))
+        let left = line-left op h in
+        single-other (leftAt op) (singleAt op) g (left .stops) (left .rest)
+        (one-line (singleAt op) (atFrame p outcomes s f fs) refl typed-act within-act
+        (frame-alone p outcomes s f fs (λ z. absurd (omega (arith, z, e, left .small)))
+        (λ z. absurd (omega (arith, z, e, left .small))))
         (concluded-op outcomes s (live .busy) (sound here rest k n .qubitCount) (here .reached .bytes) op e h high)
         ∙ ap comes (sym act-here))
 
     at-work : Law
-    unfolding entryOp isOffer offerAt
+    unfolding entryOp restOp restOf isOffer notRunning wentOn offerAt
     at-work =
         ⊎-elim left-to
         (λ h. quiet (atFrame p outcomes s f fs) refl typed-act (step-agrees outcomes s (live .busy) h high))
         (decide (isLeft (opAt p (f .place))))
       where
-        stepped : isLeft (opAt p (f .place)) ≡ true → stepOp p words ≡ afterStep (100 + opAt p (f .place)) words
+        stepped : isLeft (opAt p (f .place)) ≡ true → stepOp p words ≡ afterStep (leftAt (opAt p (f .place))) words
         stepped h = step-left outcomes s (live .busy) h
 
         at-op : (op : ℕ) → isLeft (opAt p (f .place)) ≡ true → opAt p (f .place) ≡ op
-            → stepOp p (partOf store n) ≡ afterStep (100 + op) (partOf store n)
-        at-op op h e = left-at (100 + op) (stepped h ∙ ap (λ (i : ℕ). afterStep (100 + i) words) e)
+            → stepOp p (partOf store n) ≡ afterStep (leftAt op) (partOf store n)
+        at-op op h e = left-at (leftAt op) (stepped h ∙ ap (λ (i : ℕ). afterStep (leftAt i) words) e)
 
         fork-at : isLeft (opAt p (f .place)) ≡ true → opAt p (f .place) ≡ 14 → Law
         fork-at h e =
-            other 114 (at-op 14 h e) (λ z. absurd (omega (arith, z)))
+            other AtFork (at-op 14 h e) refl
             (fork-law here rest k n live e going
             ∙ forks-come)
           where
@@ -388,25 +388,25 @@ module _ {p outcomes : List ℕ} {s : State} {t0 : List ℕ} {room : ℕ} (here 
                 going
 
         -- what the offer comes to was worked out
-        paired : (code : ℕ)
-            → meetBy p outcomes lines store room counted n (cond (ltb n 8) (pairingOp p store t n code) (unpaired 0))
-            ≡ meetBy p outcomes lines store room counted n (pairingOp p store t n code)
-        paired code =
+        paired : (step : StepResult)
+            → meetBy p outcomes lines store room counted n (cond (ltb n 8) (pairingOp p store t n step) (unpaired NoOffer))
+            ≡ meetBy p outcomes lines store room counted n (pairingOp p store t n step)
+        paired step =
             ap
             (λ (b : Bool). meetBy p outcomes lines store room counted n
-            (cond b (pairingOp p store t n code) (unpaired 0))) (lt-ltb n 8 near)
+            (cond b (pairingOp p store t n step) (unpaired NoOffer))) (lt-ltb n 8 near)
 
         elsewhere : isLeft (opAt p (f .place)) ≡ true → opAt p (f .place) ≢ 14 → Law
         elsewhere h x =
             ⊎-elim
             (λ i. let e = eqb-true (opAt p (f .place)) 15 i in
-            other 115 (at-op 15 h e) (λ z. absurd (omega (arith, z)))
-            (paired 115
+            other AtSend (at-op 15 h e) refl
+            (paired AtSend
             ∙ send-law here rest k n owned t holding live e going near))
             (λ i. ⊎-elim
             (λ j. let e = eqb-true (opAt p (f .place)) 16 j in
-            other 116 (at-op 16 h e) (λ z. absurd (omega (arith, z)))
-            (paired 116
+            other AtRecv (at-op 16 h e) refl
+            (paired AtRecv
             ∙ receive-law here rest k n owned t holding live e going near))
             (λ j. left-one-line (opAt p (f .place)) refl
             (left-writes-line (opAt p (f .place)) h x (eqb-false (opAt p (f .place)) 15 i)

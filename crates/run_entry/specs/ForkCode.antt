@@ -13,6 +13,7 @@ use Rattle.run_single.specs.declared.result.Count.{Count}
 use Rattle.run_single.specs.ResultCode.{AfterEntry, afterEntry, takenTo, fullAt}
 use Rattle.run_ability.specs.ReadsCode.{argumentIn, emptyIn}
 use Rattle.run_single.specs.SingleCode.{singleOp}
+use Rattle.run_events.specs.declared.conclude.Single.the-variants.{Fault}
 use Rattle.run_transfer.specs.ForkLinesCode.{forkWritten}
 
 unfoldable pub forkDone : List ℕ → List ℕ → Count → Gifts → ℕ → ℕ → ℕ → ℕ → AfterEntry
@@ -26,8 +27,8 @@ startOp p trace work room g n child m args =
 
 unfoldable pub tryOp : List ℕ → List ℕ → List ℕ → List ℕ → ℕ → Count → ℕ → ℕ → ℕ → AfterEntry
 tryOp p outcomes trace work room g n m args =
-    cond (emptyIn (partOf work n) args) (singleOp p outcomes trace work room g n 20)
-    (cond (leb 8 (getD work 0 0)) (singleOp p outcomes trace work room g n 23)
+    cond (emptyIn (partOf work n) args) (singleOp p outcomes trace work room g n (Fault 20))
+    (cond (leb 8 (getD work 0 0)) (singleOp p outcomes trace work room g n (Fault 23))
     (startOp p trace work room g n (getD work 0 0) m args))
 
 unfoldable pub forkOp : List ℕ → List ℕ → List ℕ → List ℕ → ℕ → Count → ℕ → AfterEntry

@@ -7,6 +7,7 @@ ghost use Rattle.run_single.specs.ResultCode.{afterEntry};
 ghost use Rattle.run_entry.specs.ForkCode.{startOp, tryOp, forkOp};
 use run_ability::reads::argument_of;
 use run_ability::reads::lacks_of;
+use run_events::conclude::Single;
 use run_events::faults::EMPTY;
 use run_events::faults::PROCESS_BEYOND_8;
 use run_ops::calls::params;
@@ -62,7 +63,17 @@ fn try_fork(
     ensures { λ r. ⌜ afterEntry r (now (trace .exit)) (now (work .exit)) ≡ tryOp (now (p .entry)) (now (outcomes .entry)) (now (trace .entry)) (now (work .entry)) room g (n .0) m args ⌝ }
 {
     if lacks_of(work, n, args) {
-        return single(p, start, outcomes, trace, work, room, g, n, EMPTY);
+        return single(
+            p,
+            start,
+            outcomes,
+            trace,
+            work,
+            room,
+            g,
+            n,
+            Single::Fault(EMPTY),
+        );
     }
     let made = get(work, 0);
     if 8 <= made {
@@ -75,7 +86,7 @@ fn try_fork(
             room,
             g,
             n,
-            PROCESS_BEYOND_8,
+            Single::Fault(PROCESS_BEYOND_8),
         );
     }
     start_child(p, trace, work, room, g, n, ProcessNo(made as u16), m, args)

@@ -5,10 +5,9 @@ ghost use lib.ListN.{length};
 ghost use Rattle.table.specs.Table.{methods};
 ghost use Rattle.run_single.specs.ResultCode.{afterEntry};
 ghost use Rattle.run_entry.specs.MeetingCode.{exchangeOp, meetBy};
-use run_ability::pairing::NO_OFFER;
-use run_ability::pairing::PARTNER_GONE;
 use run_ability::pairing::Pairing;
-use run_ability::pairing::WAITS;
+use run_ability::pairing::PairingKind;
+use run_events::conclude::Single;
 use run_events::faults::EMPTY;
 use run_events::faults::GONE;
 use run_single::result::Count;
@@ -59,16 +58,35 @@ pub fn meet_entry(
     requires { ⌜ (start ≡ 2 + 20 * methods (now p)) × (8192 ≤ length (now work)) × (n .0 < 8) × (g .lines < 16000000) × (m .sender .0 < 8) × (m .receiver .0 < 8) ⌝ }
     ensures { λ r. ⌜ afterEntry r (now (trace .exit)) (now (work .exit)) ≡ meetBy (now (p .entry)) (now (outcomes .entry)) (now (trace .entry)) (now (work .entry)) room g (n .0) m ⌝ }
 {
-    if m.kind == NO_OFFER {
-        return single(p, start, outcomes, trace, work, room, g, n, EMPTY);
+    let kind = m.kind;
+    match kind {
+        PairingKind::NoOffer => single(
+            p,
+            start,
+            outcomes,
+            trace,
+            work,
+            room,
+            g,
+            n,
+            Single::Fault(EMPTY),
+        ),
+        PairingKind::Waits => idle(g),
+        PairingKind::PartnerGone => single(
+            p,
+            start,
+            outcomes,
+            trace,
+            work,
+            room,
+            g,
+            n,
+            Single::Fault(GONE),
+        ),
+        PairingKind::Meets => {
+            let sender = m.sender;
+            let receiver = m.receiver;
+            exchange(trace, work, room, g, sender, receiver, m.end, m.value)
+        }
     }
-    if m.kind == WAITS {
-        return idle(g);
-    }
-    if m.kind == PARTNER_GONE {
-        return single(p, start, outcomes, trace, work, room, g, n, GONE);
-    }
-    let sender = m.sender;
-    let receiver = m.receiver;
-    exchange(trace, work, room, g, sender, receiver, m.end, m.value)
 }

@@ -10,6 +10,7 @@ use lib.ListN.{getD, length}
 use lib.Dec.{eqb, ltb, leb}
 use Rattle.lists.specs.Lists.{All}
 use Rattle.lists.proofs.Tests.{cond-both}
+use Rattle.lists.proofs.Numbers.{by-number, _▹_}
 use Rattle.table.specs.Table.{opAt, argAt}
 use Rattle.machine.specs.State.{Frame, State, finished, stopped, finishes}
 use Rattle.machine.specs.Act.{Act, idle, stuck, faults, goes, ends, makes, forks, offers, atFrame}
@@ -23,6 +24,8 @@ use Rattle.run_values.specs.ValuesCode.{emptyTwo}
 use Rattle.run_values.proofs.Places.{head-is}
 use Rattle.run_ops.proofs.Meaning.{Height, w, hd, act}
 use Rattle.run_events.specs.EventsCode.{AfterEvent, afterEvent, faultEvent, lineEvent, qubitAt, newqOp, newcOp, gateOne, gateTwo, gateOp, nextIn, measuredAs, measOp}
+use Rattle.run_events.specs.declared.conclude.Single.{Single}
+use Rattle.run_events.specs.declared.conclude.Single.the-variants.{NewQ, NewC, Gate, Meas, LastRet, Fault}
 use Rattle.run_events.specs.ConcludeCode.{performOp, withStatus, concludeOp}
 use Rattle.run_events.proofs.Answers.{eventOf, EventAgrees, newq-event, newc-event, gate-event, meas-event}
 use Rattle.run_events.proofs.Ended.{stopped-words, finished-words}
@@ -32,6 +35,14 @@ use Rattle.run_events.proofs.Returns.{event-end, event-fault, status-st
 abbrev pub writesLine : ℕ → Bool
 writesLine op =
     getD (false ∷ false ∷ false ∷ false ∷ false ∷ false ∷ false ∷ true ∷ true ∷ false ∷ true ∷ true ∷ []) op false
+
+-- what each does
+abbrev pub singleAt : ℕ → Single
+singleAt op =
+    getD
+    (Fault 0 ∷ Fault 0 ∷ Fault 0 ∷ Fault 0 ∷ Fault 0 ∷ Fault 0 ∷ Fault 0 ∷ NewQ ∷ NewC ∷ Fault 0 ∷ Gate ∷ Meas ∷ [])
+    op
+    (Fault 0)
 
 -- their answer has a fault's number, or a line that is none of a process's end
 abbrev Apart : AfterEvent → Type 0
@@ -76,15 +87,12 @@ module _ {p : List ℕ} (outcomes : List ℕ) (s : State) {f : Frame} {fs : List
   abbrev does : Act
   does = act outcomes s busy
 
-  pub concluded-fault : (n : ℕ) → 0 < n → n < 100 → (q c : ℕ) (os : List ℕ) (u : ℕ)
-      → concludeOp p words n q c os u ≡ afterEvent (faultEvent n)
+  pub concluded-fault : (n : ℕ) → 0 < n → (q c : ℕ) (os : List ℕ) (u : ℕ)
+      → concludeOp p words (Fault n) q c os u ≡ afterEvent (faultEvent n)
       (processWords (record { status = stopped n; frames = f ∷ fs }))
   unfolding concludeOp withStatus
-  concluded-fault n a b q c os u =
-      ap withStatus
-      (sym
-      (event-fault p words n q c os u (λ e. omega arith) (λ e. omega arith) (λ e. omega arith) (λ e. omega arith)
-      (λ e. omega arith) refl))
+  concluded-fault n a q c os u =
+      ap withStatus (sym (event-fault p words (Fault n) q c os u n refl refl))
       ∙ ap (afterEvent (faultEvent n))
       (status-stopped words (faultEvent n) (λ e. omega arith) ∙ stopped-words (busy .stack) n)
 
@@ -93,11 +101,11 @@ module _ {p : List ℕ} (outcomes : List ℕ) (s : State) {f : Frame} {fs : List
       process-length p (s .config) (runs (f ∷ fs)) (record { status = omega arith; depth = omega (arith, busy .stack .deep); frames = busy .stack .sound })
 
   pub concluded-ends : (q c : ℕ) (os : List ℕ) (u : ℕ)
-      → concludeOp p words 113 q c os u ≡ afterEvent (lineEvent 9 65535 65535 65535)
+      → concludeOp p words LastRet q c os u ≡ afterEvent (lineEvent 9 65535 65535 65535)
       (processWords (record { status = finished; frames = [] }))
   unfolding concludeOp withStatus
   concluded-ends q c os u =
-      ap withStatus (sym (event-end p words 113 q c os u refl refl))
+      ap withStatus (sym (event-end p words LastRet q c os u refl refl))
       ∙ ap (afterEvent (lineEvent 9 65535 65535 65535))
       (status-finished words (lineEvent 9 65535 65535 65535) refl refl ∙ finished-words words words-long)
 
@@ -147,28 +155,25 @@ module _ {p : List ℕ} (outcomes : List ℕ) (s : State) {f : Frame} {fs : List
   pub concluded-op : All (λ o. o ≤ 2) outcomes → (k : ℕ) → opAt p (f .place) ≡ k → writesLine k ≡ true
       → Height (atFrame p outcomes s f fs)
       → Concluded (atFrame p outcomes s f fs)
-      (concludeOp p (processWords (runs (f ∷ fs))) (100 + k) (s .config .qubits) (s .config .channels) outcomes
+      (concludeOp p (processWords (runs (f ∷ fs))) (singleAt k) (s .config .qubits) (s .config .channels) outcomes
       (s .used))
   unfolding concludeOp performOp
-  concluded-op bytes zero e t h = absurd (true≢false (sym t))
-  concluded-op bytes (suc zero) e t h = absurd (true≢false (sym t))
-  concluded-op bytes (suc (suc zero)) e t h = absurd (true≢false (sym t))
-  concluded-op bytes (suc (suc (suc zero))) e t h = absurd (true≢false (sym t))
-  concluded-op bytes (suc (suc (suc (suc zero)))) e t h = absurd (true≢false (sym t))
-  concluded-op bytes (suc (suc (suc (suc (suc zero))))) e t h = absurd (true≢false (sym t))
-  concluded-op bytes (suc (suc (suc (suc (suc (suc zero)))))) e t h = absurd (true≢false (sym t))
-  concluded-op bytes (suc (suc (suc (suc (suc (suc (suc zero))))))) e t h =
-      by-head (λ g. newqOp words g (s .config .qubits)) (newq-apart words top (s .config .qubits))
-      (newq-event outcomes s busy few e h)
-  concluded-op bytes (suc (suc (suc (suc (suc (suc (suc (suc zero)))))))) e t h =
-      by-head (λ g. newcOp words g (s .config .channels)) (newc-apart words top (s .config .channels))
-      (newc-event outcomes s busy few e h)
-  concluded-op bytes (suc (suc (suc (suc (suc (suc (suc (suc (suc zero))))))))) e t h = absurd (true≢false (sym t))
-  concluded-op bytes (suc (suc (suc (suc (suc (suc (suc (suc (suc (suc zero)))))))))) e t h =
-      by-head (λ g. gateOp words g (argAt p (g .place))) (gate-apart words top (argAt p (f .place)))
-      (gate-event outcomes s busy few e h)
-  concluded-op bytes (suc (suc (suc (suc (suc (suc (suc (suc (suc (suc (suc zero))))))))))) e t h =
-      by-head (λ g. measOp words g outcomes (s .used)) (meas-apart words top outcomes (s .used))
-      (meas-event outcomes s busy few bytes e h)
-  concluded-op bytes (suc (suc (suc (suc (suc (suc (suc (suc (suc (suc (suc (suc k)))))))))))) e t h =
-      absurd (true≢false (sym t))
+  concluded-op bytes k =
+      by-number
+      (λ (k : ℕ). opAt p (f .place) ≡ k → writesLine k ≡ true → Height does
+      → Concluded does (concludeOp p words (singleAt k) (s .config .qubits) (s .config .channels) outcomes (s .used)))
+      12
+      (silent ▹ silent ▹ silent ▹ silent ▹ silent ▹ silent ▹ silent ▹
+      (λ e t h. by-head (λ g. newqOp words g (s .config .qubits)) (newq-apart words top (s .config .qubits))
+      (newq-event outcomes s busy few e h)) ▹
+      (λ e t h. by-head (λ g. newcOp words g (s .config .channels)) (newc-apart words top (s .config .channels))
+      (newc-event outcomes s busy few e h)) ▹
+      silent ▹
+      (λ e t h. by-head (λ g. gateOp words g (argAt p (g .place))) (gate-apart words top (argAt p (f .place)))
+      (gate-event outcomes s busy few e h)) ▹
+      (λ e t h. by-head (λ g. measOp words g outcomes (s .used)) (meas-apart words top outcomes (s .used))
+      (meas-event outcomes s busy few bytes e h)) ▹
+      (λ k. silent)) k
+    where
+      silent : {A B C : Type 0} → A → false ≡ true → B → C
+      silent e t h = absurd (true≢false (sym t))

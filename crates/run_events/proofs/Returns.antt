@@ -12,29 +12,31 @@ use Rattle.run_events.specs.EventsCode.{AfterEvent, afterEvent, faultEve
 use Rattle.run_events.specs.declared.outcome.Outcome.{Outcome}
 use Rattle.run_events.specs.Outcome.{outcomeNo}
 use Rattle.run_events.specs.EndsCode.{stoppedWords, finishedWords}
+use Rattle.run_events.specs.declared.conclude.Single.{Single}
+use Rattle.run_events.specs.declared.conclude.Single.the-variants.{NewQ, NewC, Gate, Meas, LastRet, Fault}
 use Rattle.run_events.specs.ConcludeCode.{performOp, statusWords}
 
-module _ (p w : List ℕ) (code qubits channels : ℕ) (outcomes : List ℕ) (used : ℕ) {d : AfterEvent} where
-  -- the answer at this code
-  at-code : (k : ℕ) → code ≡ k → d ≡ performOp p w k qubits channels outcomes used
-      → d ≡ performOp p w code qubits channels outcomes used
-  at-code k e q = q ∙ ap (λ (n : ℕ). performOp p w n qubits channels outcomes used) (sym e)
+module _ (p w : List ℕ) (does : Single) (qubits channels : ℕ) (outcomes : List ℕ) (used : ℕ) {d : AfterEvent} where
+  -- the answer in this case
+  at-case : (k : Single) → does ≡ k → d ≡ performOp p w k qubits channels outcomes used
+      → d ≡ performOp p w does qubits channels outcomes used
+  at-case k e q = q ∙ ap (λ (x : Single). performOp p w x qubits channels outcomes used) (sym e)
 
   module _ {h : Head} (e : h ≡ headOf w) where
-    pub event-newq : code ≡ 107 → d ≡ newqOp w h qubits → d ≡ performOp p w code qubits channels outcomes used
+    pub event-newq : does ≡ NewQ → d ≡ newqOp w h qubits → d ≡ performOp p w does qubits channels outcomes used
     unfolding performOp
-    event-newq k q = at-code 107 k (q ∙ ap (λ (g : Head). newqOp w g qubits) e)
+    event-newq k q = at-case NewQ k (q ∙ ap (λ (g : Head). newqOp w g qubits) e)
 
-    pub event-newc : code ≡ 108 → d ≡ newcOp w h channels → d ≡ performOp p w code qubits channels outcomes used
+    pub event-newc : does ≡ NewC → d ≡ newcOp w h channels → d ≡ performOp p w does qubits channels outcomes used
     unfolding performOp
-    event-newc k q = at-code 108 k (q ∙ ap (λ (g : Head). newcOp w g channels) e)
+    event-newc k q = at-case NewC k (q ∙ ap (λ (g : Head). newcOp w g channels) e)
 
-    pub event-gate : (start a : ℕ) → start ≡ 2 + 20 * methods p → a ≡ word p (start + 2 * h .place + 1) → code ≡ 110
+    pub event-gate : (start a : ℕ) → start ≡ 2 + 20 * methods p → a ≡ word p (start + 2 * h .place + 1) → does ≡ Gate
         → d ≡ gateOp w h a
-        → d ≡ performOp p w code qubits channels outcomes used
+        → d ≡ performOp p w does qubits channels outcomes used
     unfolding performOp argAt
     event-gate start a s i k q =
-        at-code 110 k
+        at-case Gate k
         (q
         ∙ ap (gateOp w h) (i ∙ ap (word p) next)
         ∙ ap (λ (g : Head). gateOp w g (word p (3 + 20 * methods p + 2 * g .place))) e)
@@ -42,21 +44,19 @@ module _ (p w : List ℕ) (code qubits channels : ℕ) (outcomes : List ℕ) (us
         next : start + 2 * h .place + 1 ≡ 3 + 20 * methods p + 2 * h .place
         next = omega (arith, s)
 
-    pub event-meas : code ≡ 111 → d ≡ measOp w h outcomes used → d ≡ performOp p w code qubits channels outcomes used
+    pub event-meas : does ≡ Meas → d ≡ measOp w h outcomes used → d ≡ performOp p w does qubits channels outcomes used
     unfolding performOp
-    event-meas k q = at-code 111 k (q ∙ ap (λ (g : Head). measOp w g outcomes used) e)
+    event-meas k q = at-case Meas k (q ∙ ap (λ (g : Head). measOp w g outcomes used) e)
 
-  pub event-end : code ≡ 113 → d ≡ afterEvent (lineEvent 9 65535 65535 65535) w
-      → d ≡ performOp p w code qubits channels outcomes used
+  pub event-end : does ≡ LastRet → d ≡ afterEvent (lineEvent 9 65535 65535 65535) w
+      → d ≡ performOp p w does qubits channels outcomes used
   unfolding performOp
-  event-end k q = at-code 113 k q
+  event-end k q = at-case LastRet k q
 
-  -- any other code is a fault's
-  pub event-fault : (code ≡ 107 → ⊥) → (code ≡ 108 → ⊥) → (code ≡ 110 → ⊥) → (code ≡ 111 → ⊥) → (code ≡ 113 → ⊥)
-      → d ≡ afterEvent (faultEvent code) w → d ≡ performOp p w code qubits channels outcomes used
+  pub event-fault : (n : ℕ) → does ≡ Fault n → d ≡ afterEvent (faultEvent n) w
+      → d ≡ performOp p w does qubits channels outcomes used
   unfolding performOp
-  event-fault a b x y z q =
-      rw (ne-eqb code 107 a, ne-eqb code 108 b, ne-eqb code 110 x, ne-eqb code 111 y, ne-eqb code 113 z) q
+  event-fault n k q = at-case (Fault n) k q
 
 -- the process as the line leaves it
 

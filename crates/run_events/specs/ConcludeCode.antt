@@ -9,15 +9,16 @@ use Rattle.run_store.specs.StoreCode.{headOf}
 use Rattle.run_events.specs.declared.event.EventResult.{EventResult}
 use Rattle.run_events.specs.EventsCode.{AfterEvent, afterEvent, faultEvent, lineEvent, newqOp, newcOp, gateOp, measOp}
 use Rattle.run_events.specs.EndsCode.{stoppedWords, finishedWords}
-use Rattle.run_values.specs.ValuesCode.{atNewQ, atNewC, atGate, atMeas, atLastRet}
+use Rattle.run_events.specs.declared.conclude.Single.{Single}
+use Rattle.run_events.specs.declared.conclude.Single.the-variants.{NewQ, NewC, Gate, Meas, LastRet, Fault}
 
-unfoldable pub performOp : List ℕ → List ℕ → ℕ → ℕ → ℕ → List ℕ → ℕ → AfterEvent
-performOp p w code qubits channels outcomes used =
-    cond (eqb code atNewQ) (newqOp w (headOf w) qubits)
-    (cond (eqb code atNewC) (newcOp w (headOf w) channels)
-    (cond (eqb code atGate) (gateOp w (headOf w) (argAt p (headOf w .place)))
-    (cond (eqb code atMeas) (measOp w (headOf w) outcomes used)
-    (cond (eqb code atLastRet) (afterEvent (lineEvent 9 65535 65535 65535) w) (afterEvent (faultEvent code) w)))))
+unfoldable pub performOp : List ℕ → List ℕ → Single → ℕ → ℕ → List ℕ → ℕ → AfterEvent
+performOp p w NewQ qubits channels outcomes used = newqOp w (headOf w) qubits
+performOp p w NewC qubits channels outcomes used = newcOp w (headOf w) channels
+performOp p w Gate qubits channels outcomes used = gateOp w (headOf w) (argAt p (headOf w .place))
+performOp p w Meas qubits channels outcomes used = measOp w (headOf w) outcomes used
+performOp p w LastRet qubits channels outcomes used = afterEvent (lineEvent 9 65535 65535 65535) w
+performOp p w (Fault n) qubits channels outcomes used = afterEvent (faultEvent n) w
 
 unfoldable pub statusWords : List ℕ → EventResult → List ℕ
 statusWords w t = cond (eqb (t .code) 0) (cond (eqb (t .kind) 9) (finishedWords w) w) (stoppedWords w (t .code))
@@ -25,5 +26,5 @@ statusWords w t = cond (eqb (t .code) 0) (cond (eqb (t .kind) 9) (finishedWords 
 unfoldable pub withStatus : AfterEvent → AfterEvent
 withStatus l = afterEvent (l .event) (statusWords (l .words) (l .event))
 
-unfoldable pub concludeOp : List ℕ → List ℕ → ℕ → ℕ → ℕ → List ℕ → ℕ → AfterEvent
-concludeOp p w code qubits channels outcomes used = withStatus (performOp p w code qubits channels outcomes used)
+unfoldable pub concludeOp : List ℕ → List ℕ → Single → ℕ → ℕ → List ℕ → ℕ → AfterEvent
+concludeOp p w does qubits channels outcomes used = withStatus (performOp p w does qubits channels outcomes used)

@@ -17,40 +17,40 @@ use run_store::head::Head;
 use run_store::head::read_head;
 use table::words::word_at;
 
-// What the step answered, in the 16 bits that a fault's number has in a line (`codes` of run_values).
-const AT_NEWQ: u16 = 107;
+// What an entry with one line does: one of four ops, RET of the root frame, which finishes the process, or a fault, by
+// its number.
+pub enum Single {
+    NewQ,
+    NewC,
+    Gate,
+    Meas,
+    LastRet,
+    Fault(u16),
+}
 
-const AT_NEWC: u16 = 108;
-
-const AT_GATE: u16 = 110;
-
-const AT_MEAS: u16 = 111;
-
-const AT_LAST_RET: u16 = 113;
-
-// What the line says: of an op that writes one, of the root frame's return, or else of the fault.
+// What the line says: of an op that writes one, of the root frame's return, or of the fault.
 pub fn perform(
     p: &[u16],
     start: usize,
     w: &mut [u32],
-    code: u16,
+    does: Single,
     qubits: u32,
     channels: u32,
     outcomes: &[u8],
     used: usize,
 ) -> EventResult
     requires { ⌜ start ≡ 2 + 20 * methods (now p) ⌝ }
-    ensures { λ r. ⌜ afterEvent r (now (w .exit)) ≡ performOp (now (p .entry)) (now (w .entry)) code qubits channels (now (outcomes .entry)) used ⌝ }
+    ensures { λ r. ⌜ afterEvent r (now (w .exit)) ≡ performOp (now (p .entry)) (now (w .entry)) does qubits channels (now (outcomes .entry)) used ⌝ }
 {
     let h = read_head(w);
     let a = word_at(p, start + 2 * (h.place as usize) + 1);
-    match code {
-        AT_NEWQ => op_newq(w, h, qubits),
-        AT_NEWC => op_newc(w, h, channels),
-        AT_GATE => op_gate(w, h, a as u16),
-        AT_MEAS => op_meas(w, h, outcomes, used),
-        AT_LAST_RET => line(9, 65535, 65535, 65535),
-        _ => fault(code),
+    match does {
+        Single::NewQ => op_newq(w, h, qubits),
+        Single::NewC => op_newc(w, h, channels),
+        Single::Gate => op_gate(w, h, a as u16),
+        Single::Meas => op_meas(w, h, outcomes, used),
+        Single::LastRet => line(9, 65535, 65535, 65535),
+        Single::Fault(n) => fault(n),
     }
 }
 
@@ -71,16 +71,16 @@ pub fn conclude(
     p: &[u16],
     start: usize,
     w: &mut [u32],
-    code: u16,
+    does: Single,
     qubits: u32,
     channels: u32,
     outcomes: &[u8],
     used: usize,
 ) -> EventResult
     requires { ⌜ start ≡ 2 + 20 * methods (now p) ⌝ }
-    ensures { λ r. ⌜ afterEvent r (now (w .exit)) ≡ concludeOp (now (p .entry)) (now (w .entry)) code qubits channels (now (outcomes .entry)) used ⌝ }
+    ensures { λ r. ⌜ afterEvent r (now (w .exit)) ≡ concludeOp (now (p .entry)) (now (w .entry)) does qubits channels (now (outcomes .entry)) used ⌝ }
 {
-    let t = perform(p, start, w, code, qubits, channels, outcomes, used);
+    let t = perform(p, start, w, does, qubits, channels, outcomes, used);
     update_status(w, t);
     t
 }

@@ -1,4 +1,4 @@
--- The ops' functions do what document 01's ops do: the words and the code that each leaves agree with what the process
+-- The ops' functions do what document 01's ops do: the answer and the words that each leaves agree with what the process
 -- at that op would do.
 use Prim.Native.Nat.{ℕ, zero, suc, _+_, _*_, _-_, _%_, _≤_, _<_}
 use mathlib.Core.Path.{_≡_, refl, sym, _∙_, ap, ap₂, subst, subst₂}
@@ -13,6 +13,7 @@ use lib.Dec.{T, eqb, leb, ltb, ltb→lt, leb→le, leb·zero}
 use borrow.Author.Tests.{ne-eqb, le-leb, lt-leb, leb-true, leb-false, ltb-true, ltb-false, eqb-true}
 use Rattle.lists.specs.Lists.{any, All}
 use Rattle.lists.proofs.Tests.{and-left, decide}
+use Rattle.lists.proofs.Numbers.{by-number, _▹_}
 use Rattle.table.specs.Table.{methods, offsetOf, returnOf, paramsOf, opAt, argAt, ownerOf, slotType}
 use Rattle.table.specs.Ops.{opOf, ops, opInt, opBool, opGet, opPut, opDrop, opClear, opEnd, opJump, opJFalse, opArith, opCompare, opNot, opCall, opRet, returned, unlisted}
 use Rattle.table.specs.Reading.{takenAt}
@@ -30,25 +31,47 @@ use Rattle.run_store.specs.declared.values.Val.{Val}
 use Rattle.run_store.specs.declared.head.Head.{Head}
 use Rattle.run_store.specs.StoreCode.{valueAt, slotAt, topAt, emptyDown}
 use Rattle.run_values.specs.ValuesCode.{AfterStep, afterStep, emptyVal, intVal, boolVal, unlessEmpty, pushOn, onTop, dropTop, dropTo, overTwo, inSlot, signExtended, getOp, putOp, dropOp, endOp, targetOf, jumpOp, jfalseOp, biased, resultOp, emptyTwo, twoOp, addOp, subOp, bit, eqOp, lessOp, notOp, intOp, boolOp, clearOp}
+use Rattle.run_values.specs.declared.steps.StepResult.{StepResult}
+use Rattle.run_values.specs.declared.steps.StepResult.the-variants.{WentOn, NotRunning, AtNewQ, AtNewC, AtGate, AtMeas, AtLastRet, AtFork, AtSend, AtRecv, Empty, FrameBeyond8, OutOfRange}
 use Rattle.run_ops.specs.OpsCode.{opened, callOp, closed, handed, retOp, opFunctions, actOp, stepOp}
 use Rattle.run_values.proofs.Ints.{Shifted, sum-shifted, difference-shifted, less-same, words-same}
 use Rattle.run_ops.proofs.FramesOpened.{opened-words, closed-words, handed-words}
 use Rattle.run_store.proofs.Vals.{valOf}
 use Rattle.run_values.proofs.Places.{headIn, head-is, slot-read, top-read, push-words, slot-words, drop-words, drop-to-words, move-words, top-words, two-words}
 
--- What an act within one process that writes no line leaves, as code and words; the root frame's return is left to the
--- caller, as 113. No other act agrees with anything.
+-- the answers that are faults, each with its number
+abbrev pub FaultIs : ℕ → StepResult → Type 0
+FaultIs n WentOn = ⊥
+FaultIs n NotRunning = ⊥
+FaultIs n AtNewQ = ⊥
+FaultIs n AtNewC = ⊥
+FaultIs n AtGate = ⊥
+FaultIs n AtMeas = ⊥
+FaultIs n AtLastRet = ⊥
+FaultIs n AtFork = ⊥
+FaultIs n AtSend = ⊥
+FaultIs n AtRecv = ⊥
+FaultIs n Empty = n ≡ 20
+FaultIs n FrameBeyond8 = n ≡ 25
+FaultIs n OutOfRange = n ≡ 26
+
+-- What an act within one process that writes no line leaves, as answer and words; the root frame's return is left to
+-- the caller. No other act agrees with anything.
 abbrev pub Agrees : Act → List ℕ → AfterStep → Type 0
 Agrees idle w d = ⊥
 Agrees stuck w d = Unit {0}
-Agrees (faults n) w d = d ≡ afterStep n w
-Agrees (goes fs [] zero) w d = d ≡ afterStep 0 (processWords (runs fs))
+Agrees (faults n) w d = FaultIs n (d .result) × (d .words ≡ w)
+Agrees (goes fs [] zero) w d = d ≡ afterStep WentOn (processWords (runs fs))
 Agrees (goes fs [] (suc u)) w d = ⊥
 Agrees (goes fs (e ∷ es) u) w d = ⊥
-Agrees ends w d = d ≡ afterStep 113 w
+Agrees ends w d = d ≡ afterStep AtLastRet w
 Agrees (makes t fs) w d = ⊥
 Agrees (forks m args fs) w d = ⊥
 Agrees (offers o) w d = ⊥
+
+fault-agrees : {w : List ℕ} {d : AfterStep} (n : ℕ) (r : StepResult) → FaultIs n r → d ≡ afterStep r w
+    → Agrees (faults n) w d
+fault-agrees n r f e = (subst (λ (d : AfterStep). FaultIs n (d .result)) (sym e) f, ap (λ (d : AfterStep). d .words) e)
 
 -- the top frame after the act has at most 8 pending values
 abbrev pub Height : Act → Type 0
@@ -76,9 +99,9 @@ tag-test (ref (end n true)) = refl
 tag-test (ref (end n false)) = refl
 
 unless-read : (u : Val) (v : Value) (w : List ℕ) (d : AfterStep) → u ≡ valOf v
-    → unlessEmpty u w d ≡ cond (isEmpty v) (afterStep 20 w) d
+    → unlessEmpty u w d ≡ cond (isEmpty v) (afterStep Empty w) d
 unfolding unlessEmpty
-unless-read u v w d e = ap (λ (b : Bool). cond b (afterStep 20 w) d) (ap (λ (x : Val). eqb (x .tag) 0) e ∙ tag-test v)
+unless-read u v w d e = ap (λ (b : Bool). cond b (afterStep Empty w) d) (ap (λ (x : Val). eqb (x .tag) 0) e ∙ tag-test v)
 
 -- the value that INT pushes, and the one that BOOL pushes
 int-value : (a : ℕ) → a < 65536 → intVal (signExtended a) ≡ valOf (int (signed16 a))
@@ -240,8 +263,8 @@ module _ {p : List ℕ} (outcomes : List ℕ) (s : State) {f : Frame} {fs : List
 
   -- one operand: fault 20, or what the op does with a value that is not empty
   unless-good : (u : Value) (x : Act) (d : AfterStep) → (isEmpty u ≡ false → Good x d)
-      → Good (cond (isEmpty u || false) (faults 20) x) (cond (isEmpty u) (afterStep 20 w) d)
-  unless-good empty x d g = λ h. refl
+      → Good (cond (isEmpty u || false) (faults 20) x) (cond (isEmpty u) (afterStep Empty w) d)
+  unless-good empty x d g = λ h. (refl, refl)
   unless-good (int z) x d g = g refl
   unless-good (bool b) x d g = g refl
   unless-good (ref t) x d g = g refl
@@ -255,23 +278,23 @@ module _ {p : List ℕ} (outcomes : List ℕ) (s : State) {f : Frame} {fs : List
       one-op k (unlessEmpty (valueAt w (topAt hd 1)) w (d (valueAt w (topAt hd 1)))) e t
       (λ u us q. answer-as (cond (isEmpty u || false) (faults 20) (doingOf k (scene 1 (u ∷ us))))
       (unless-read (valueAt w (topAt hd 1)) u w (d (valueAt w (topAt hd 1))) (read-top u us q)
-      ∙ ap (λ (v : Val). cond (isEmpty u) (afterStep 20 w) (d v)) (read-top u us q))
+      ∙ ap (λ (v : Val). cond (isEmpty u) (afterStep Empty w) (d v)) (read-top u us q))
       (unless-good u (doingOf k (scene 1 (u ∷ us))) (d (valOf u)) (g u us q)))
 
   -- INT and BOOL
 
-  pub int-agrees : opAt p (f .place) ≡ 1 → Good act (afterStep 0 (pushOn w hd (intVal (signExtended a))))
+  pub int-agrees : opAt p (f .place) ≡ 1 → Good act (afterStep WentOn (pushOn w hd (intVal (signExtended a))))
   unfolding doingOf doings doInt opOf ops opInt passedBy
   int-agrees e =
-      by (act-zero 1 e (taken-by 1 e)) (ap (λ (v : Val). afterStep 0 (pushOn w hd v)) (int-value a (busy .small)))
-      (λ h. ap (afterStep 0) (push-words (busy .stack) (int (signed16 a)) h))
+      by (act-zero 1 e (taken-by 1 e)) (ap (λ (v : Val). afterStep WentOn (pushOn w hd v)) (int-value a (busy .small)))
+      (λ h. ap (afterStep WentOn) (push-words (busy .stack) (int (signed16 a)) h))
 
-  pub bool-agrees : opAt p (f .place) ≡ 2 → Good act (afterStep 0 (pushOn w hd (boolVal a)))
+  pub bool-agrees : opAt p (f .place) ≡ 2 → Good act (afterStep WentOn (pushOn w hd (boolVal a)))
   unfolding doingOf doings doBool opOf ops opBool passedBy
   bool-agrees e =
       by (act-zero 2 e (taken-by 2 e))
-      (ap (λ (v : Val). afterStep 0 (pushOn w hd v)) (bool-value a (leb→le a 1 (argument-kept 2 e))))
-      (λ h. ap (afterStep 0) (push-words (busy .stack) (bool (eqb a 1)) h))
+      (ap (λ (v : Val). afterStep WentOn (pushOn w hd v)) (bool-value a (leb→le a 1 (argument-kept 2 e))))
+      (λ h. ap (afterStep WentOn) (push-words (busy .stack) (bool (eqb a 1)) h))
 
   -- GET
 
@@ -281,20 +304,20 @@ module _ {p : List ℕ} (outcomes : List ℕ) (s : State) {f : Frame} {fs : List
 
   get-value : (v : Value)
       → Good (present v (pushes (scene 0 (f .pending))))
-      (cond (isEmpty v) (afterStep 20 w) (afterStep 0 (pushOn w hd (valOf v))))
+      (cond (isEmpty v) (afterStep Empty w) (afterStep WentOn (pushOn w hd (valOf v))))
   unfolding passedBy
-  get-value empty h = refl
-  get-value (int z) h = ap (afterStep 0) (push-words (busy .stack) (int z) h)
-  get-value (bool b) h = ap (afterStep 0) (push-words (busy .stack) (bool b) h)
-  get-value (ref t) h = ap (afterStep 0) (push-words (busy .stack) (ref t) h)
+  get-value empty h = (refl, refl)
+  get-value (int z) h = ap (afterStep WentOn) (push-words (busy .stack) (int z) h)
+  get-value (bool b) h = ap (afterStep WentOn) (push-words (busy .stack) (bool b) h)
+  get-value (ref t) h = ap (afterStep WentOn) (push-words (busy .stack) (ref t) h)
 
   pub get-agrees : opAt p (f .place) ≡ 3 → Good act (getOp w hd a)
   unfolding getOp doingOf doings doGet opOf ops opGet
   get-agrees e =
       by (act-zero 3 e (taken-by 3 e))
       (unless-read (valueAt w (slotAt hd a)) (getD (f .slots) a empty) w
-      (afterStep 0 (pushOn w hd (valueAt w (slotAt hd a)))) read
-      ∙ ap (λ (v : Val). cond (isEmpty (getD (f .slots) a empty)) (afterStep 20 w) (afterStep 0 (pushOn w hd v))) read)
+      (afterStep WentOn (pushOn w hd (valueAt w (slotAt hd a)))) read
+      ∙ ap (λ (v : Val). cond (isEmpty (getD (f .slots) a empty)) (afterStep Empty w) (afterStep WentOn (pushOn w hd v))) read)
       (get-value (getD (f .slots) a empty))
     where
       read : valueAt w (slotAt hd a) ≡ valOf (getD (f .slots) a empty)
@@ -309,8 +332,8 @@ module _ {p : List ℕ} (outcomes : List ℕ) (s : State) {f : Frame} {fs : List
   pub put-agrees : opAt p (f .place) ≡ 4 → Good act (putOp w hd a)
   unfolding putOp doingOf doings doPut opOf ops opPut passedBy
   put-agrees e =
-      top-op 4 (λ v. afterStep 0 (inSlot w hd a v)) e (taken-by 4 e)
-      (λ u us q n h. ap (afterStep 0)
+      top-op 4 (λ v. afterStep WentOn (inSlot w hd a v)) e (taken-by 4 e)
+      (λ u us q n h. ap (afterStep WentOn)
       (slot-words (busy .stack) a u (put-slot e)
       ∙ ap (λ (vs : List Value). processWords (runs (withSlot a u (atPlace (suc (f .place)) (withPending vs f)) ∷ fs)))
       q))
@@ -318,37 +341,37 @@ module _ {p : List ℕ} (outcomes : List ℕ) (s : State) {f : Frame} {fs : List
   pub drop-agrees : opAt p (f .place) ≡ 5 → Good act (dropOp w hd)
   unfolding dropOp doingOf doings doDrop opOf ops opDrop
   drop-agrees e =
-      top-op 5 (λ v. afterStep 0 (dropTop w hd)) e (taken-by 5 e)
-      (λ u us q n h. ap (afterStep 0) (drop-words (busy .stack) u us q))
+      top-op 5 (λ v. afterStep WentOn (dropTop w hd)) e (taken-by 5 e)
+      (λ u us q n h. ap (afterStep WentOn) (drop-words (busy .stack) u us q))
 
   clear-slot : opAt p (f .place) ≡ 6 → a < 16
   unfolding opOf ops opClear
   clear-slot e =
       ltb→lt a 16 (and-left (ltb a 16) (not (eqb (slotType p (ownerOf p (f .place)) a) 0)) (argument-kept 6 e))
 
-  pub clear-agrees : opAt p (f .place) ≡ 6 → Good act (afterStep 0 (inSlot w hd a emptyVal))
+  pub clear-agrees : opAt p (f .place) ≡ 6 → Good act (afterStep WentOn (inSlot w hd a emptyVal))
   unfolding doingOf doings doClear opOf ops opClear passedBy valOf tagOf numberOf valueWords
   clear-agrees e =
-      by (act-zero 6 e (taken-by 6 e)) refl (λ h. ap (afterStep 0) (slot-words (busy .stack) a empty (clear-slot e)))
+      by (act-zero 6 e (taken-by 6 e)) refl (λ h. ap (afterStep WentOn) (slot-words (busy .stack) a empty (clear-slot e)))
 
   -- END
 
   pub end-agrees : opAt p (f .place) ≡ 9 → Good act (endOp w hd a)
   unfolding endOp doingOf doings doEnd opOf ops opEnd valOf numberOf valueWords
-  end-agrees e = top-op 9 (λ v. afterStep 0 (onTop w hd (record { tag = 5 + a; number = v .number }))) e (taken-by 9 e) found
+  end-agrees e = top-op 9 (λ v. afterStep WentOn (onTop w hd (record { tag = 5 + a; number = v .number }))) e (taken-by 9 e) found
     where
       side : a ≤ 1
       side = leb→le a 1 (argument-kept 9 e)
 
       found : (u : Value) (us : List Value) → f .pending ≡ u ∷ us → isEmpty u ≡ false
           → Good (doEnd (scene 1 (u ∷ us)))
-          (afterStep 0 (onTop w hd (record { tag = 5 + a; number = valOf u .number })))
+          (afterStep WentOn (onTop w hd (record { tag = 5 + a; number = valOf u .number })))
       found empty us q n h = tt
       found (int z) us q n h = tt
       found (bool b) us q n h = tt
       found (ref (qubit k)) us q n h = tt
       found (ref (channel k)) us q n h =
-          ap (afterStep 0)
+          ap (afterStep WentOn)
           (ap (onTop w hd) (end-value a k side)
           ∙ top-words (busy .stack) (ref (channel k)) (ref (end k (sideOf a))) us q)
       found (ref (end k r)) us q n h = tt
@@ -359,50 +382,50 @@ module _ {p : List ℕ} (outcomes : List ℕ) (s : State) {f : Frame} {fs : List
   unfolding jumpOp targetOf doingOf doings doJump opOf ops opJump
   jump-agrees e =
       by (act-zero 17 e (taken-by 17 e)) refl
-      (λ h. ap (afterStep 0) (move-words (busy .stack) (offsetOf p (f .method) + a)))
+      (λ h. ap (afterStep WentOn) (move-words (busy .stack) (offsetOf p (f .method) + a)))
 
   pub jfalse-agrees : opAt p (f .place) ≡ 18 → Good act (jfalseOp p w hd a)
   unfolding jfalseOp targetOf doingOf doings doJFalse opOf ops opJFalse valOf numberOf valueWords
   jfalse-agrees e =
       top-op 18
-      (λ v. cond (eqb (v .number) 0) (afterStep 0 (dropTo w hd (offsetOf p (f .method) + a)))
-      (afterStep 0 (dropTop w hd))) e (taken-by 18 e) found
+      (λ v. cond (eqb (v .number) 0) (afterStep WentOn (dropTo w hd (offsetOf p (f .method) + a)))
+      (afterStep WentOn (dropTop w hd))) e (taken-by 18 e) found
     where
       found : (u : Value) (us : List Value) → f .pending ≡ u ∷ us → isEmpty u ≡ false
           → Good (doJFalse (scene 1 (u ∷ us)))
-          (cond (eqb (valOf u .number) 0) (afterStep 0 (dropTo w hd (offsetOf p (f .method) + a)))
-          (afterStep 0 (dropTop w hd)))
+          (cond (eqb (valOf u .number) 0) (afterStep WentOn (dropTo w hd (offsetOf p (f .method) + a)))
+          (afterStep WentOn (dropTop w hd)))
       found empty us q n h = tt
       found (int z) us q n h = tt
-      found (bool true) us q n h = ap (afterStep 0) (drop-words (busy .stack) (bool true) us q)
+      found (bool true) us q n h = ap (afterStep WentOn) (drop-words (busy .stack) (bool true) us q)
       found (bool false) us q n h =
-          ap (afterStep 0) (drop-to-words (busy .stack) (bool false) us (offsetOf p (f .method) + a) q)
+          ap (afterStep WentOn) (drop-to-words (busy .stack) (bool false) us (offsetOf p (f .method) + a) q)
       found (ref t) us q n h = tt
 
   -- NOT
 
   pub not-agrees : opAt p (f .place) ≡ 23 → Good act (notOp w hd)
   unfolding notOp doingOf doings doNot opOf ops opNot valOf tagOf numberOf valueWords
-  not-agrees e = top-op 23 (λ v. afterStep 0 (onTop w hd (boolVal (bit (eqb (v .number) 0))))) e (taken-by 23 e) found
+  not-agrees e = top-op 23 (λ v. afterStep WentOn (onTop w hd (boolVal (bit (eqb (v .number) 0))))) e (taken-by 23 e) found
     where
       found : (u : Value) (us : List Value) → f .pending ≡ u ∷ us → isEmpty u ≡ false
-          → Good (doNot (scene 1 (u ∷ us))) (afterStep 0 (onTop w hd (boolVal (bit (eqb (valOf u .number) 0)))))
+          → Good (doNot (scene 1 (u ∷ us))) (afterStep WentOn (onTop w hd (boolVal (bit (eqb (valOf u .number) 0)))))
       found empty us q n h = tt
       found (int z) us q n h = tt
-      found (bool true) us q n h = ap (afterStep 0) (top-words (busy .stack) (bool true) (bool false) us q)
-      found (bool false) us q n h = ap (afterStep 0) (top-words (busy .stack) (bool false) (bool true) us q)
+      found (bool true) us q n h = ap (afterStep WentOn) (top-words (busy .stack) (bool true) (bool false) us q)
+      found (bool false) us q n h = ap (afterStep WentOn) (top-words (busy .stack) (bool false) (bool true) us q)
       found (ref t) us q n h = tt
 
   -- two ints
 
   -- the functions that read two operands first
   read-two : (y x : Value) (us : List Value) (k : ℕ → ℕ → AfterStep) → f .pending ≡ y ∷ x ∷ us
-      → twoOp w hd k ≡ cond (isEmpty x || isEmpty y) (afterStep 20 w) (k (valOf x .number) (valOf y .number))
+      → twoOp w hd k ≡ cond (isEmpty x || isEmpty y) (afterStep Empty w) (k (valOf x .number) (valOf y .number))
   unfolding twoOp emptyTwo
   read-two y x us k q =
-      ap₂ (λ (u v : Val). cond (eqb (u .tag) 0 || eqb (v .tag) 0) (afterStep 20 w) (k (u .number) (v .number)))
+      ap₂ (λ (u v : Val). cond (eqb (u .tag) 0 || eqb (v .tag) 0) (afterStep Empty w) (k (u .number) (v .number)))
       (read-second y x us q) (read-top y (x ∷ us) q)
-      ∙ ap₂ (λ (b c : Bool). cond (b || c) (afterStep 20 w) (k (valOf x .number) (valOf y .number))) (tag-test x)
+      ∙ ap₂ (λ (b c : Bool). cond (b || c) (afterStep Empty w) (k (valOf x .number) (valOf y .number))) (tag-test x)
       (tag-test y)
 
   -- the op on values of every kind: fault 20, or both are ints, or the process is stuck
@@ -424,23 +447,23 @@ module _ {p : List ℕ} (outcomes : List ℕ) (s : State) {f : Frame} {fs : List
           → Good
           (cond (isEmpty y || (isEmpty x || false)) (faults 20)
           (twoInts (scene 2 (y ∷ x ∷ us)) (act-of (scene 2 (y ∷ x ∷ us)))))
-          (cond (isEmpty x || isEmpty y) (afterStep 20 w) (g (valOf x .number) (valOf y .number)))
-      values empty empty us q h = refl
-      values empty (int x) us q h = refl
-      values empty (bool b) us q h = refl
-      values empty (ref r) us q h = refl
-      values (int y) empty us q h = refl
+          (cond (isEmpty x || isEmpty y) (afterStep Empty w) (g (valOf x .number) (valOf y .number)))
+      values empty empty us q h = (refl, refl)
+      values empty (int x) us q h = (refl, refl)
+      values empty (bool b) us q h = (refl, refl)
+      values empty (ref r) us q h = (refl, refl)
+      values (int y) empty us q h = (refl, refl)
       values (int y) (int x) us q h =
           let fine : All (ValueSound (s .config)) (int y ∷ int x ∷ us) =
           subst (All (ValueSound (s .config))) q (busy .stack .sound .0 .pending) in
           both x y us q (fine .1 .0) (fine .0) h
       values (int y) (bool b) us q h = tt
       values (int y) (ref r) us q h = tt
-      values (bool c) empty us q h = refl
+      values (bool c) empty us q h = (refl, refl)
       values (bool c) (int x) us q h = tt
       values (bool c) (bool b) us q h = tt
       values (bool c) (ref r) us q h = tt
-      values (ref o) empty us q h = refl
+      values (ref o) empty us q h = (refl, refl)
       values (ref o) (int x) us q h = tt
       values (ref o) (bool b) us q h = tt
       values (ref o) (ref r) us q h = tt
@@ -452,34 +475,34 @@ module _ {p : List ℕ} (outcomes : List ℕ) (s : State) {f : Frame} {fs : List
   result-good z n y x us q sh h =
       ⊎-elim
       (λ t. subst (λ (b : Bool). Agrees (result (scene 2 (y ∷ x ∷ us)) z) w
-      (cond b (afterStep 26 w)
-      (cond (leb 6442450944 n) (afterStep 26 w) (afterStep 0 (overTwo w hd (intVal (n % 4294967296))))))) (sym t)
+      (cond b (afterStep OutOfRange w)
+      (cond (leb 6442450944 n) (afterStep OutOfRange w) (afterStep WentOn (overTwo w hd (intVal (n % 4294967296))))))) (sym t)
       (out (sh .low (ltb-true n 2147483648 t))))
       (λ t. subst (λ (b : Bool). Agrees (result (scene 2 (y ∷ x ∷ us)) z) w
-      (cond b (afterStep 26 w)
-      (cond (leb 6442450944 n) (afterStep 26 w) (afterStep 0 (overTwo w hd (intVal (n % 4294967296))))))) (sym t)
+      (cond b (afterStep OutOfRange w)
+      (cond (leb 6442450944 n) (afterStep OutOfRange w) (afterStep WentOn (overTwo w hd (intVal (n % 4294967296))))))) (sym t)
       (⊎-elim
       (λ u. subst (λ (b : Bool). Agrees (result (scene 2 (y ∷ x ∷ us)) z) w
-      (cond b (afterStep 26 w) (afterStep 0 (overTwo w hd (intVal (n % 4294967296)))))) (sym u)
+      (cond b (afterStep OutOfRange w) (afterStep WentOn (overTwo w hd (intVal (n % 4294967296)))))) (sym u)
       (out (sh .high (leb-true 6442450944 n u))))
       (λ u. subst (λ (b : Bool). Agrees (result (scene 2 (y ∷ x ∷ us)) z) w
-      (cond b (afterStep 26 w) (afterStep 0 (overTwo w hd (intVal (n % 4294967296)))))) (sym u)
+      (cond b (afterStep OutOfRange w) (afterStep WentOn (overTwo w hd (intVal (n % 4294967296)))))) (sym u)
       (within (sh .inside (ltb-false n 2147483648 t) (leb-false 6442450944 n u))))
       (decide (leb 6442450944 n))))
       (decide (ltb n 2147483648))
     where
-      out : inRange z ≡ false → Agrees (result (scene 2 (y ∷ x ∷ us)) z) w (afterStep 26 w)
+      out : inRange z ≡ false → Agrees (result (scene 2 (y ∷ x ∷ us)) z) w (afterStep OutOfRange w)
       out e =
-          subst (λ (b : Bool). Agrees (cond b (pushes (scene 2 (y ∷ x ∷ us)) (int z)) (faults 26)) w (afterStep 26 w))
-          (sym e) refl
+          subst (λ (b : Bool). Agrees (cond b (pushes (scene 2 (y ∷ x ∷ us)) (int z)) (faults 26)) w (afterStep OutOfRange w))
+          (sym e) (refl, refl)
 
       within : (inRange z ≡ true) × (word32 z ≡ n % 4294967296)
-          → Agrees (result (scene 2 (y ∷ x ∷ us)) z) w (afterStep 0 (overTwo w hd (intVal (n % 4294967296))))
+          → Agrees (result (scene 2 (y ∷ x ∷ us)) z) w (afterStep WentOn (overTwo w hd (intVal (n % 4294967296))))
       within e =
           subst
           (λ (b : Bool). Agrees (cond b (pushes (scene 2 (y ∷ x ∷ us)) (int z)) (faults 26)) w
-          (afterStep 0 (overTwo w hd (intVal (n % 4294967296))))) (sym (e .0))
-          (ap (afterStep 0)
+          (afterStep WentOn (overTwo w hd (intVal (n % 4294967296))))) (sym (e .0))
+          (ap (afterStep WentOn)
           (ap (λ (m : ℕ). overTwo w hd (intVal m)) (sym (e .1)) ∙ two-words (busy .stack) y x (int z) us q))
 
   pub add-agrees : opAt p (f .place) ≡ 19 → Good act (addOp w hd)
@@ -499,19 +522,19 @@ module _ {p : List ℕ} (outcomes : List ℕ) (s : State) {f : Frame} {fs : List
 
   -- a boolean in place of two ints
   test-good : (b c : Bool) (y x : Value) (us : List Value) → b ≡ c → f .pending ≡ y ∷ x ∷ us
-      → Good (pushes (scene 2 (y ∷ x ∷ us)) (bool c)) (afterStep 0 (overTwo w hd (boolVal (bit b))))
+      → Good (pushes (scene 2 (y ∷ x ∷ us)) (bool c)) (afterStep WentOn (overTwo w hd (boolVal (bit b))))
   unfolding valOf tagOf numberOf valueWords
   test-good b true y x us e q h =
-      ap (afterStep 0)
+      ap (afterStep WentOn)
       (ap (λ (t : Bool). overTwo w hd (boolVal (bit t))) e ∙ two-words (busy .stack) y x (bool true) us q)
   test-good b false y x us e q h =
-      ap (afterStep 0)
+      ap (afterStep WentOn)
       (ap (λ (t : Bool). overTwo w hd (boolVal (bit t))) e ∙ two-words (busy .stack) y x (bool false) us q)
 
   pub eq-agrees : opAt p (f .place) ≡ 21 → Good act (eqOp w hd)
   unfolding eqOp doingOf doings doEq opOf ops opCompare
   eq-agrees e =
-      ints-op 21 (λ b x y. pushes b (bool (eqZ x y))) (λ x y. afterStep 0 (overTwo w hd (boolVal (bit (eqb x y))))) e
+      ints-op 21 (λ b x y. pushes b (bool (eqZ x y))) (λ x y. afterStep WentOn (overTwo w hd (boolVal (bit (eqb x y))))) e
       (taken-by 21 e) (λ b. refl)
       (λ x y us q hx hy. test-good (eqb (word32 x) (word32 y)) (eqZ x y) (int y) (int x) us (words-same x y hx hy) q)
 
@@ -519,7 +542,7 @@ module _ {p : List ℕ} (outcomes : List ℕ) (s : State) {f : Frame} {fs : List
   unfolding lessOp doingOf doings doLess opOf ops opCompare
   less-agrees e =
       ints-op 22 (λ b x y. pushes b (bool (ltZ x y)))
-      (λ x y. afterStep 0 (overTwo w hd (boolVal (bit (ltb (biased x) (biased y)))))) e (taken-by 22 e) (λ b. refl)
+      (λ x y. afterStep WentOn (overTwo w hd (boolVal (bit (ltb (biased x) (biased y)))))) e (taken-by 22 e) (λ b. refl)
       (λ x y us q hx hy. test-good (ltb (biased (word32 x)) (biased (word32 y))) (ltZ x y) (int y) (int x) us
       (less-same x y hx hy) q)
 
@@ -578,19 +601,20 @@ module _ {p : List ℕ} (outcomes : List ℕ) (s : State) {f : Frame} {fs : List
 
       room-test : (b : Bool) → ltb (suc (length fs)) 8 ≡ b → n ≤ length (f .pending)
           → Good (cond b starts (faults 25))
-          (cond (leb 8 (suc (length fs))) (afterStep 25 w) (afterStep 0 (opened p w hd a n)))
+          (cond (leb 8 (suc (length fs))) (afterStep FrameBeyond8 w) (afterStep WentOn (opened p w hd a n)))
       room-test true t l h =
-          ap (λ (b : Bool). cond b (afterStep 25 w) (afterStep 0 (opened p w hd a n)))
+          ap (λ (b : Bool). cond b (afterStep FrameBeyond8 w) (afterStep WentOn (opened p w hd a n)))
           (lt-leb 8 (suc (length fs)) (ltb-true (suc (length fs)) 8 t))
-          ∙ ap (afterStep 0) (opened-words (busy .stack) (ltb-true (suc (length fs)) 8 t) a n (call-method e) l)
+          ∙ ap (afterStep WentOn) (opened-words (busy .stack) (ltb-true (suc (length fs)) 8 t) a n (call-method e) l)
       room-test false t l h =
-          ap (λ (b : Bool). cond b (afterStep 25 w) (afterStep 0 (opened p w hd a n)))
-          (le-leb 8 (suc (length fs)) (ltb-false (suc (length fs)) 8 t))
+          fault-agrees 25 FrameBeyond8 refl
+          (ap (λ (b : Bool). cond b (afterStep FrameBeyond8 w) (afterStep WentOn (opened p w hd a n)))
+          (le-leb 8 (suc (length fs)) (ltb-false (suc (length fs)) 8 t)))
 
       full-test : (b : Bool) → any isEmpty (take n (f .pending)) ≡ b → n ≤ length (f .pending)
           → Good (cond b (faults 20) (cond (ltb (suc (length fs)) 8) starts (faults 25)))
-          (cond b (afterStep 20 w) (cond (leb 8 (suc (length fs))) (afterStep 25 w) (afterStep 0 (opened p w hd a n))))
-      full-test true t l h = refl
+          (cond b (afterStep Empty w) (cond (leb 8 (suc (length fs))) (afterStep FrameBeyond8 w) (afterStep WentOn (opened p w hd a n))))
+      full-test true t l h = (refl, refl)
       full-test false t l h = room-test (ltb (suc (length fs)) 8) refl l h
 
       enough : n ≤ length (f .pending) → Good act (callOp p w hd a)
@@ -601,8 +625,8 @@ module _ {p : List ℕ} (outcomes : List ℕ) (s : State) {f : Frame} {fs : List
           (cond (any isEmpty (take n (f .pending))) (faults 20) (cond (ltb (suc (length fs)) 8) starts (faults 25)))
           stuck) (le-leb n (length (f .pending)) l))
           (ap
-          (λ (b : Bool). cond b (afterStep 20 w)
-          (cond (leb 8 (suc (length fs))) (afterStep 25 w) (afterStep 0 (opened p w hd a n)))) (empty-args n l))
+          (λ (b : Bool). cond b (afterStep Empty w)
+          (cond (leb 8 (suc (length fs))) (afterStep FrameBeyond8 w) (afterStep WentOn (opened p w hd a n)))) (empty-args n l))
           (full-test (any isEmpty (take n (f .pending))) refl l)
 
 -- RET, by whether the frame has a caller
@@ -622,27 +646,27 @@ Returns f vs fs d = Height (returnTo vs fs) → Agrees (returnTo vs fs) (process
 module _ {p : List ℕ} (outcomes : List ℕ) (s : State) {f : Frame} where
   void-return : (fs : List Frame) → Stack p (s .config) f fs
       → Returns f [] fs
-      (cond (eqb (suc (length fs)) 1) (afterStep 113 (processWords (runs (f ∷ fs))))
-      (afterStep 0 (closed (processWords (runs (f ∷ fs))) (headIn f fs))))
+      (cond (eqb (suc (length fs)) 1) (afterStep AtLastRet (processWords (runs (f ∷ fs))))
+      (afterStep WentOn (closed (processWords (runs (f ∷ fs))) (headIn f fs))))
   void-return [] stack h = refl
   void-return (g ∷ gs) stack h =
       ap
-      (λ (b : Bool). cond b (afterStep 113 (processWords (runs (f ∷ g ∷ gs))))
-      (afterStep 0 (closed (processWords (runs (f ∷ g ∷ gs))) (headIn f (g ∷ gs)))))
+      (λ (b : Bool). cond b (afterStep AtLastRet (processWords (runs (f ∷ g ∷ gs))))
+      (afterStep WentOn (closed (processWords (runs (f ∷ g ∷ gs))) (headIn f (g ∷ gs)))))
       (ne-eqb (suc (suc (length gs))) 1 (λ e. omega arith))
-      ∙ ap (afterStep 0) (closed-words stack)
+      ∙ ap (afterStep WentOn) (closed-words stack)
 
   value-return : (u : Value) (fs : List Frame) → Stack p (s .config) f fs
       → Returns f (u ∷ []) fs
-      (cond (eqb (suc (length fs)) 1) (afterStep 113 (processWords (runs (f ∷ fs))))
-      (afterStep 0 (handed (closed (processWords (runs (f ∷ fs))) (headIn f fs)) (valOf u))))
+      (cond (eqb (suc (length fs)) 1) (afterStep AtLastRet (processWords (runs (f ∷ fs))))
+      (afterStep WentOn (handed (closed (processWords (runs (f ∷ fs))) (headIn f fs)) (valOf u))))
   value-return u [] stack h = refl
   value-return u (g ∷ gs) stack h =
       ap
-      (λ (b : Bool). cond b (afterStep 113 (processWords (runs (f ∷ g ∷ gs))))
-      (afterStep 0 (handed (closed (processWords (runs (f ∷ g ∷ gs))) (headIn f (g ∷ gs))) (valOf u))))
+      (λ (b : Bool). cond b (afterStep AtLastRet (processWords (runs (f ∷ g ∷ gs))))
+      (afterStep WentOn (handed (closed (processWords (runs (f ∷ g ∷ gs))) (headIn f (g ∷ gs))) (valOf u))))
       (ne-eqb (suc (suc (length gs))) 1 (λ e. omega arith))
-      ∙ ap (afterStep 0)
+      ∙ ap (afterStep WentOn)
       (ap (λ (l : List ℕ). handed l (valOf u)) (closed-words stack)
       ∙ handed-words stack u h)
 
@@ -675,22 +699,22 @@ module _ {p : List ℕ} (outcomes : List ℕ) (s : State) {f : Frame} where
           by outcomes s busy
           (act-zero outcomes s busy 13 e (none-taken z))
           (ap
-          (λ (b : Bool). cond b (cond (eqb (suc (length fs)) 1) (afterStep 113 w) (afterStep 0 (closed w hd)))
+          (λ (b : Bool). cond b (cond (eqb (suc (length fs)) 1) (afterStep AtLastRet w) (afterStep WentOn (closed w hd)))
           (unlessEmpty (valueAt w (topAt hd 1)) w
-          (cond (eqb (suc (length fs)) 1) (afterStep 113 w)
-          (afterStep 0 (handed (closed w hd) (valueAt w (topAt hd 1))))))) t)
+          (cond (eqb (suc (length fs)) 1) (afterStep AtLastRet w)
+          (afterStep WentOn (handed (closed w hd) (valueAt w (topAt hd 1))))))) t)
           (void-return fs (busy .stack))
 
       valued : eqb (returnOf p (f .method)) 0 ≡ false → Good outcomes s busy (atFrame p outcomes s f fs) (retOp p w hd)
       valued t =
           answer-as outcomes s busy (atFrame p outcomes s f fs)
           (ap
-          (λ (b : Bool). cond b (cond (eqb (suc (length fs)) 1) (afterStep 113 w) (afterStep 0 (closed w hd)))
+          (λ (b : Bool). cond b (cond (eqb (suc (length fs)) 1) (afterStep AtLastRet w) (afterStep WentOn (closed w hd)))
           (unlessEmpty (valueAt w (topAt hd 1)) w
-          (cond (eqb (suc (length fs)) 1) (afterStep 113 w)
-          (afterStep 0 (handed (closed w hd) (valueAt w (topAt hd 1))))))) t)
+          (cond (eqb (suc (length fs)) 1) (afterStep AtLastRet w)
+          (afterStep WentOn (handed (closed w hd) (valueAt w (topAt hd 1))))))) t)
           (top-op outcomes s busy 13
-          (λ v. cond (eqb (suc (length fs)) 1) (afterStep 113 w) (afterStep 0 (handed (closed w hd) v))) e (one-taken t)
+          (λ v. cond (eqb (suc (length fs)) 1) (afterStep AtLastRet w) (afterStep WentOn (handed (closed w hd) v))) e (one-taken t)
           (λ u us q n. value-return u fs (busy .stack)))
 
 -- one step
@@ -704,29 +728,24 @@ isLeft op =
     op
     false
 
-left-answers : (p w : List ℕ) (h : Head) (op a : ℕ) → isLeft op ≡ true → actOp p w h op a ≡ afterStep (100 + op) w
+-- what the step of each answers
+abbrev pub leftAt : ℕ → StepResult
+leftAt op =
+    getD
+    (NotRunning ∷ NotRunning ∷ NotRunning ∷ NotRunning ∷ NotRunning ∷ NotRunning ∷ NotRunning ∷ AtNewQ ∷ AtNewC ∷
+    NotRunning ∷ AtGate ∷ AtMeas ∷ NotRunning ∷ NotRunning ∷ AtFork ∷ AtSend ∷ AtRecv ∷ [])
+    op
+    NotRunning
+
+never : {A : Type 0} → false ≡ true → A
+never t = absurd (true≢false (sym t))
+
+left-answers : (p w : List ℕ) (h : Head) (op a : ℕ) → isLeft op ≡ true → actOp p w h op a ≡ afterStep (leftAt op) w
 unfolding actOp opFunctions
-left-answers p w h zero a t = absurd (true≢false (sym t))
-left-answers p w h (suc zero) a t = absurd (true≢false (sym t))
-left-answers p w h (suc (suc zero)) a t = absurd (true≢false (sym t))
-left-answers p w h (suc (suc (suc zero))) a t = absurd (true≢false (sym t))
-left-answers p w h (suc (suc (suc (suc zero)))) a t = absurd (true≢false (sym t))
-left-answers p w h (suc (suc (suc (suc (suc zero))))) a t = absurd (true≢false (sym t))
-left-answers p w h (suc (suc (suc (suc (suc (suc zero)))))) a t = absurd (true≢false (sym t))
-left-answers p w h (suc (suc (suc (suc (suc (suc (suc zero))))))) a t = refl
-left-answers p w h (suc (suc (suc (suc (suc (suc (suc (suc zero)))))))) a t = refl
-left-answers p w h (suc (suc (suc (suc (suc (suc (suc (suc (suc zero))))))))) a t = absurd (true≢false (sym t))
-left-answers p w h (suc (suc (suc (suc (suc (suc (suc (suc (suc (suc zero)))))))))) a t = refl
-left-answers p w h (suc (suc (suc (suc (suc (suc (suc (suc (suc (suc (suc zero))))))))))) a t = refl
-left-answers p w h (suc (suc (suc (suc (suc (suc (suc (suc (suc (suc (suc (suc zero)))))))))))) a t =
-    absurd (true≢false (sym t))
-left-answers p w h (suc (suc (suc (suc (suc (suc (suc (suc (suc (suc (suc (suc (suc zero))))))))))))) a t =
-    absurd (true≢false (sym t))
-left-answers p w h (suc (suc (suc (suc (suc (suc (suc (suc (suc (suc (suc (suc (suc (suc zero)))))))))))))) a t = refl
-left-answers p w h (suc (suc (suc (suc (suc (suc (suc (suc (suc (suc (suc (suc (suc (suc (suc zero))))))))))))))) a t =
-    refl
-left-answers p w h (suc (suc (suc (suc (suc (suc (suc (suc (suc (suc (suc (suc (suc (suc (suc (suc zero)))))))))))))))) a t = refl
-left-answers p w h (suc (suc (suc (suc (suc (suc (suc (suc (suc (suc (suc (suc (suc (suc (suc (suc (suc k))))))))))))))))) a t = absurd (true≢false (sym t))
+left-answers p w h op a =
+    by-number (λ (op : ℕ). isLeft op ≡ true → actOp p w h op a ≡ afterStep (leftAt op) w) 17
+    (never ▹ never ▹ never ▹ never ▹ never ▹ never ▹ never ▹ (λ t. refl) ▹ (λ t. refl) ▹ never ▹ (λ t. refl) ▹
+    (λ t. refl) ▹ never ▹ never ▹ (λ t. refl) ▹ (λ t. refl) ▹ (λ t. refl) ▹ (λ k. never)) op
 
 module _ {p : List ℕ} (outcomes : List ℕ) (s : State) {f : Frame} {fs : List Frame}
     (busy : AtWork p (s .config) f fs) where
@@ -738,49 +757,37 @@ module _ {p : List ℕ} (outcomes : List ℕ) (s : State) {f : Frame} {fs : List
       ap
       (λ (h : Head). cond (eqb (h .status) 1)
       (actOp p (processWords (runs (f ∷ fs))) h (opAt p (h .place)) (argAt p (h .place)))
-      (afterStep 1 (processWords (runs (f ∷ fs)))))
+      (afterStep NotRunning (processWords (runs (f ∷ fs)))))
       (head-is (busy .stack))
 
-  -- an op that is left answers 100 and its number
+  -- an op that is left answers so
   pub step-left : isLeft (opAt p (f .place)) ≡ true
-      → stepOp p (processWords (runs (f ∷ fs))) ≡ afterStep (100 + opAt p (f .place)) (processWords (runs (f ∷ fs)))
+      → stepOp p (processWords (runs (f ∷ fs))) ≡ afterStep (leftAt (opAt p (f .place))) (processWords (runs (f ∷ fs)))
   step-left t =
       step-is ∙ left-answers p (processWords (runs (f ∷ fs))) (headIn f fs) (opAt p (f .place)) (argAt p (f .place)) t
 
-  op-agrees : (op : ℕ) → opAt p (f .place) ≡ op → isLeft op ≡ false
+  abbrev OpAgrees : ℕ → Type 0
+  OpAgrees op =
+      opAt p (f .place) ≡ op → isLeft op ≡ false
       → Good outcomes s busy (atFrame p outcomes s f fs)
       (actOp p (processWords (runs (f ∷ fs))) (headIn f fs) op (argAt p (f .place)))
+
+  op-agrees : (op : ℕ) → OpAgrees op
   unfolding actOp opFunctions intOp boolOp clearOp opOf ops unlisted
-  op-agrees zero e t = absurd (argument-kept outcomes s busy 0 e)
-  op-agrees (suc zero) e t = int-agrees outcomes s busy e
-  op-agrees (suc (suc zero)) e t = bool-agrees outcomes s busy e
-  op-agrees (suc (suc (suc zero))) e t = get-agrees outcomes s busy e
-  op-agrees (suc (suc (suc (suc zero)))) e t = put-agrees outcomes s busy e
-  op-agrees (suc (suc (suc (suc (suc zero))))) e t = drop-agrees outcomes s busy e
-  op-agrees (suc (suc (suc (suc (suc (suc zero)))))) e t = clear-agrees outcomes s busy e
-  op-agrees (suc (suc (suc (suc (suc (suc (suc zero))))))) e t = absurd (true≢false t)
-  op-agrees (suc (suc (suc (suc (suc (suc (suc (suc zero)))))))) e t = absurd (true≢false t)
-  op-agrees (suc (suc (suc (suc (suc (suc (suc (suc (suc zero))))))))) e t = end-agrees outcomes s busy e
-  op-agrees (suc (suc (suc (suc (suc (suc (suc (suc (suc (suc zero)))))))))) e t = absurd (true≢false t)
-  op-agrees (suc (suc (suc (suc (suc (suc (suc (suc (suc (suc (suc zero))))))))))) e t = absurd (true≢false t)
-  op-agrees (suc (suc (suc (suc (suc (suc (suc (suc (suc (suc (suc (suc zero)))))))))))) e t =
-      call-agrees outcomes s busy e
-  op-agrees (suc (suc (suc (suc (suc (suc (suc (suc (suc (suc (suc (suc (suc zero))))))))))))) e t =
-      ret-agrees outcomes s busy e
-  op-agrees (suc (suc (suc (suc (suc (suc (suc (suc (suc (suc (suc (suc (suc (suc zero)))))))))))))) e t =
-      absurd (true≢false t)
-  op-agrees (suc (suc (suc (suc (suc (suc (suc (suc (suc (suc (suc (suc (suc (suc (suc zero))))))))))))))) e t =
-      absurd (true≢false t)
-  op-agrees (suc (suc (suc (suc (suc (suc (suc (suc (suc (suc (suc (suc (suc (suc (suc (suc zero)))))))))))))))) e t =
-      absurd (true≢false t)
-  op-agrees (suc (suc (suc (suc (suc (suc (suc (suc (suc (suc (suc (suc (suc (suc (suc (suc (suc zero))))))))))))))))) e t = jump-agrees outcomes s busy e
-  op-agrees (suc (suc (suc (suc (suc (suc (suc (suc (suc (suc (suc (suc (suc (suc (suc (suc (suc (suc zero)))))))))))))))))) e t = jfalse-agrees outcomes s busy e
-  op-agrees (suc (suc (suc (suc (suc (suc (suc (suc (suc (suc (suc (suc (suc (suc (suc (suc (suc (suc (suc zero))))))))))))))))))) e t = add-agrees outcomes s busy e
-  op-agrees (suc (suc (suc (suc (suc (suc (suc (suc (suc (suc (suc (suc (suc (suc (suc (suc (suc (suc (suc (suc zero)))))))))))))))))))) e t = sub-agrees outcomes s busy e
-  op-agrees (suc (suc (suc (suc (suc (suc (suc (suc (suc (suc (suc (suc (suc (suc (suc (suc (suc (suc (suc (suc (suc zero))))))))))))))))))))) e t = eq-agrees outcomes s busy e
-  op-agrees (suc (suc (suc (suc (suc (suc (suc (suc (suc (suc (suc (suc (suc (suc (suc (suc (suc (suc (suc (suc (suc (suc zero)))))))))))))))))))))) e t = less-agrees outcomes s busy e
-  op-agrees (suc (suc (suc (suc (suc (suc (suc (suc (suc (suc (suc (suc (suc (suc (suc (suc (suc (suc (suc (suc (suc (suc (suc zero))))))))))))))))))))))) e t = not-agrees outcomes s busy e
-  op-agrees (suc (suc (suc (suc (suc (suc (suc (suc (suc (suc (suc (suc (suc (suc (suc (suc (suc (suc (suc (suc (suc (suc (suc (suc k)))))))))))))))))))))))) e t = absurd (argument-kept outcomes s busy (suc (suc (suc (suc (suc (suc (suc (suc (suc (suc (suc (suc (suc (suc (suc (suc (suc (suc (suc (suc (suc (suc (suc (suc k)))))))))))))))))))))))) e)
+  op-agrees =
+      by-number OpAgrees 24
+      ((λ e t. absurd (argument-kept outcomes s busy 0 e)) ▹ (λ e t. int-agrees outcomes s busy e) ▹
+      (λ e t. bool-agrees outcomes s busy e) ▹ (λ e t. get-agrees outcomes s busy e) ▹
+      (λ e t. put-agrees outcomes s busy e) ▹ (λ e t. drop-agrees outcomes s busy e) ▹
+      (λ e t. clear-agrees outcomes s busy e) ▹ left ▹ left ▹ (λ e t. end-agrees outcomes s busy e) ▹ left ▹ left ▹
+      (λ e t. call-agrees outcomes s busy e) ▹ (λ e t. ret-agrees outcomes s busy e) ▹ left ▹ left ▹ left ▹
+      (λ e t. jump-agrees outcomes s busy e) ▹ (λ e t. jfalse-agrees outcomes s busy e) ▹
+      (λ e t. add-agrees outcomes s busy e) ▹ (λ e t. sub-agrees outcomes s busy e) ▹
+      (λ e t. eq-agrees outcomes s busy e) ▹ (λ e t. less-agrees outcomes s busy e) ▹
+      (λ e t. not-agrees outcomes s busy e) ▹ (λ k e t. absurd (argument-kept outcomes s busy _ e)))
+    where
+      left : {A B : Type 0} → A → true ≡ false → B
+      left e t = absurd (true≢false t)
 
   -- any other op does what the definitions say
   pub step-agrees : isLeft (opAt p (f .place)) ≡ false → Height (atFrame p outcomes s f fs)

@@ -9,7 +9,9 @@ use Rattle.table.specs.Table.{offsetOf, returnOf, paramsOf, opAt, argAt}
 use Rattle.run_store.specs.declared.values.Val.{Val}
 use Rattle.run_store.specs.declared.head.Head.{Head}
 use Rattle.run_store.specs.StoreCode.{valueAt, putValue, headAt, headOf, putTop, topAt, stepped, pushed, lessBy, emptyDown, movedDown, clearedFrom}
-use Rattle.run_values.specs.ValuesCode.{AfterStep, afterStep, unlessEmpty, getOp, putOp, dropOp, endOp, jumpOp, jfalseOp, addOp, subOp, eqOp, lessOp, notOp, intOp, boolOp, clearOp, wentOn, notRunning, atNewQ, atNewC, atGate, atMeas, atLastRet, atFork, atSend, atRecv}
+use Rattle.run_values.specs.ValuesCode.{AfterStep, afterStep, unlessEmpty, getOp, putOp, dropOp, endOp, jumpOp, jfalseOp, addOp, subOp, eqOp, lessOp, notOp, intOp, boolOp, clearOp}
+use Rattle.run_values.specs.declared.steps.StepResult.the-variants.{WentOn, NotRunning, AtNewQ, AtNewC, AtGate, AtMeas, AtLastRet, AtFork, AtSend, AtRecv, Empty, FrameBeyond8}
+use Rattle.run_values.specs.declared.steps.StepResult.{StepResult}
 
 -- calls
 
@@ -31,8 +33,8 @@ opened p w h m n =
 
 unfoldable pub callOp : List ℕ → List ℕ → Head → ℕ → AfterStep
 callOp p w h a =
-    cond (emptyDown w (topAt h 1) (paramsOf p a)) (afterStep 20 w)
-    (cond (leb 8 (h .frames)) (afterStep 25 w) (afterStep wentOn (opened p w h a (paramsOf p a))))
+    cond (emptyDown w (topAt h 1) (paramsOf p a)) (afterStep Empty w)
+    (cond (leb 8 (h .frames)) (afterStep FrameBeyond8 w) (afterStep WentOn (opened p w h a (paramsOf p a))))
 
 -- the top frame closed
 unfoldable pub closed : List ℕ → Head → List ℕ
@@ -48,9 +50,9 @@ handed w v = putTop (putValue w (topAt (headOf w) 0) v) (pushed (headOf w))
 unfoldable pub retOp : List ℕ → List ℕ → Head → AfterStep
 retOp p w h =
     cond (eqb (returnOf p (h .method)) 0)
-    (cond (eqb (h .frames) 1) (afterStep atLastRet w) (afterStep wentOn (closed w h)))
+    (cond (eqb (h .frames) 1) (afterStep AtLastRet w) (afterStep WentOn (closed w h)))
     (unlessEmpty (valueAt w (topAt h 1)) w
-    (cond (eqb (h .frames) 1) (afterStep atLastRet w) (afterStep wentOn (handed (closed w h) (valueAt w (topAt h 1))))))
+    (cond (eqb (h .frames) 1) (afterStep AtLastRet w) (afterStep WentOn (handed (closed w h) (valueAt w (topAt h 1))))))
 
 -- all ops
 
@@ -60,19 +62,19 @@ retOp p w h =
 abbrev OpFunction : Type 0
 OpFunction = List ℕ → List ℕ → Head → ℕ → AfterStep
 
-abbrev leftToRun : ℕ → OpFunction
-leftToRun code p w h a = afterStep code w
+abbrev leftToRun : StepResult → OpFunction
+leftToRun r p w h a = afterStep r w
 
 unfoldable pub noOp : OpFunction
-noOp p w h a = afterStep notRunning w
+noOp p w h a = afterStep NotRunning w
 
 unfoldable pub opFunctions : List OpFunction
 opFunctions =
     noOp
     ∷ intOp ∷ boolOp
     ∷ (λ p w h a. getOp w h a) ∷ (λ p w h a. putOp w h a) ∷ (λ p w h a. dropOp w h) ∷ clearOp
-    ∷ leftToRun atNewQ ∷ leftToRun atNewC ∷ (λ p w h a. endOp w h a) ∷ leftToRun atGate ∷ leftToRun atMeas
-    ∷ callOp ∷ (λ p w h a. retOp p w h) ∷ leftToRun atFork ∷ leftToRun atSend ∷ leftToRun atRecv
+    ∷ leftToRun AtNewQ ∷ leftToRun AtNewC ∷ (λ p w h a. endOp w h a) ∷ leftToRun AtGate ∷ leftToRun AtMeas
+    ∷ callOp ∷ (λ p w h a. retOp p w h) ∷ leftToRun AtFork ∷ leftToRun AtSend ∷ leftToRun AtRecv
     ∷ jumpOp ∷ jfalseOp
     ∷ (λ p w h a. addOp w h) ∷ (λ p w h a. subOp w h) ∷ (λ p w h a. eqOp w h) ∷ (λ p w h a. lessOp w h) ∷
     (λ p w h a. notOp w h)
@@ -85,4 +87,4 @@ actOp p w h op a = getD opFunctions op noOp p w h a
 unfoldable pub stepOp : List ℕ → List ℕ → AfterStep
 stepOp p w =
     cond (eqb (headOf w .status) 1) (actOp p w (headOf w) (opAt p (headOf w .place)) (argAt p (headOf w .place)))
-    (afterStep notRunning w)
+    (afterStep NotRunning w)

@@ -16,10 +16,7 @@ use run_store::values::low;
 use run_store::values::put;
 use run_store::values::put_value;
 use run_store::values::value;
-use run_values::codes::AT_LAST_RET;
-use run_values::codes::EMPTY;
-use run_values::codes::FRAME_BEYOND_8;
-use run_values::codes::WENT_ON;
+use run_values::steps::StepResult;
 use table::words::word_at;
 
 // How many parameters method m has.
@@ -54,18 +51,18 @@ pub fn open_frame(p: &[u16], w: &mut [u32], h: Head, m: u16, n: u16)
 }
 
 // CALL: "its P arguments off, last on top".
-pub fn op_call(p: &[u16], w: &mut [u32], h: Head, a: u16) -> u32
+pub fn op_call(p: &[u16], w: &mut [u32], h: Head, a: u16) -> StepResult
     ensures { λ r. ⌜ afterStep r (now (w .exit)) ≡ callOp (now (p .entry)) (now (w .entry)) h a ⌝ }
 {
     let n = params(p, a);
     if any_empty(w, h.top(1), n) {
-        return EMPTY;
+        return StepResult::Empty;
     }
     if 8 <= h.frames {
-        return FRAME_BEYOND_8;
+        return StepResult::FrameBeyond8;
     }
     open_frame(p, w, h, a, n);
-    WENT_ON
+    StepResult::WentOn
 }
 
 // The top frame closed: its words are 0 again.
@@ -97,24 +94,24 @@ pub fn returns_void(p: &[u16], m: u32) -> bool
 }
 
 // RET: "return value off unless void; the frame goes". The root frame is left as it is, for the caller.
-pub fn op_ret(p: &[u16], w: &mut [u32], h: Head) -> u32
+pub fn op_ret(p: &[u16], w: &mut [u32], h: Head) -> StepResult
     ensures { λ r. ⌜ afterStep r (now (w .exit)) ≡ retOp (now (p .entry)) (now (w .entry)) h ⌝ }
 {
     let v = value(w, h.top(1));
     if returns_void(p, h.method) {
         if h.frames == 1 {
-            return AT_LAST_RET;
+            return StepResult::AtLastRet;
         }
         close_frame(w, h);
-        return WENT_ON;
+        return StepResult::WentOn;
     }
     if v.tag == 0 {
-        return EMPTY;
+        return StepResult::Empty;
     }
     if h.frames == 1 {
-        return AT_LAST_RET;
+        return StepResult::AtLastRet;
     }
     close_frame(w, h);
     hand_back(w, v);
-    WENT_ON
+    StepResult::WentOn
 }

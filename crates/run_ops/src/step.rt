@@ -8,14 +8,6 @@ use super::calls::op_call;
 use super::calls::op_ret;
 use run_store::head::Head;
 use run_store::head::read_head;
-use run_values::codes::AT_FORK;
-use run_values::codes::AT_GATE;
-use run_values::codes::AT_MEAS;
-use run_values::codes::AT_NEWC;
-use run_values::codes::AT_NEWQ;
-use run_values::codes::AT_RECV;
-use run_values::codes::AT_SEND;
-use run_values::codes::NOT_RUNNING;
 use run_values::jumps::op_jfalse;
 use run_values::jumps::op_jump;
 use run_values::moves::op_bool;
@@ -30,10 +22,11 @@ use run_values::numbers::op_eq;
 use run_values::numbers::op_less;
 use run_values::numbers::op_not;
 use run_values::numbers::op_sub;
+use run_values::steps::StepResult;
 use table::words::word_at;
 
 // The op's function. An op that does more, or writes a line, is left to the caller.
-pub fn act(p: &[u16], w: &mut [u32], h: Head, op: usize, a: u16) -> u32
+pub fn act(p: &[u16], w: &mut [u32], h: Head, op: usize, a: u16) -> StepResult
     ensures { λ r. ⌜ afterStep r (now (w .exit)) ≡ actOp (now (p .entry)) (now (w .entry)) h op a ⌝ }
 {
     match op {
@@ -43,16 +36,16 @@ pub fn act(p: &[u16], w: &mut [u32], h: Head, op: usize, a: u16) -> u32
         4 => op_put(w, h, a),
         5 => op_drop(w, h),
         6 => op_clear(p, w, h, a),
-        7 => AT_NEWQ,
-        8 => AT_NEWC,
+        7 => StepResult::AtNewQ,
+        8 => StepResult::AtNewC,
         9 => op_end(w, h, a),
-        10 => AT_GATE,
-        11 => AT_MEAS,
+        10 => StepResult::AtGate,
+        11 => StepResult::AtMeas,
         12 => op_call(p, w, h, a),
         13 => op_ret(p, w, h),
-        14 => AT_FORK,
-        15 => AT_SEND,
-        16 => AT_RECV,
+        14 => StepResult::AtFork,
+        15 => StepResult::AtSend,
+        16 => StepResult::AtRecv,
         17 => op_jump(p, w, h, a),
         18 => op_jfalse(p, w, h, a),
         19 => op_add(w, h),
@@ -60,7 +53,7 @@ pub fn act(p: &[u16], w: &mut [u32], h: Head, op: usize, a: u16) -> u32
         21 => op_eq(w, h),
         22 => op_less(w, h),
         23 => op_not(w, h),
-        _ => NOT_RUNNING,
+        _ => StepResult::NotRunning,
     }
 }
 
@@ -88,13 +81,13 @@ fn read_instruction(p: &[u16], at: usize) -> Instruction
 }
 
 // One step of the process whose part is w; `start` is where the table's instructions begin.
-pub fn step(p: &[u16], start: usize, w: &mut [u32]) -> u32
+pub fn step(p: &[u16], start: usize, w: &mut [u32]) -> StepResult
     requires { ⌜ start ≡ 2 + 20 * methods (now p) ⌝ }
     ensures { λ r. ⌜ afterStep r (now (w .exit)) ≡ stepOp (now (p .entry)) (now (w .entry)) ⌝ }
 {
     let h = read_head(w);
     if h.status != 1 {
-        return NOT_RUNNING;
+        return StepResult::NotRunning;
     }
     let i = read_instruction(p, start + 2 * (h.place as usize));
     act(p, w, h, i.op, i.argument as u16)

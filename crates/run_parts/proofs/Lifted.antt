@@ -5,6 +5,7 @@ use mathlib.Core.List.{List}
 use native.Mathlib.Omega.{arith}
 use borrow.Rule.Slice.PartMut.{midOf, putMid}
 use Rattle.run_values.specs.ValuesCode.{AfterStep, afterStep}
+use Rattle.run_values.specs.declared.steps.StepResult.{StepResult}
 use Rattle.run_parts.specs.PartsCode.{partAt, partOf, withPart, onPart}
 
 -- the words of a store that are lent as a part, from `from` on, and the store with what was made of them
@@ -32,9 +33,9 @@ pub lifted-words : (work : List ℕ) (n : ℕ) {from : ℕ} → from ≡ partAt 
 lifted-words work n at ys g e =
     part-returned work n at ys ∙ ap (withPart work n) (e ∙ ap g (part-lent work n at))
 
-pub lifted : (work : List ℕ) (n : ℕ) {from : ℕ} → from ≡ partAt n → (r : ℕ) (ys : List ℕ) (g : List ℕ → AfterStep)
+pub lifted : (work : List ℕ) (n : ℕ) {from : ℕ} → from ≡ partAt n → (r : StepResult) (ys : List ℕ) (g : List ℕ → AfterStep)
     → afterStep r ys ≡ g (lent work from) → afterStep r (returned work from ys) ≡ onPart work n (g (partOf work n))
 unfolding onPart
 lifted work n at r ys g e =
     ap (afterStep r) (part-returned work n at ys)
-    ∙ ap (λ (d : AfterStep). afterStep (d .code) (withPart work n (d .words))) (e ∙ ap g (part-lent work n at))
+    ∙ ap (λ (d : AfterStep). afterStep (d .result) (withPart work n (d .words))) (e ∙ ap g (part-lent work n at))

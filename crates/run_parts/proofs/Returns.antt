@@ -2,7 +2,7 @@
 use Prim.Native.Nat.{ℕ, _+_, _*_}
 use mathlib.Core.Path.{_≡_, refl, sym, _∙_, ap, ap₂}
 use mathlib.Core.Bool.{Bool, true, false, cond, not, _&&_, _||_, true≢false}
-use mathlib.Core.List.{List}
+use mathlib.Core.List.{List, [], _∷_}
 use native.Mathlib.Omega.{arith}
 use lib.ListN.{getD}
 use lib.Dec.{eqb}
@@ -11,23 +11,29 @@ use Rattle.table.specs.Table.{word, methods, opAt}
 use Rattle.run_store.specs.declared.head.Head.{Head}
 use Rattle.run_store.specs.StoreCode.{headAt, headOf, topAt}
 use Rattle.run_ops.proofs.Returns.{took, passed-by}
-use Rattle.run_values.specs.ValuesCode.{emptyTwo}
+use Rattle.run_values.specs.ValuesCode.{isSend, emptyTwo}
+use Rattle.run_values.specs.declared.steps.StepResult.the-variants.{AtSend, AtRecv}
+use Rattle.run_parts.specs.declared.readiness.ReadinessKind.{ReadinessKind}
+use Rattle.run_parts.specs.declared.readiness.ReadinessKind.the-variants.{Over, Moves, Sends, Receives}
+use types.Run.{OneOf, miss}
+use denote.Enum.Declared.{tagOf}
+use Rattle.run_parts.proofs.readiness.ReadinessKind.{the-type}
 use Rattle.run_parts.specs.declared.readiness.Readiness.{Readiness}
-use Rattle.run_parts.specs.ReadinessCode.{noOffer, sendOf, receiveOf, readinessOp, offerOf, offersNothing, eitherWay, meetsOp}
+use Rattle.run_parts.specs.ReadinessCode.{noOffer, sendOf, receiveOf, readinessOp, offerOf, offersNothing, eitherWay, meetsOp, overKind, sendKind, receiveKind, offerKind, oppositeKinds}
 
 pub stands-at : (p w : List ℕ) (start : ℕ) {h : Head} {op : ℕ} {r : Readiness} → h ≡ headOf w → h .status ≡ 1
     → start ≡ 2 + 20 * methods p
     → op ≡ word p (start + 2 * h .place)
-    → r ≡ cond (eqb op 15) (sendOf w h) (cond (eqb op 16) (receiveOf w h) (noOffer 1))
+    → r ≡ cond (eqb op 15) (sendOf w h) (cond (eqb op 16) (receiveOf w h) (noOffer Moves))
     → r ≡ readinessOp p w
 unfolding readinessOp opAt
 stands-at p w start {h} {op} {r} e t s o q =
     took _ _ _ refl (eq-eqb (headOf w .status) 1 (ap (λ (g : Head). g .status) (sym e) ∙ t))
     (q
-    ∙ ap (λ (n : ℕ). cond (eqb n 15) (sendOf w h) (cond (eqb n 16) (receiveOf w h) (noOffer 1)))
+    ∙ ap (λ (n : ℕ). cond (eqb n 15) (sendOf w h) (cond (eqb n 16) (receiveOf w h) (noOffer Moves)))
     (o ∙ ap (λ (n : ℕ). word p (n + 2 * h .place)) s)
     ∙ ap (λ (g : Head). cond (eqb (word p (2 + 20 * methods p + 2 * g .place)) 15) (sendOf w g)
-    (cond (eqb (word p (2 + 20 * methods p + 2 * g .place)) 16) (receiveOf w g) (noOffer 1))) e)
+    (cond (eqb (word p (2 + 20 * methods p + 2 * g .place)) 16) (receiveOf w g) (noOffer Moves))) e)
 
 -- the frame's place, by words
 pub place-read : (w : List ℕ) {frames place : ℕ} → frames ≡ getD w 2 0 → place ≡ getD w (5 + 4 * frames) 0
@@ -42,32 +48,32 @@ place-read w {frames} e q = q ∙ ap (λ (i : ℕ). getD w i 0) next ∙ ap (λ 
 
 module _ (p w : List ℕ) (runs : headOf w .status ≡ 1) where
   at-op : (op : ℕ) → opAt p (headOf w .place) ≡ op
-      → readinessOp p w ≡ cond (eqb op 15) (sendOf w (headOf w)) (cond (eqb op 16) (receiveOf w (headOf w)) (noOffer 1))
+      → readinessOp p w ≡ cond (eqb op 15) (sendOf w (headOf w)) (cond (eqb op 16) (receiveOf w (headOf w)) (noOffer Moves))
   unfolding readinessOp
   at-op op e =
       ap
       (λ (b : Bool). cond b
       (cond (eqb (opAt p (headOf w .place)) 15) (sendOf w (headOf w))
-      (cond (eqb (opAt p (headOf w .place)) 16) (receiveOf w (headOf w)) (noOffer 1))) (noOffer 0))
+      (cond (eqb (opAt p (headOf w .place)) 16) (receiveOf w (headOf w)) (noOffer Moves))) (noOffer Over))
       (eq-eqb (headOf w .status) 1 runs)
-      ∙ ap (λ (n : ℕ). cond (eqb n 15) (sendOf w (headOf w)) (cond (eqb n 16) (receiveOf w (headOf w)) (noOffer 1))) e
+      ∙ ap (λ (n : ℕ). cond (eqb n 15) (sendOf w (headOf w)) (cond (eqb n 16) (receiveOf w (headOf w)) (noOffer Moves))) e
 
-  pub offers-send : opAt p (headOf w .place) ≡ 15 → offerOf w 115 ≡ readinessOp p w
-  unfolding offerOf
+  pub offers-send : opAt p (headOf w .place) ≡ 15 → offerOf w AtSend ≡ readinessOp p w
+  unfolding offerOf isSend
   offers-send e = sym (at-op 15 e)
 
-  pub offers-receive : opAt p (headOf w .place) ≡ 16 → offerOf w 116 ≡ readinessOp p w
-  unfolding offerOf
+  pub offers-receive : opAt p (headOf w .place) ≡ 16 → offerOf w AtRecv ≡ readinessOp p w
+  unfolding offerOf isSend
   offers-receive e = sym (at-op 16 e)
 
 -- a process that stands at no offer moves by itself
-pub nothing-alone : (p w : List ℕ) → offersNothing p w ≡ true → readinessOp p w .kind ≡ 1
+pub nothing-alone : (p w : List ℕ) → offersNothing p w ≡ true → readinessOp p w .kind ≡ Moves
 unfolding offersNothing readinessOp
 nothing-alone p w h =
     go (eqb (headOf w .status) 1) (eqb (opAt p (headOf w .place)) 15) (eqb (opAt p (headOf w .place)) 16) h
   where
     go : (a b c : Bool) → cond a (not b && not c) false ≡ true
-        → cond a (cond b (sendOf w (headOf w)) (cond c (receiveOf w (headOf w)) (noOffer 1))) (noOffer 0) .kind ≡ 1
+        → cond a (cond b (sendOf w (headOf w)) (cond c (receiveOf w (headOf w)) (noOffer Moves))) (noOffer Over) .kind ≡ Moves
     go true true c e = absurd (true≢false (sym e))
     go true false true e = absurd (true≢false (sym e))
     go true false false e = refl
@@ -127,7 +133,7 @@ module _ (a b : Readiness) where
   abbrev numbers : Bool
   numbers = eqb (a .end .number) (b .end .number)
 
-  module _ {kinds : Bool} (e : kinds ≡ eitherWay (a .kind) (b .kind) 2 3) where
+  module _ {kinds : Bool} (e : kinds ≡ oppositeKinds (a .kind) (b .kind)) where
     pub meets-kinds : not kinds ≡ true → false ≡ meetsOp a b
     unfolding meetsOp
     meets-kinds h = ap (λ (k : Bool). (k && sides) && numbers) (sym (off kinds h) ∙ e)
@@ -152,3 +158,45 @@ module _ (a b : Readiness) where
       pub meets-sides : a .end .number ≡ b .end .number → {s : Bool} → s ≡ sides → s ≡ meetsOp a b
       meets-sides n q =
           q ∙ sym (both ∙ ap (λ (x : Bool). sides && x) (eq-eqb (a .end .number) (b .end .number) n) ∙ and-true sides)
+
+-- the tests of a kind say no in every case that they do not name
+
+abbrev butOver : List ℕ
+butOver = 1 ∷ 2 ∷ 3 ∷ []
+
+pub not-over : (k : ReadinessKind) → OneOf butOver (tagOf the-type k) → false ≡ overKind k
+unfolding overKind
+not-over Over h = absurd (miss butOver 0 tt h)
+not-over Moves h = refl
+not-over Sends h = refl
+not-over Receives h = refl
+
+abbrev butSends : List ℕ
+butSends = 0 ∷ 1 ∷ 3 ∷ []
+
+pub not-sending : (k : ReadinessKind) → OneOf butSends (tagOf the-type k) → false ≡ sendKind k
+unfolding sendKind
+not-sending Over h = refl
+not-sending Moves h = refl
+not-sending Sends h = absurd (miss butSends 2 tt h)
+not-sending Receives h = refl
+
+abbrev butReceives : List ℕ
+butReceives = 0 ∷ 1 ∷ 2 ∷ []
+
+pub not-receiving : (k : ReadinessKind) → OneOf butReceives (tagOf the-type k) → false ≡ receiveKind k
+unfolding receiveKind
+not-receiving Over h = refl
+not-receiving Moves h = refl
+not-receiving Sends h = refl
+not-receiving Receives h = absurd (miss butReceives 3 tt h)
+
+abbrev butOffers : List ℕ
+butOffers = 0 ∷ 1 ∷ []
+
+pub not-offering : (k : ReadinessKind) → OneOf butOffers (tagOf the-type k) → false ≡ offerKind k
+unfolding offerKind
+not-offering Over h = refl
+not-offering Moves h = refl
+not-offering Sends h = absurd (miss butOffers 2 tt h)
+not-offering Receives h = absurd (miss butOffers 3 tt h)

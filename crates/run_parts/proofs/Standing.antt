@@ -28,23 +28,25 @@ use Rattle.run_values.specs.ValuesCode.{emptyTwo}
 use Rattle.run_values.specs.ValuesCode as valuesCode
 use Rattle.run_values.proofs.Places.{head-is}
 use Rattle.run_ops.proofs.Meaning.{w, hd, scene, act, act-one, act-two, act-short, taken-by, tag-test, read-top, read-second}
+use Rattle.run_parts.specs.declared.readiness.ReadinessKind.{ReadinessKind}
+use Rattle.run_parts.specs.declared.readiness.ReadinessKind.the-variants.{Over, Moves, Sends, Receives}
 use Rattle.run_parts.specs.declared.readiness.Readiness.{Readiness}
-use Rattle.run_parts.specs.ReadinessCode.{noOffer, sendOf, receiveOf, readinessOp, eitherWay, meetsOp}
+use Rattle.run_parts.specs.ReadinessCode.{noOffer, sendOf, receiveOf, readinessOp, eitherWay, meetsOp, sendKind, receiveKind, oppositeKinds}
 use Rattle.run_parts.proofs.Alone.{Alone, frame-alone}
 
 -- The readiness of a process with this act. A process that is stuck may stand at anything.
 abbrev pub Stands : Act → Readiness → Type 0
-Stands idle st = st ≡ noOffer 0
+Stands idle st = st ≡ noOffer Over
 Stands stuck st = Unit {0}
-Stands (faults n) st = st ≡ noOffer 1
-Stands (goes fs es u) st = st ≡ noOffer 1
-Stands ends st = st ≡ noOffer 1
-Stands (makes t fs) st = st ≡ noOffer 1
-Stands (forks m args fs) st = st ≡ noOffer 1
-Stands (offers (sends c d v gs)) st = st ≡ record { kind = 2; end = valOf (ref (end c d)); value = valOf v }
-Stands (offers (receives c d gs)) st = st ≡ record { kind = 3; end = valOf (ref (end c d)); value = valuesCode.emptyVal }
+Stands (faults n) st = st ≡ noOffer Moves
+Stands (goes fs es u) st = st ≡ noOffer Moves
+Stands ends st = st ≡ noOffer Moves
+Stands (makes t fs) st = st ≡ noOffer Moves
+Stands (forks m args fs) st = st ≡ noOffer Moves
+Stands (offers (sends c d v gs)) st = st ≡ record { kind = Sends; end = valOf (ref (end c d)); value = valOf v }
+Stands (offers (receives c d gs)) st = st ≡ record { kind = Receives; end = valOf (ref (end c d)); value = valuesCode.emptyVal }
 
-alone-stands : (x : Act) → Alone x → Stands x (noOffer 1)
+alone-stands : (x : Act) → Alone x → Stands x (noOffer Moves)
 alone-stands idle h = absurd h
 alone-stands stuck h = tt
 alone-stands (faults n) h = refl
@@ -82,21 +84,21 @@ alone-from f fs (offers o) h = absurd h
 -- a process that is not running
 
 module _ (p : List ℕ) where
-  pub stand-over : (w : List ℕ) → (headOf w .status ≡ 1 → ⊥) → readinessOp p w ≡ noOffer 0
+  pub stand-over : (w : List ℕ) → (headOf w .status ≡ 1 → ⊥) → readinessOp p w ≡ noOffer Over
   unfolding readinessOp
   stand-over w h =
       ap (λ (b : Bool). cond b
       (cond (eqb (opAt p (headOf w .place)) 15) (sendOf w (headOf w))
-      (cond (eqb (opAt p (headOf w .place)) 16) (receiveOf w (headOf w)) (noOffer 1)))
-      (noOffer 0))
+      (cond (eqb (opAt p (headOf w .place)) 16) (receiveOf w (headOf w)) (noOffer Moves)))
+      (noOffer Over))
       (ne-eqb (headOf w .status) 1 h)
 
-  pub finished-stand : readinessOp p (processWords (record { status = finished; frames = [] })) ≡ noOffer 0
+  pub finished-stand : readinessOp p (processWords (record { status = finished; frames = [] })) ≡ noOffer Over
   unfolding headOf processWords statusWords padded
   finished-stand = stand-over (processWords (record { status = finished; frames = [] })) (λ e. omega arith)
 
   pub stopped-stand : (n : ℕ) (fs : List Frame)
-      → readinessOp p (processWords (record { status = stopped n; frames = fs })) ≡ noOffer 0
+      → readinessOp p (processWords (record { status = stopped n; frames = fs })) ≡ noOffer Over
   unfolding headOf processWords statusWords padded
   stopped-stand n fs = stand-over (processWords (record { status = stopped n; frames = fs })) (λ e. omega arith)
 
@@ -104,7 +106,7 @@ module _ (p : List ℕ) where
   zero-first zero = refl
   zero-first (suc n) = refl
 
-  pub unmade-stand : readinessOp p (replicate 512 0) ≡ noOffer 0
+  pub unmade-stand : readinessOp p (replicate 512 0) ≡ noOffer Over
   unfolding headOf
   unmade-stand = stand-over (replicate 512 0) (λ e. omega (arith, zero-first 512))
 
@@ -133,13 +135,13 @@ module _ {p : List ℕ} (outcomes : List ℕ) (s : State) {f : Frame} {fs : List
   -- the readiness by the op at its place
   running : readinessOp p words
       ≡ cond (eqb (opAt p (f .place)) 15) (sendOf words top)
-      (cond (eqb (opAt p (f .place)) 16) (receiveOf words top) (noOffer 1))
+      (cond (eqb (opAt p (f .place)) 16) (receiveOf words top) (noOffer Moves))
   unfolding readinessOp
   running =
       ap (λ (h : Head). cond (eqb (h .status) 1)
       (cond (eqb (opAt p (h .place)) 15) (sendOf words h)
-      (cond (eqb (opAt p (h .place)) 16) (receiveOf words h) (noOffer 1)))
-      (noOffer 0))
+      (cond (eqb (opAt p (h .place)) 16) (receiveOf words h) (noOffer Moves)))
+      (noOffer Over))
       (head-is (busy .stack))
 
   -- too few pending values
@@ -153,7 +155,7 @@ module _ {p : List ℕ} (outcomes : List ℕ) (s : State) {f : Frame} {fs : List
 
   sent : (y x : Value) (us : List Value) → f .pending ≡ y ∷ x ∷ us → (b : Bool) → isEmpty y ≡ b
       → Good (cond (b || (isEmpty x || false)) (faults 20) (doSend (stage 2 (y ∷ x ∷ us))))
-      (cond (isEmpty x || b) (noOffer 1) (record { kind = 2; end = valOf x; value = valOf y }))
+      (cond (isEmpty x || b) (noOffer Moves) (record { kind = Sends; end = valOf x; value = valOf y }))
   unfolding doSend
   sent y empty us q true e = (refl, tt)
   sent y (int z) us q true e = (refl, tt)
@@ -167,14 +169,14 @@ module _ {p : List ℕ} (outcomes : List ℕ) (s : State) {f : Frame} {fs : List
   sent y (ref (end n r)) us q false e = (refl, (us, q, e, refl))
 
   read-send : (y x : Value) (us : List Value) → f .pending ≡ y ∷ x ∷ us
-      → sendOf words top ≡ cond (isEmpty x || isEmpty y) (noOffer 1)
-      (record { kind = 2; end = valOf x; value = valOf y })
+      → sendOf words top ≡ cond (isEmpty x || isEmpty y) (noOffer Moves)
+      (record { kind = Sends; end = valOf x; value = valOf y })
   unfolding sendOf emptyTwo
   read-send y x us q =
-      ap₂ (λ (u v : Val). cond (eqb (u .tag) 0 || eqb (v .tag) 0) (noOffer 1) (record { kind = 2; end = u; value = v }))
+      ap₂ (λ (u v : Val). cond (eqb (u .tag) 0 || eqb (v .tag) 0) (noOffer Moves) (record { kind = Sends; end = u; value = v }))
       (read-second outcomes s busy y x us q)
       (read-top outcomes s busy y (x ∷ us) q)
-      ∙ ap₂ (λ (b c : Bool). cond (b || c) (noOffer 1) (record { kind = 2; end = valOf x; value = valOf y })) (tag-test x) (tag-test y)
+      ∙ ap₂ (λ (b c : Bool). cond (b || c) (noOffer Moves) (record { kind = Sends; end = valOf x; value = valOf y })) (tag-test x) (tag-test y)
 
   at-send : opAt p (f .place) ≡ 15 → Good does (sendOf words top)
   unfolding doingOf doings opOf ops opSend
@@ -193,7 +195,7 @@ module _ {p : List ℕ} (outcomes : List ℕ) (s : State) {f : Frame} {fs : List
 
   received : (u : Value) (us : List Value) → f .pending ≡ u ∷ us
       → Good (cond (isEmpty u || false) (faults 20) (doRecv (stage 1 (u ∷ us))))
-      (cond (isEmpty u) (noOffer 1) (record { kind = 3; end = valOf u; value = valuesCode.emptyVal }))
+      (cond (isEmpty u) (noOffer Moves) (record { kind = Receives; end = valOf u; value = valuesCode.emptyVal }))
   unfolding doRecv
   received empty us q = (refl, tt)
   received (int z) us q = (tt, tt)
@@ -203,12 +205,12 @@ module _ {p : List ℕ} (outcomes : List ℕ) (s : State) {f : Frame} {fs : List
   received (ref (end n r)) us q = (refl, (us, q, refl))
 
   read-receive : (u : Value) (us : List Value) → f .pending ≡ u ∷ us
-      → receiveOf words top ≡ cond (isEmpty u) (noOffer 1) (record { kind = 3; end = valOf u; value = valuesCode.emptyVal })
+      → receiveOf words top ≡ cond (isEmpty u) (noOffer Moves) (record { kind = Receives; end = valOf u; value = valuesCode.emptyVal })
   unfolding receiveOf
   read-receive u us q =
-      ap (λ (v : Val). cond (eqb (v .tag) 0) (noOffer 1) (record { kind = 3; end = v; value = valuesCode.emptyVal }))
+      ap (λ (v : Val). cond (eqb (v .tag) 0) (noOffer Moves) (record { kind = Receives; end = v; value = valuesCode.emptyVal }))
       (read-top outcomes s busy u us q)
-      ∙ ap (λ (b : Bool). cond b (noOffer 1) (record { kind = 3; end = valOf u; value = valuesCode.emptyVal })) (tag-test u)
+      ∙ ap (λ (b : Bool). cond b (noOffer Moves) (record { kind = Receives; end = valOf u; value = valuesCode.emptyVal })) (tag-test u)
 
   at-receive : opAt p (f .place) ≡ 16 → Good does (receiveOf words top)
   unfolding doingOf doings opOf ops opRecv
@@ -225,7 +227,7 @@ module _ {p : List ℕ} (outcomes : List ℕ) (s : State) {f : Frame} {fs : List
   -- any op
 
   at-op : (b c : Bool) → eqb (opAt p (f .place)) 15 ≡ b → eqb (opAt p (f .place)) 16 ≡ c
-      → Good does (cond b (sendOf words top) (cond c (receiveOf words top) (noOffer 1)))
+      → Good does (cond b (sendOf words top) (cond c (receiveOf words top) (noOffer Moves)))
   at-op true c m n = at-send (eqb-true (opAt p (f .place)) 15 m)
   at-op false true m n = at-receive (eqb-true (opAt p (f .place)) 16 n)
   at-op false false m n = (alone-stands does alone, alone-from f fs does alone)
@@ -276,7 +278,7 @@ ends-meet c c′ false false m = never (eqb c c′) m
 
 pub meets-is : (n q : ℕ) (o o′ : Offer) (st st′ : Readiness) → Stands (offers o) st → Stands (offers o′) st′
     → meetsOp st st′ ≡ isMeeting (joins n o q o′)
-unfolding meetsOp eitherWay joins isMeeting
+unfolding meetsOp oppositeKinds sendKind receiveKind eitherWay joins isMeeting
 meets-is n q (sends c d v gs) (sends c′ d′ v′ gs′) st st′ h h′ = ap₂ meetsOp h h′
 meets-is n q (sends c d v gs) (receives c′ d′ gs′) st st′ h h′ =
     ap₂ meetsOp h h′
@@ -293,26 +295,27 @@ neither true false x y = refl
 neither false true x y = refl
 neither false false x y = refl
 
-meets-no-offer : (k : ℕ) (st : Readiness) → eqb k 3 ≡ false → eqb k 2 ≡ false → meetsOp st (noOffer k) ≡ false
-unfolding meetsOp eitherWay
+meets-no-offer : (k : ReadinessKind) (st : Readiness) → receiveKind k ≡ false → sendKind k ≡ false
+    → meetsOp st (noOffer k) ≡ false
+unfolding meetsOp oppositeKinds eitherWay
 meets-no-offer k st m n =
     ap₂ (λ (x y : Bool).
-    ((eqb (st .kind) 2 && x || eqb (st .kind) 3 && y)
+    ((sendKind (st .kind) && x || receiveKind (st .kind) && y)
     && (eqb (st .end .tag) 5 && false || eqb (st .end .tag) 6 && false))
     && eqb (st .end .number) 0) m n
-    ∙ neither (eqb (st .kind) 2) (eqb (st .kind) 3)
+    ∙ neither (sendKind (st .kind)) (receiveKind (st .kind))
     (eqb (st .end .tag) 5 && false || eqb (st .end .tag) 6 && false)
     (eqb (st .end .number) 0)
 
 pub meets-none : (a : Act) (st st′ : Readiness) → offered a ≡ none → a ≢ stuck → Stands a st′ → meetsOp st st′ ≡ false
-unfolding offered
-meets-none idle st st′ e n h = ap (meetsOp st) h ∙ meets-no-offer 0 st refl refl
+unfolding offered sendKind receiveKind
+meets-none idle st st′ e n h = ap (meetsOp st) h ∙ meets-no-offer Over st refl refl
 meets-none stuck st st′ e n h = absurd (n refl)
-meets-none (faults f) st st′ e n h = ap (meetsOp st) h ∙ meets-no-offer 1 st refl refl
-meets-none (goes fs es u) st st′ e n h = ap (meetsOp st) h ∙ meets-no-offer 1 st refl refl
-meets-none ends st st′ e n h = ap (meetsOp st) h ∙ meets-no-offer 1 st refl refl
-meets-none (makes t fs) st st′ e n h = ap (meetsOp st) h ∙ meets-no-offer 1 st refl refl
-meets-none (forks m args fs) st st′ e n h = ap (meetsOp st) h ∙ meets-no-offer 1 st refl refl
+meets-none (faults f) st st′ e n h = ap (meetsOp st) h ∙ meets-no-offer Moves st refl refl
+meets-none (goes fs es u) st st′ e n h = ap (meetsOp st) h ∙ meets-no-offer Moves st refl refl
+meets-none ends st st′ e n h = ap (meetsOp st) h ∙ meets-no-offer Moves st refl refl
+meets-none (makes t fs) st st′ e n h = ap (meetsOp st) h ∙ meets-no-offer Moves st refl refl
+meets-none (forks m args fs) st st′ e n h = ap (meetsOp st) h ∙ meets-no-offer Moves st refl refl
 meets-none (offers o) st st′ e n h = absurd (Option·none-ne-some o (sym e))
 
 -- both together: the offer of process n with whatever process q would do

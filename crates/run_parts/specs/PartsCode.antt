@@ -17,4 +17,4 @@ withPart work n ws = take (partAt n) work ++ (ws ++ drop 512 (drop (partAt n) wo
 
 -- what was done to part n, as done to the store
 unfoldable pub onPart : List ℕ → ℕ → AfterStep → AfterStep
-onPart work n d = afterStep (d .code) (withPart work n (d .words))
+onPart work n d = afterStep (d .result) (withPart work n (d .words))

@@ -1,51 +1,66 @@
 -- What a process stands at, read from its words. These definitions follow the code; that they are document 01's is
 -- proved in proofs/.
 use Prim.Native.Nat.{ℕ}
-use mathlib.Core.Bool.{Bool, false, cond, not, _&&_, _||_}
+use mathlib.Core.Bool.{Bool, true, false, cond, not, _&&_, _||_}
 use mathlib.Core.List.{List}
 use lib.Dec.{eqb}
 use Rattle.table.specs.Table.{opAt}
 use Rattle.run_store.specs.declared.head.Head.{Head}
 use Rattle.run_store.specs.StoreCode.{valueAt, headOf, topAt}
-use Rattle.run_values.specs.ValuesCode.{emptyVal, emptyTwo, atSend}
+use Rattle.run_values.specs.ValuesCode.{emptyVal, emptyTwo, isSend}
+use Rattle.run_values.specs.declared.steps.StepResult.{StepResult}
+use Rattle.run_parts.specs.declared.readiness.ReadinessKind.{ReadinessKind}
+use Rattle.run_parts.specs.declared.readiness.ReadinessKind.the-variants.{Over, Moves, Sends, Receives}
 use Rattle.run_parts.specs.declared.readiness.Readiness.{Readiness}
 
--- the kinds of readiness: over or not made; moves by itself, by a step or a fault; offers to send; offers to receive
-abbrev pub kindOver : ℕ
-kindOver = 0
+-- what a kind of readiness says: over; offers to send; offers to receive; offers one of the two
+unfoldable pub overKind : ReadinessKind → Bool
+overKind Over = true
+overKind Moves = false
+overKind Sends = false
+overKind Receives = false
 
-abbrev pub kindMoves : ℕ
-kindMoves = 1
+unfoldable pub sendKind : ReadinessKind → Bool
+sendKind Over = false
+sendKind Moves = false
+sendKind Sends = true
+sendKind Receives = false
 
-abbrev pub kindSends : ℕ
-kindSends = 2
+unfoldable pub receiveKind : ReadinessKind → Bool
+receiveKind Over = false
+receiveKind Moves = false
+receiveKind Sends = false
+receiveKind Receives = true
 
-abbrev pub kindReceives : ℕ
-kindReceives = 3
+unfoldable pub offerKind : ReadinessKind → Bool
+offerKind Over = false
+offerKind Moves = false
+offerKind Sends = true
+offerKind Receives = true
 
-abbrev pub noOffer : ℕ → Readiness
+abbrev pub noOffer : ReadinessKind → Readiness
 noOffer k = record { kind = k; end = emptyVal; value = emptyVal }
 
 unfoldable pub sendOf : List ℕ → Head → Readiness
 sendOf w h =
-    cond (emptyTwo w h) (noOffer kindMoves)
-    (record { kind = kindSends; end = valueAt w (topAt h 2); value = valueAt w (topAt h 1) })
+    cond (emptyTwo w h) (noOffer Moves)
+    (record { kind = Sends; end = valueAt w (topAt h 2); value = valueAt w (topAt h 1) })
 
 unfoldable pub receiveOf : List ℕ → Head → Readiness
 receiveOf w h =
-    cond (eqb (valueAt w (topAt h 1) .tag) 0) (noOffer kindMoves)
-    (record { kind = kindReceives; end = valueAt w (topAt h 1); value = emptyVal })
+    cond (eqb (valueAt w (topAt h 1) .tag) 0) (noOffer Moves)
+    (record { kind = Receives; end = valueAt w (topAt h 1); value = emptyVal })
 
 unfoldable pub readinessOp : List ℕ → List ℕ → Readiness
 readinessOp p w =
     cond (eqb (headOf w .status) 1)
     (cond (eqb (opAt p (headOf w .place)) 15) (sendOf w (headOf w))
-    (cond (eqb (opAt p (headOf w .place)) 16) (receiveOf w (headOf w)) (noOffer kindMoves)))
-    (noOffer kindOver)
+    (cond (eqb (opAt p (headOf w .place)) 16) (receiveOf w (headOf w)) (noOffer Moves)))
+    (noOffer Over)
 
 -- the same where its step answered that it stands at SEND or RECV
-unfoldable pub offerOf : List ℕ → ℕ → Readiness
-offerOf w code = cond (eqb code atSend) (sendOf w (headOf w)) (receiveOf w (headOf w))
+unfoldable pub offerOf : List ℕ → StepResult → Readiness
+offerOf w step = cond (isSend step) (sendOf w (headOf w)) (receiveOf w (headOf w))
 
 -- it runs and stands at neither SEND nor RECV
 unfoldable pub offersNothing : List ℕ → List ℕ → Bool
@@ -57,7 +72,11 @@ offersNothing p w =
 unfoldable pub eitherWay : ℕ → ℕ → ℕ → ℕ → Bool
 eitherWay a b x y = eqb a x && eqb b y || eqb a y && eqb b x
 
+-- one offers to send and the other to receive
+unfoldable pub oppositeKinds : ReadinessKind → ReadinessKind → Bool
+oppositeKinds a b = sendKind a && receiveKind b || receiveKind a && sendKind b
+
 unfoldable pub meetsOp : Readiness → Readiness → Bool
 meetsOp a b =
-    (eitherWay (a .kind) (b .kind) kindSends kindReceives && eitherWay (a .end .tag) (b .end .tag) 5 6) && eqb (a .end .number)
-    (b .end .number)
+    (oppositeKinds (a .kind) (b .kind) && eitherWay (a .end .tag) (b .end .tag) 5 6)
+    && eqb (a .end .number) (b .end .number)

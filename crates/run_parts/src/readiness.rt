@@ -3,34 +3,73 @@ ghost use mathlib.Core.Path.{_≡_};
 ghost use Prim.Native.Nat.{_+_, _*_};
 ghost use Rattle.table.specs.Table.{methods};
 ghost use Rattle.run_store.specs.StoreCode.{headOf};
-ghost use Rattle.run_parts.specs.ReadinessCode.{noOffer, sendOf, receiveOf, readinessOp, offerOf, offersNothing, eitherWay, meetsOp};
+ghost use Rattle.run_parts.specs.ReadinessCode.{overKind, sendKind, receiveKind, offerKind, noOffer, sendOf, receiveOf, readinessOp, offerOf, offersNothing, eitherWay, oppositeKinds, meetsOp};
 use run_store::head::Head;
 use run_store::head::read_head;
 use run_store::values::Val;
 use run_store::values::empty;
 use run_store::values::get;
 use run_store::values::value;
-use run_values::codes::AT_SEND;
 use run_values::numbers::two_empty;
+use run_values::steps::StepResult;
+use run_values::steps::is_send;
 use table::words::word_at;
 
-// The kinds of readiness: over or not made; moves by itself, by a step or a fault; offers to send; offers to receive.
-pub const OVER: u32 = 0;
+// What a process can do: it is over or not made; it moves by itself, by a step or a fault; it offers to send; it offers to
+// receive.
+pub enum ReadinessKind {
+    Over,
+    Moves,
+    Sends,
+    Receives,
+}
 
-pub const MOVES: u32 = 1;
+pub fn is_over(kind: ReadinessKind) -> bool
+    ensures { λ r. ⌜ r ≡ overKind kind ⌝ }
+{
+    match kind {
+        ReadinessKind::Over => true,
+        _ => false,
+    }
+}
 
-pub const SENDS: u32 = 2;
+pub fn is_sends(kind: ReadinessKind) -> bool
+    ensures { λ r. ⌜ r ≡ sendKind kind ⌝ }
+{
+    match kind {
+        ReadinessKind::Sends => true,
+        _ => false,
+    }
+}
 
-pub const RECEIVES: u32 = 3;
+fn is_receives(kind: ReadinessKind) -> bool
+    ensures { λ r. ⌜ r ≡ receiveKind kind ⌝ }
+{
+    match kind {
+        ReadinessKind::Receives => true,
+        _ => false,
+    }
+}
+
+// It offers to send or to receive.
+pub fn is_offering(kind: ReadinessKind) -> bool
+    ensures { λ r. ⌜ r ≡ offerKind kind ⌝ }
+{
+    match kind {
+        ReadinessKind::Sends => true,
+        ReadinessKind::Receives => true,
+        _ => false,
+    }
+}
 
 // An offer has its end, and to send also its value.
 pub struct Readiness {
-    pub kind: u32,
+    pub kind: ReadinessKind,
     pub end: Val,
     pub value: Val,
 }
 
-fn bare(kind: u32) -> Readiness
+fn bare(kind: ReadinessKind) -> Readiness
     ensures { λ r. ⌜ r ≡ noOffer kind ⌝ }
 {
     Readiness {
@@ -45,10 +84,10 @@ fn sending(w: &[u32], h: Head) -> Readiness
     ensures { λ r. ⌜ r ≡ sendOf (now (w .entry)) h ⌝ }
 {
     if two_empty(w, h) {
-        return bare(MOVES);
+        return bare(ReadinessKind::Moves);
     }
     Readiness {
-        kind: SENDS,
+        kind: ReadinessKind::Sends,
         end: value(w, h.top(2)),
         value: value(w, h.top(1)),
     }
@@ -59,10 +98,10 @@ fn receiving(w: &[u32], h: Head) -> Readiness
 {
     let e = value(w, h.top(1));
     if e.tag == 0 {
-        return bare(MOVES);
+        return bare(ReadinessKind::Moves);
     }
     Readiness {
-        kind: RECEIVES,
+        kind: ReadinessKind::Receives,
         end: e,
         value: empty(),
     }
@@ -76,7 +115,7 @@ pub fn read_readiness(p: &[u16], start: usize, w: &[u32]) -> Readiness
 {
     let h = read_head(w);
     if h.status != 1 {
-        return bare(OVER);
+        return bare(ReadinessKind::Over);
     }
     let op = word_at(p, start + 2 * (h.place as usize));
     if op == 15 {
@@ -85,15 +124,15 @@ pub fn read_readiness(p: &[u16], start: usize, w: &[u32]) -> Readiness
     if op == 16 {
         return receiving(w, h.wait());
     }
-    bare(MOVES)
+    bare(ReadinessKind::Moves)
 }
 
 // The offer of the process whose part is w, where its step answered that it stands at SEND or RECV.
-pub fn read_offer(w: &[u32], code: u32) -> Readiness
-    ensures { λ r. ⌜ r ≡ offerOf (now (w .entry)) code ⌝ }
+pub fn read_offer(w: &[u32], step: StepResult) -> Readiness
+    ensures { λ r. ⌜ r ≡ offerOf (now (w .entry)) step ⌝ }
 {
     let h = read_head(w);
-    if code == AT_SEND {
+    if is_send(step) {
         return sending(w, h);
     }
     receiving(w, h)
@@ -130,11 +169,20 @@ fn either_way(a: u32, b: u32, x: u32, y: u32) -> bool
     (a == y) & (b == x)
 }
 
+// One offers to send and the other to receive.
+fn opposite_kinds(a: ReadinessKind, b: ReadinessKind) -> bool
+    ensures { λ r. ⌜ r ≡ oppositeKinds a b ⌝ }
+{
+    (is_sends(a) & is_receives(b)) | (is_receives(a) & is_sends(b))
+}
+
 // One offers to send and the other to receive, on the two ends of one channel (tags 5 and 6).
 pub fn meets(a: Readiness, b: Readiness) -> bool
     ensures { λ r. ⌜ r ≡ meetsOp a b ⌝ }
 {
-    if !either_way(a.kind, b.kind, SENDS, RECEIVES) {
+    let one = a.kind;
+    let other = b.kind;
+    if !opposite_kinds(one, other) {
         return false;
     }
     if a.end.number != b.end.number {

@@ -13,7 +13,9 @@ use Rattle.machine.specs.Act.{goes}
 use Rattle.machine.specs.Entry.{able}
 use Rattle.machine.proofs.Steps.{ending}
 use Rattle.machine.proofs.Ownership as own
-use Rattle.run_values.specs.ValuesCode.{AfterStep, afterStep}
+use Rattle.run_values.specs.ValuesCode.{wentOn, notRunning, AfterStep, afterStep}
+use Rattle.run_values.specs.declared.steps.StepResult.{StepResult}
+use Rattle.run_values.specs.declared.steps.StepResult.the-variants.{NotRunning}
 use Rattle.run_ops.specs.OpsCode.{stepOp}
 use Rattle.run_parts.specs.PartsCode.{partOf, withPart, onPart}
 use Rattle.run_parts.proofs.Apart.{part-kept, part-other}
@@ -25,6 +27,8 @@ use Rattle.run_ability.proofs.Able.{ending-is}
 use Rattle.run_single.specs.ResultCode.{afterEntry}
 use Rattle.run_entry.specs.EntryCode.{offerAt}
 use Rattle.run_entry.proofs.Paired.{over-waits, offer-near}
+use Rattle.run_parts.specs.declared.readiness.ReadinessKind.the-variants.{Moves}
+use Rattle.run_ability.specs.declared.pairing.PairingKind.the-variants.{Waits}
 use Rattle.run_burst.specs.declared.knowledge.Knowledge.{Knowledge}
 use Rattle.run_burst.specs.KnowledgeCode.{isIdle, withIdle, alone, knownAfterStep}
 use Rattle.run_burst.specs.BurstCode.{Stop, stopsAt, namedOp, isDone, namedBefore, stopsHere, burstOp}
@@ -40,7 +44,7 @@ module _ {p schedule outcomes t0 rest : List ℕ} {room : ℕ} (given : Inputs p
     module _ {t : List (List ℕ)} {known : Knowledge} (r : Stands given k t known)
         (d : AfterStep) (x : Stepped given k d) (low : named given k < 8) (ws : List ℕ)
         (words : d .words ≡ withPart (work₀ given k) (named given k) ws)
-        (by-itself : readinessOp p (partOf (d .words) (named given k)) .kind ≡ 1) where
+        (by-itself : readinessOp p (partOf (d .words) (named given k)) .kind ≡ Moves) where
       other : (q : ℕ) → q < 8 → q ≢ named given k → partOf (d .words) q ≡ partOf (work₀ given k) q
       other q h ne =
           ap (λ (w : List ℕ). partOf w q) words
@@ -64,56 +68,56 @@ module _ {p schedule outcomes t0 rest : List ℕ} {room : ℕ} (given : Inputs p
     -- an entry of a burst: it is over with the step, the named process waits, or the rest of the entry does all
 
     record Done (t : List (List ℕ)) (known : Knowledge) (d : AfterStep) : Type 0 where
-      done : isDone (d .code) known ≡ true
+      done : isDone (d .result) known ≡ true
       ready :
           Ready given (suc k) (d .words) (trace₀ given k) t (length (at given k .lines)) (at given k .used)
-          (knownAfterStep p (d .words) (named given k) known (d .code))
+          (knownAfterStep p (d .words) (named given k) known (d .result))
 
     abbrev offered : List (List ℕ) → AfterStep → Pairing
-    offered t d = offerAt p (d .words) t (named given k) (d .code)
+    offered t d = offerAt p (d .words) t (named given k) (d .result)
 
-    record Waits (t : List (List ℕ)) (known : Knowledge) (d : AfterStep) : Type 0 where
-      more : isDone (d .code) known ≡ false
+    record Idles (t : List (List ℕ)) (known : Knowledge) (d : AfterStep) : Type 0 where
+      more : isDone (d .result) known ≡ false
       goes : stopsHere p (d .words) schedule k known (offered t d) ≡ false
       ready :
           Ready given (suc k) (d .words) (trace₀ given k) t (length (at given k .lines)) (at given k .used)
           (withIdle known (named given k))
 
     record Held (t : List (List ℕ)) (known : Knowledge) (d : AfterStep) : Type 0 where
-      more : isDone (d .code) known ≡ false
+      more : isDone (d .result) known ≡ false
       stops : stopsHere p (d .words) schedule k known (offered t d) ≡ true
       words : d .words ≡ work₀ given k
       entered :
-          namedEntryOp p outcomes (trace₀ given k) (work₀ given k) room (count₀ given k) (named given k) (d .code)
+          namedEntryOp p outcomes (trace₀ given k) (work₀ given k) room (count₀ given k) (named given k) (d .result)
           (offered t d) ≡ comesTo given k
 
     abbrev Passes : List (List ℕ) → Knowledge → AfterStep → Type 0
-    Passes t known d = Done t known d ⊎ (Waits t known d ⊎ Held t known d)
+    Passes t known d = Done t known d ⊎ (Idles t known d ⊎ Held t known d)
 
     module _ {t : List (List ℕ)} {known : Knowledge} (r : Stands given k t known)
         (l : k < length schedule) where
-      pass-idle : (d : AfterStep) → d .code ≡ 1 → d .words ≡ work₀ given k → known .some ≡ true
+      pass-idle : (d : AfterStep) → wentOn (d .result) ≡ false → notRunning (d .result) ≡ true → d .words ≡ work₀ given k → known .some ≡ true
           → able p outcomes (at given k) (named given k) ≡ false → Done t known d
       unfolding knownAfterStep isDone
-      pass-idle d c w i a = record {
-        done = ap₂ (λ (n : ℕ) (b : Bool). cond (eqb n 0) true (eqb n 1 && b)) c i;
+      pass-idle d c o w i a = record {
+        done = λ x. cond (c x) true (o x && i x);
         ready =
             ready-as given (suc k)
-            (ready-idle given k r l a (r .sure i) (knownAfterStep p (d .words) (named given k) known (d .code))
+            (ready-idle given k r l a (r .sure i) (knownAfterStep p (d .words) (named given k) known (d .result))
             (λ j. r .idle i)) w refl refl refl;
       }
 
       pass-step : named given k < 8 → isIdle known (named given k) ≡ false
           → Stepped given k (onPart (work₀ given k) (named given k) (stepOp p (partOf (work₀ given k) (named given k))))
           → Done t known (onPart (work₀ given k) (named given k) (stepOp p (partOf (work₀ given k) (named given k))))
-      unfolding knownAfterStep alone onPart isDone
+      unfolding knownAfterStep alone onPart isDone wentOn
       pass-step low free x = record {
-        done = ap (λ (n : ℕ). cond (eqb n 0) true (eqb n 1 && known .some)) (x .code);
+        done = ap (λ (r : StepResult). isDone r known) (x .result);
         ready =
             ready-plain given k r l (x .can) (x .lines) (x .used) (d .words) (x .words)
-            (knownAfterStep p (d .words) (named given k) known (d .code))
+            (knownAfterStep p (d .words) (named given k) known (d .result))
             (λ i. stepped-goes r d x low ws refl (by-itself i))
-            (λ i. stepped-idle r d x low ws refl (by-itself i) (still-some p (d .words) (named given k) known (d .code) i) free);
+            (λ i. stepped-idle r d x low ws refl (by-itself i) (still-some p (d .words) (named given k) known (d .result) i) free);
       }
         where
           d : AfterStep
@@ -122,11 +126,11 @@ module _ {p schedule outcomes t0 rest : List ℕ} {room : ℕ} (given : Inputs p
           ws : List ℕ
           ws = stepOp p (partOf (work₀ given k) (named given k)) .words
 
-          by-itself : knownAfterStep p (d .words) (named given k) known (d .code) .some ≡ true
-              → readinessOp p (partOf (d .words) (named given k)) .kind ≡ 1
+          by-itself : knownAfterStep p (d .words) (named given k) known (d .result) .some ≡ true
+              → readinessOp p (partOf (d .words) (named given k)) .kind ≡ Moves
           by-itself i =
               alone-so p (d .words) (named given k)
-              (still-alone p (d .words) (named given k) known (d .code) (x .code) i) .1
+              (still-alone p (d .words) (named given k) known (d .result) (ap wentOn (x .result)) i) .1
 
       -- the run goes on where some process is known, or seen, to be able to move
       goes-so : (n : ℕ) → (known .some ≡ true) ⊎ (alone p (work₀ given k) n ≡ true) → ending p outcomes (at given k) ≡ 0
@@ -137,24 +141,24 @@ module _ {p schedule outcomes t0 rest : List ℕ} {room : ℕ} (given : Inputs p
           g
 
       hold : (d : AfterStep) → Stopped given k t d → Passes t known d
-      hold d x = over (isDone (d .code) known) refl
+      hold d x = over (isDone (d .result) known) refl
         where
           entry-there :
-              namedEntryOp p outcomes (trace₀ given k) (work₀ given k) room (count₀ given k) (named given k) (d .code)
+              namedEntryOp p outcomes (trace₀ given k) (work₀ given k) room (count₀ given k) (named given k) (d .result)
               (offered t d) ≡ comesTo given k
           entry-there =
               ap
               (λ (w : List ℕ). namedEntryOp p outcomes (trace₀ given k) (work₀ given k) room (count₀ given k)
-              (named given k) (d .code) (offerAt p w t (named given k) (d .code))) (x .words)
+              (named given k) (d .result) (offerAt p w t (named given k) (d .result))) (x .words)
               ∙ x .entered
 
-          waits : offered t d .kind ≡ 1 → able p outcomes (at given k) (named given k) ≡ false
+          waits : offered t d .kind ≡ Waits → able p outcomes (at given k) (named given k) ≡ false
           waits e =
-              idle-unable given k t (d .code)
-              (sym (ap (λ (w : List ℕ). offerAt p w t (named given k) (d .code) .kind) (x .words)) ∙ e) (x .entered)
+              idle-unable given k t (d .result)
+              (sym (ap (λ (w : List ℕ). offerAt p w t (named given k) (d .result) .kind) (x .words)) ∙ e) (x .entered)
 
-          rests : isDone (d .code) known ≡ false → (b : Bool)
-              → stopsHere p (d .words) schedule k known (offered t d) ≡ b → Waits t known d ⊎ Held t known d
+          rests : isDone (d .result) known ≡ false → (b : Bool)
+              → stopsHere p (d .words) schedule k known (offered t d) ≡ b → Idles t known d ⊎ Held t known d
           rests more true s = inr (record { more = more; stops = s; words = x .words; entered = entry-there })
           rests more false s =
               let so = stops-so p (d .words) schedule k known (offered t d) s in
@@ -172,29 +176,27 @@ module _ {p schedule outcomes t0 rest : List ℕ} {room : ℕ} (given : Inputs p
                     (x .words) refl refl refl;
               })
 
-          over : (b : Bool) → isDone (d .code) known ≡ b → Passes t known d
+          over : (b : Bool) → isDone (d .result) known ≡ b → Passes t known d
           over true e =
-              let so = done-so (d .code) known (x .code) e in
+              let so = done-so (d .result) known (x .result) e in
               inl
-              (pass-idle d (so .0) (x .words) (so .1)
-              (waits
-              (ap (λ (c : ℕ). offerAt p (d .words) t (named given k) c .kind) (so .0)
-              ∙ over-waits p (d .words) t (named given k))))
+              (pass-idle d (x .result) (so .0) (x .words) (so .1)
+              (waits (over-waits p (d .words) t (named given k) (d .result) (so .0))))
           over false e = inr (rests e (stopsHere p (d .words) schedule k known (offered t d)) refl)
 
       plain-law : Passes t known (namedOp p (work₀ given k) (named given k) known)
-      unfolding namedOp
+      unfolding namedOp wentOn notRunning
       plain-law = go (leb 8 (named given k)) (isIdle known (named given k)) refl refl
         where
           steps : AfterStep
           steps = onPart (work₀ given k) (named given k) (stepOp p (partOf (work₀ given k) (named given k)))
 
           go : (a b : Bool) → leb 8 (named given k) ≡ a → isIdle known (named given k) ≡ b
-              → Passes t known (cond a (afterStep 1 (work₀ given k)) (cond b (afterStep 1 (work₀ given k)) steps))
-          go true b i j = hold (afterStep 1 (work₀ given k)) (far-law given k r (leb-true 8 (named given k) i))
+              → Passes t known (cond a (afterStep NotRunning (work₀ given k)) (cond b (afterStep NotRunning (work₀ given k)) steps))
+          go true b i j = hold (afterStep NotRunning (work₀ given k)) (far-law given k r (leb-true 8 (named given k) i))
           go false true i j =
               let known-so = known-idle given k r (leb-false 8 (named given k) i) j in
-              inl (pass-idle (afterStep 1 (work₀ given k)) refl refl (known-so .0) (known-so .1))
+              inl (pass-idle (afterStep NotRunning (work₀ given k)) refl refl refl (known-so .0) (known-so .1))
           go false false i j =
               ⊎-elim (λ x. inl (pass-step (leb-false 8 (named given k) i) j x)) (hold steps)
               (near-law given k r (leb-false 8 (named given k) i))
@@ -206,7 +208,7 @@ module _ {p schedule outcomes t0 rest : List ℕ} {room : ℕ} (given : Inputs p
     pub near : (b .burst .offer .sender .0 < 8) × (b .burst .offer .receiver .0 < 8)
     pub entered : b .burst .at < length schedule
         → namedEntryOp p outcomes trace (b .words) room (record { entry = b .burst .at; lines = lines; used = used })
-        (getD schedule (b .burst .at) 0) (b .burst .code) (b .burst .offer)
+        (getD schedule (b .burst .at) 0) (b .burst .step) (b .burst .offer)
         ≡ comesTo given (b .burst .at)
 
   pub burst-law : (left k : ℕ) {work trace : List ℕ} {t : List (List ℕ)} {lines used : ℕ} {known : Knowledge}
@@ -227,10 +229,10 @@ module _ {p schedule outcomes t0 rest : List ℕ} {room : ℕ} (given : Inputs p
       d = namedOp p (work₀ given k) (named given k) known
 
       m : Pairing
-      m = offerAt p (d .words) t (named given k) (d .code)
+      m = offerAt p (d .words) t (named given k) (d .result)
 
       here : Stop
-      here = stopsAt (record { at = k; code = d .code; offer = m; known = known }) (d .words)
+      here = stopsAt (record { at = k; step = d .result; offer = m; known = known }) (d .words)
 
       rest-of : Knowledge → ℕ → Stop
       rest-of x i = burstOp p t schedule (d .words) i x left
@@ -240,7 +242,7 @@ module _ {p schedule outcomes t0 rest : List ℕ} {room : ℕ} (given : Inputs p
 
       steps : Bool → Bool → Stop
       steps a b =
-          cond a (rest-of (knownAfterStep p (d .words) (named given k) known (d .code)) (k + 1))
+          cond a (rest-of (knownAfterStep p (d .words) (named given k) known (d .result)) (k + 1))
           (cond b here (rest-of (withIdle known (named given k)) (k + 1)))
 
       less : left ≡ length schedule - suc k
@@ -258,19 +260,19 @@ module _ {p schedule outcomes t0 rest : List ℕ} {room : ℕ} (given : Inputs p
 
       done : Done k t known d
           → Burst-good trace t lines used
-          (rest-of (knownAfterStep p (d .words) (named given k) known (d .code)) (suc k))
-          → Burst-good trace t lines used (steps (isDone (d .code) known) stops)
+          (rest-of (knownAfterStep p (d .words) (named given k) known (d .result)) (suc k))
+          → Burst-good trace t lines used (steps (isDone (d .result) known) stops)
       done x g =
           subst (Burst-good trace t lines used) (sym (ap (λ (a : Bool). steps a stops) (x .done)))
-          (further (knownAfterStep p (d .words) (named given k) known (d .code)) g)
+          (further (knownAfterStep p (d .words) (named given k) known (d .result)) g)
 
-      waits : Waits k t known d → Burst-good trace t lines used (rest-of (withIdle known (named given k)) (suc k))
-          → Burst-good trace t lines used (steps (isDone (d .code) known) stops)
+      waits : Idles k t known d → Burst-good trace t lines used (rest-of (withIdle known (named given k)) (suc k))
+          → Burst-good trace t lines used (steps (isDone (d .result) known) stops)
       waits x g =
           subst (Burst-good trace t lines used) (sym (ap₂ steps (x .more) (x .goes)))
           (further (withIdle known (named given k)) g)
 
-      held : Held k t known d → Burst-good trace t lines used (steps (isDone (d .code) known) stops)
+      held : Held k t known d → Burst-good trace t lines used (steps (isDone (d .result) known) stops)
       held x = subst (Burst-good trace t lines used) (sym (ap₂ steps (x .more) (x .stops))) good
         where
           there : Ready given k (d .words) trace t lines used known
@@ -279,6 +281,6 @@ module _ {p schedule outcomes t0 rest : List ℕ} {room : ℕ} (given : Inputs p
           good : Burst-good trace t lines used here
           good = record {
             ready = there;
-            near = offer-near p (d .words) t (named given k) (d .code);
-            entered = λ i. entry-as given k there (d .code) m (x .entered);
+            near = offer-near p (d .words) t (named given k) (d .result);
+            entered = λ i. entry-as given k there (d .result) m (x .entered);
           }

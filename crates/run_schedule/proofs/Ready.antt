@@ -27,7 +27,9 @@ use Rattle.machine.proofs.Steps.{unable-nothing, after-nothing, stateAt, ending
 use Rattle.machine.proofs.Ownership as own
 use Rattle.layout.specs.Layout.{encode}
 use Rattle.layout.proofs.RoundTrip.{encode-length}
-use Rattle.run_values.specs.ValuesCode.{AfterStep, afterStep}
+use Rattle.run_values.specs.ValuesCode.{wentOn, AfterStep, afterStep}
+use Rattle.run_values.specs.declared.steps.StepResult.{StepResult}
+use Rattle.run_values.specs.declared.steps.StepResult.the-variants.{WentOn, NotRunning}
 use Rattle.run_ops.specs.OpsCode.{stepOp}
 use Rattle.run_parts.specs.PartsCode.{partOf, withPart, onPart}
 use Rattle.run_parts.proofs.Apart.{part-same}
@@ -46,6 +48,8 @@ use Rattle.run_entry.specs.EntryCode.{offerAt, entryOp}
 use Rattle.run_single.proofs.Here.{Here}
 use Rattle.run_entry.proofs.Stepped.{Plain, Other, entry-law}
 use Rattle.run_entry.proofs.Paired.{waiting-stays}
+use Rattle.run_parts.specs.declared.readiness.ReadinessKind.the-variants.{Moves}
+use Rattle.run_ability.specs.declared.pairing.PairingKind.the-variants.{Waits}
 use Rattle.run_burst.specs.declared.knowledge.Knowledge.{Knowledge}
 use Rattle.run_burst.specs.KnowledgeCode.{nothingKnown, marked, isIdle, withIdle}
 use Rattle.run_burst.specs.TurnCode.{namedEntryOp}
@@ -254,17 +258,18 @@ module _ {p schedule outcomes t0 rest : List ℕ} {room : ℕ} (given : Inputs p
 
     -- the step of the named process: plain, or the rest of the entry does all
     pub record Stepped (d : AfterStep) : Type 0 where
-      pub code : d .code ≡ 0
+      pub result : d .result ≡ WentOn
       pub can : able p outcomes (at k) named ≡ true
       pub words : d .words ≡ encode (effect .config) ++ rest
       pub lines : effect .lines ≡ []
       pub used : effect .used ≡ 0
 
     pub record Stopped (t : List (List ℕ)) (d : AfterStep) : Type 0 where
-      pub code : d .code ≢ 0
+      pub result : wentOn (d .result) ≡ false
       pub words : d .words ≡ work₀
       pub entered :
-          namedEntryOp p outcomes trace₀ work₀ room count₀ named (d .code) (offerAt p work₀ t named (d .code)) ≡ comesTo
+          namedEntryOp p outcomes trace₀ work₀ room count₀ named (d .result) (offerAt p work₀ t named (d .result))
+          ≡ comesTo
 
     pub unmade : 8 ≤ named → able p outcomes (at k) named ≡ false
     unfolding ableIn movesIn judged
@@ -275,15 +280,15 @@ module _ {p schedule outcomes t0 rest : List ℕ} {room : ℕ} (given : Inputs p
     module _ {work trace : List ℕ} {t : List (List ℕ)} {lines used : ℕ} {known : Knowledge}
         (r : Ready k work trace t lines used known) where
       -- no process can have that number
-      pub far-law : 8 ≤ named → Stopped t (afterStep 1 work₀)
-      unfolding namedEntryOp
+      pub far-law : 8 ≤ named → Stopped t (afterStep NotRunning work₀)
+      unfolding namedEntryOp wentOn
       far-law h = record {
-        code = λ e. absurd (omega (arith, e));
+        result = refl;
         words = refl;
         entered =
             ap
             (λ (b : Bool). cond b (afterEntry (idleAt count₀) trace₀ work₀)
-            (entryOp p outcomes trace₀ work₀ room count₀ named 1 (offerAt p work₀ t named 1))) (le-leb 8 named h)
+            (entryOp p outcomes trace₀ work₀ room count₀ named NotRunning (offerAt p work₀ t named NotRunning))) (le-leb 8 named h)
             ∙ sym (ap (λ (b : Bool). comes b (fits room (at k) effect)) (unmade h));
       }
 
@@ -298,16 +303,16 @@ module _ {p schedule outcomes t0 rest : List ℕ} {room : ℕ} (given : Inputs p
       near-law h =
           ⊎-elim
           (λ (x : Plain here rest k named owned t (r .table) h step₀).
-          inl (record { code = x .code; can = x .can; words = x .words; lines = x .lines; used = x .used }))
+          inl (record { result = x .result; can = x .can; words = x .words; lines = x .lines; used = x .used }))
           (λ (x : Other here rest k named owned t (r .table) h step₀).
           inr (record {
-            code = x .code;
+            result = x .result;
             words = ap (withPart work₀ named) (x .words) ∙ part-same work₀ named;
             entered =
                 ap
                 (λ (b : Bool). cond b (afterEntry (idleAt count₀) trace₀ work₀)
-                (entryOp p outcomes trace₀ work₀ room count₀ named (step₀ .code)
-                (offerAt p work₀ t named (step₀ .code))))
+                (entryOp p outcomes trace₀ work₀ room count₀ named (step₀ .result)
+                (offerAt p work₀ t named (step₀ .result))))
                 (lt-leb 8 named h)
                 ∙ x .entry;
           }))
@@ -339,26 +344,26 @@ module _ {p schedule outcomes t0 rest : List ℕ} {room : ℕ} (given : Inputs p
     ready-there r = ready-as r (sym (r .store)) (sym (r .written)) (sym (r .counted)) (sym (r .drawn))
 
     pub entry-as : {work trace : List ℕ} {t : List (List ℕ)} {lines used : ℕ} {known : Knowledge}
-        → Ready k work trace t lines used known → (code : ℕ) (m : Pairing)
-        → namedEntryOp p outcomes trace₀ work₀ room count₀ named code m ≡ comesTo
-        → namedEntryOp p outcomes trace work room (record { entry = k; lines = lines; used = used }) named code m
+        → Ready k work trace t lines used known → (step : StepResult) (m : Pairing)
+        → namedEntryOp p outcomes trace₀ work₀ room count₀ named step m ≡ comesTo
+        → namedEntryOp p outcomes trace work room (record { entry = k; lines = lines; used = used }) named step m
         ≡ comesTo
-    entry-as r code m e =
-        (λ i. namedEntryOp p outcomes (r .written i) (r .store i) room (record { entry = k; lines = r .counted i; used = r .drawn i }) named code m) ∙ e
+    entry-as r step m e =
+        (λ i. namedEntryOp p outcomes (r .written i) (r .store i) room (record { entry = k; lines = r .counted i; used = r .drawn i }) named step m) ∙ e
 
     -- an entry whose offer comes to waiting is idle
-    pub idle-unable : (t : List (List ℕ)) (code : ℕ) → offerAt p work₀ t named code .kind ≡ 1
-        → namedEntryOp p outcomes trace₀ work₀ room count₀ named code (offerAt p work₀ t named code) ≡ comesTo
+    pub idle-unable : (t : List (List ℕ)) (step : StepResult) → offerAt p work₀ t named step .kind ≡ Waits
+        → namedEntryOp p outcomes trace₀ work₀ room count₀ named step (offerAt p work₀ t named step) ≡ comesTo
         → able p outcomes (at k) named ≡ false
     unfolding namedEntryOp
-    idle-unable t code w e = go (able p outcomes (at k) named) (fits room (at k) effect) (sym (stays (leb 8 named)) ∙ e)
+    idle-unable t step w e = go (able p outcomes (at k) named) (fits room (at k) effect) (sym (stays (leb 8 named)) ∙ e)
       where
         stays : (b : Bool)
             → cond b (afterEntry (idleAt count₀) trace₀ work₀)
-            (entryOp p outcomes trace₀ work₀ room count₀ named code (offerAt p work₀ t named code))
+            (entryOp p outcomes trace₀ work₀ room count₀ named step (offerAt p work₀ t named step))
             ≡ afterEntry (idleAt count₀) trace₀ work₀
         stays true = refl
-        stays false = waiting-stays p outcomes trace₀ work₀ room t count₀ named code w
+        stays false = waiting-stays p outcomes trace₀ work₀ room t count₀ named step w
 
         go : (a f : Bool) → afterEntry (idleAt count₀) trace₀ work₀ ≡ comes a f → a ≡ false
         go true true i = absurd (true≢false (ap (λ (c : AfterEntry). is-unable (c .result .progress)) i))
@@ -431,12 +436,12 @@ module _ {p schedule outcomes t0 rest : List ℕ} {room : ℕ} (given : Inputs p
 
     module _ {t : List (List ℕ)} {known : Knowledge} (r : Stands k t known) (low : named k < 8)
         (work′ : List ℕ) (others : (q : ℕ) → q < 8 → q ≢ named k → partOf work′ q ≡ partOf (work₀ k) q)
-        (by-itself : readinessOp p (partOf work′ (named k)) .kind ≡ 1) where
+        (by-itself : readinessOp p (partOf work′ (named k)) .kind ≡ Moves) where
       pub moved-idle : known .some ≡ true → getD (known .idle) (named k) false ≡ false → Idle work′ t (known .idle)
       moved-idle i free n h e =
           still-unable p (work₀ k) work′ t n (others n h ne)
           (λ q l. ⊎-elim (λ j. inr
-          (subst (λ (m : ℕ). readinessOp p (partOf work′ m) .kind ≡ 1) (sym (eqb-true q (named k) j)) by-itself))
+          (subst (λ (m : ℕ). readinessOp p (partOf work′ m) .kind ≡ Moves) (sym (eqb-true q (named k) j)) by-itself))
           (λ j. inl (others q l (eqb-false q (named k) j)))
           (decide (eqb q (named k))))
           (r .idle i n h e)

@@ -25,8 +25,11 @@ use Rattle.run_ability.specs.declared.pairing.Pairing.{Pairing}
 use Rattle.run_ability.specs.EndingCode.{endingOp}
 use Rattle.run_ability.proofs.Able.{ending-is}
 use Rattle.run_single.specs.ResultCode.{AfterEntry, afterEntry, idleAt}
+use Rattle.run_values.specs.declared.steps.StepResult.{StepResult}
+use Rattle.run_values.specs.declared.steps.StepResult.the-variants.{WentOn}
 use Rattle.run_entry.specs.EntryCode.{oneLine, entryOp}
 use Rattle.run_entry.proofs.Beside.{beside}
+use Rattle.run_parts.specs.declared.readiness.ReadinessKind.the-variants.{Moves}
 use Rattle.run_burst.specs.declared.knowledge.Knowledge.{Knowledge}
 use Rattle.run_burst.specs.KnowledgeCode.{nothingKnown, withIdle, alone, knownAfterStep, knownAfterEntry, unlessChanged}
 use Rattle.run_burst.specs.TurnCode.{AfterTurn, afterTurn, namedEntryOp, endAfter, knownAfter, turnBy, turnOp}
@@ -45,16 +48,16 @@ module _ {p schedule outcomes t0 rest : List ℕ} {room : ℕ} (given : Inputs p
         ⊎ ((x .turn .end ≢ 0) × AtEnd given k (x .turn .end) (x .work) (x .trace) (x .turn .lines) (x .turn .used))
 
     pub turn-law : {work trace : List ℕ} {t : List (List ℕ)} {lines used : ℕ} {known : Knowledge}
-        → Ready given k work trace t lines used known → k < length schedule → (code : ℕ) (m : Pairing)
+        → Ready given k work trace t lines used known → k < length schedule → (step : StepResult) (m : Pairing)
         → namedEntryOp p outcomes trace work room (record { entry = k; lines = lines; used = used }) (named given k)
-        code
+        step
         m ≡ (comesTo given k)
         → Turns t lines
-        (turnOp p outcomes trace work room t (record { entry = k; lines = lines; used = used }) (named given k) code m
+        (turnOp p outcomes trace work room t (record { entry = k; lines = lines; used = used }) (named given k) step m
         known)
     unfolding turnOp turnBy endAfter knownAfter namedEntryOp holdersAfterLines changedFrom nothingKnown alone knownAfterStep knownAfterEntry unlessChanged
-    turn-law {work} {trace} {t} {lines} {used} {known} r l code m e =
-        subst (λ (c : AfterEntry). Turns t lines (turnBy p t (named given k) code known c)) (sym e)
+    turn-law {work} {trace} {t} {lines} {used} {known} r l step m e =
+        subst (λ (c : AfterEntry). Turns t lines (turnBy p t (named given k) step known c)) (sym e)
         (go (able p outcomes (at given k) (named given k)) (fits room (at given k) (effect given k)) refl refl)
       where
         there : Stands given k t known
@@ -118,7 +121,7 @@ module _ {p schedule outcomes t0 rest : List ℕ} {room : ℕ} (given : Inputs p
 
         go : (a f : Bool) → able p outcomes (at given k) (named given k) ≡ a
             → fits room (at given k) (effect given k) ≡ f
-            → Turns t lines (turnBy p t (named given k) code known (comes given k a f))
+            → Turns t lines (turnBy p t (named given k) step known (comes given k a f))
         go true true i j = inl (
           refl,
           omega (arith, r .counted, length-append (at given k .lines) (effect given k .lines)),
@@ -146,7 +149,7 @@ module _ {p schedule outcomes t0 rest : List ℕ} {room : ℕ} (given : Inputs p
             changed = changedFrom trace′ lines (length (at given k .lines ++ effect given k .lines) - lines)
 
             known′ : Knowledge
-            known′ = unlessChanged (knownAfterEntry p work′ (named given k) known code) changed
+            known′ = unlessChanged (knownAfterEntry p work′ (named given k) known step) changed
 
             count-more : length (at given k .lines ++ effect given k .lines) - lines ≡ length (effect given k .lines)
             count-more = omega (arith, r .counted, length-append (at given k .lines) (effect given k .lines))
@@ -172,29 +175,29 @@ module _ {p schedule outcomes t0 rest : List ℕ} {room : ℕ} (given : Inputs p
                 (decide (getD (known .idle) (named given k) false))
 
             so : known′ .some ≡ true
-                → (changed ≡ false) × (oneLine code ≡ true) × (known .some ≡ true) ×
+                → (changed ≡ false) × (oneLine step ≡ true) × (known .some ≡ true) ×
                 (alone p work′ (named given k) ≡ true)
-            so z = entered-so p work′ (named given k) known code changed z
+            so z = entered-so p work′ (named given k) known step changed z
 
-            by-itself : known′ .some ≡ true → readinessOp p (partOf work′ (named given k)) .kind ≡ 1
+            by-itself : known′ .some ≡ true → readinessOp p (partOf work′ (named given k)) .kind ≡ Moves
             by-itself z = alone-so p work′ (named given k) (so z .3) .1
 
             marks-same : known′ .some ≡ true → known′ .idle ≡ known .idle
             marks-same z =
                 ap₂
                 (λ (x y : Bool). cond x nothingKnown
-                (cond y (knownAfterStep p work′ (named given k) known 0) nothingKnown) .idle) (so z .0) (so z .1)
+                (cond y (knownAfterStep p work′ (named given k) known WentOn) nothingKnown) .idle) (so z .0) (so z .1)
 
             store-entered :
-                entryOp p outcomes (trace₀ given k) (work₀ given k) room (count₀ given k) (named given k) code m .work
+                entryOp p outcomes (trace₀ given k) (work₀ given k) room (count₀ given k) (named given k) step m .work
                 ≡ work′
             store-entered =
                 sym (ap (λ (b : Bool). cond b (afterEntry (idleAt (count₀ given k)) (trace₀ given k) (work₀ given k))
-                (entryOp p outcomes (trace₀ given k) (work₀ given k) room (count₀ given k) (named given k) code m)
+                (entryOp p outcomes (trace₀ given k) (work₀ given k) room (count₀ given k) (named given k) step m)
                 .work)
                 (lt-leb 8 (named given k) low))
                 ∙ ap (λ (c : AfterEntry). c .work)
-                ((λ x. namedEntryOp p outcomes (sym (r .written) x) (sym (r .store) x) room (record { entry = k; lines = sym (r .counted) x; used = sym (r .drawn) x }) (named given k) code m)
+                ((λ x. namedEntryOp p outcomes (sym (r .written) x) (sym (r .store) x) room (record { entry = k; lines = sym (r .counted) x; used = sym (r .drawn) x }) (named given k) step m)
                 ∙ e)
                 ∙ ap₂ (λ (a f : Bool). comes given k a f .work) i j
 
@@ -202,8 +205,8 @@ module _ {p schedule outcomes t0 rest : List ℕ} {room : ℕ} (given : Inputs p
                 → partOf work′ q ≡ partOf (work₀ given k) q
             others z q h ne =
                 ap (λ (w : List ℕ). partOf w q) (sym store-entered)
-                ∙ beside p outcomes (trace₀ given k) (work₀ given k) room (count₀ given k) (named given k) code m
-                (long given k) low (so z .1) (ap length store-entered ∙ same-long given k) q h ne
+                ∙ beside p outcomes (trace₀ given k) (work₀ given k) room (count₀ given k) (named given k) step m
+                (long given k) low q h ne (so z .1) (ap length store-entered ∙ same-long given k)
         go true false i j = inr (
           λ z. absurd (omega (arith, z)),
           record {

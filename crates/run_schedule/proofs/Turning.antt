@@ -82,14 +82,14 @@ burst-past : (p : List ℕ) (t : List (List ℕ)) (schedule work : List ℕ) (k 
 unfolding burstOp
 burst-past p t schedule work k known zero = omega arith
 burst-past p t schedule work k known (suc left) =
-    cond-both (λ (b : Stop). k ≤ b .burst .at) (isDone (d .code) known)
+    cond-both (λ (b : Stop). k ≤ b .burst .at) (isDone (d .result) known)
     (omega (
       arith,
-      burst-past p t schedule (d .words) (k + 1) (knownAfterStep p (d .words) (getD schedule k 0) known (d .code))
+      burst-past p t schedule (d .words) (k + 1) (knownAfterStep p (d .words) (getD schedule k 0) known (d .result))
           left,
     ))
     (cond-both (λ (b : Stop). k ≤ b .burst .at)
-    (stopsHere p (d .words) schedule k known (offerAt p (d .words) t (getD schedule k 0) (d .code))) (omega arith)
+    (stopsHere p (d .words) schedule k known (offerAt p (d .words) t (getD schedule k 0) (d .result))) (omega arith)
     (omega (arith, burst-past p t schedule (d .words) (k + 1) (withIdle known (getD schedule k 0)) left)))
   where
     d : AfterStep
@@ -171,7 +171,7 @@ module _ {p schedule outcomes : List ℕ} {room : ℕ} {t0 : List ℕ} where
       unfolding turnAt
       turn =
           subst (Turns (g .given) (b .at) t lines) (sym changed)
-          (turn-law (g .given) (b .at) there more (b .code) (b .offer) (g .stands .entered more))
+          (turn-law (g .given) (b .at) there more (b .step) (b .offer) (g .stands .entered more))
 
       -- the run is over
       pub going-over : (w0 : List ℕ) → beyond ≡ drop 8256 w0 → r .end ≢ 0

@@ -12,6 +12,7 @@ use Rattle.run_events.specs.declared.event.EventResult.{EventResult}
 use Rattle.run_events.specs.EventsCode.{AfterEvent, afterEvent}
 use Rattle.run_parts.specs.PartsCode.{partAt, partOf}
 use Rattle.run_parts.proofs.Lifted.{lent, returned, lifted-words, part-lent}
+use Rattle.run_events.specs.declared.conclude.Single.{Single}
 use Rattle.run_single.specs.declared.result.Count.{Count}
 use Rattle.run_single.specs.declared.result.EntryResult.{EntryResult}
 use Rattle.run_single.specs.ResultCode.{afterEntry, takenTo, fullAt}
@@ -54,17 +55,17 @@ module _ (work : List ℕ) (kind : ℕ) where
 
 -- an entry with one line
 
-module _ (p outcomes trace work : List ℕ) (room : ℕ) (g : Count) (n code : ℕ) where
+module _ (p outcomes trace work : List ℕ) (room : ℕ) (g : Count) (n : ℕ) (does : Single) where
   pub single-full : {m : EntryResult} → room ≤ g .lines → m ≡ fullAt g
-      → afterEntry m trace work ≡ singleOp p outcomes trace work room g n code
+      → afterEntry m trace work ≡ singleOp p outcomes trace work room g n does
   unfolding singleOp
   single-full h e = took _ _ _ refl (le-leb room (g .lines) h) (entry-same e refl refl)
 
   pub single-noted : {t : EventResult} {w v ts : List ℕ} {l : TraceLine} {u : ℕ} {m : EntryResult} → g .lines < room
-      → afterEvent t w ≡ concludedAt p work n code outcomes (g .used) → v ≡ countedWords w (t .kind)
+      → afterEvent t w ≡ concludedAt p work n does outcomes (g .used) → v ≡ countedWords w (t .kind)
       → l ≡ eventLine (g .entry) n t
       → ts ≡ withLine trace (g .lines) l → u ≡ (g .used + t .used) % 4294967296 → m ≡ takenTo (g .lines + 1) u
-      → afterEntry m ts v ≡ singleOp p outcomes trace work room g n code
+      → afterEntry m ts v ≡ singleOp p outcomes trace work room g n does
   unfolding singleOp recorded
   single-noted h event-is counted lined written used moved =
       passed-by _ _ _ refl (lt-leb room (g .lines) h)

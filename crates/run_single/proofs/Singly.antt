@@ -34,6 +34,8 @@ use Rattle.run_events.specs.EventsCode.{AfterEvent, afterEvent, faultEvent}
 use Rattle.run_events.specs.ConcludeCode.{concludeOp}
 use Rattle.run_events.proofs.Answers.{eventOf}
 use Rattle.run_events.proofs.Concluding.{concluded-fault, concluded-ends}
+use Rattle.run_events.specs.declared.conclude.Single.{Single}
+use Rattle.run_events.specs.declared.conclude.Single.the-variants.{LastRet, Fault}
 use Rattle.run_single.specs.declared.result.Count.{Count}
 use Rattle.run_single.specs.ResultCode.{AfterEntry, afterEntry, takenTo, fullAt}
 use Rattle.run_single.specs.SingleCode.{inPart, concludedAt, countedWords, eventLine, recorded, singleOp}
@@ -84,25 +86,25 @@ module _ {p outcomes : List ℕ} {s : State} {t0 : List ℕ} {room : ℕ} (here 
   -- one line
 
   module _ (made : n < length (config .processes)) where
-    single-law : (code : ℕ) (answer : EventResult) (pr : Process) (ev : Event) (e : Effect)
-        → concludeOp p (partOf work n) code (config .qubits) (config .channels) outcomes (s .used) ≡ afterEvent answer
+    single-law : (what : Single) (answer : EventResult) (pr : Process) (ev : Event) (e : Effect)
+        → concludeOp p (partOf work n) what (config .qubits) (config .channels) outcomes (s .used) ≡ afterEvent answer
         (processWords pr)
         → length (processWords pr) ≡ 512
         → eventLine k n answer ≡ written.lineOf (lineOf k n ev)
         → e .lines ≡ lineOf k n ev ∷ [] → e .used ≡ answer .used → answer .used ≤ 1
         → countedWords (encode (setProcess config n pr) ++ rest) (answer .kind) ≡ encode (e .config) ++ rest
-        → singleOp p outcomes trace work room count n code ≡ tried e
+        → singleOp p outcomes trace work room count n what ≡ tried e
     unfolding singleOp concludedAt inPart recorded fits
-    single-law code answer pr ev e conc long line ls us one cw = go (leb room (length (s .lines))) refl
+    single-law what answer pr ev e conc long line ls us one cw = go (leb room (length (s .lines))) refl
       where
-        stored : recorded trace count n (concludedAt p work n code outcomes (s .used))
+        stored : recorded trace count n (concludedAt p work n what outcomes (s .used))
             ≡ afterEntry (takenTo (length (s .lines) + 1) ((s .used + answer .used) % 4294967296))
             (withLine trace (length (s .lines)) (eventLine k n answer))
             (countedWords (encode (setProcess config n pr) ++ rest) (answer .kind))
         stored =
             ap₂
             (λ (q c : ℕ). recorded trace count n
-            (inPart work n (concludeOp p (partOf work n) code q c outcomes (s .used)))) (qubits-word config rest)
+            (inPart work n (concludeOp p (partOf work n) what q c outcomes (s .used)))) (qubits-word config rest)
             (channels-word config rest)
             ∙ ap (λ (l : AfterEvent). recorded trace count n (inPart work n l)) conc
             ∙ ap (λ (w : List ℕ). recorded trace count n (afterEvent answer w)) (part-put config laid rest n pr made long)
@@ -112,7 +114,7 @@ module _ {p outcomes : List ℕ} {s : State} {t0 : List ℕ} {room : ℕ} (here 
             sym (length-append (s .lines) (e .lines) ∙ ap (λ (l : List Line). length (s .lines) + length l) ls)
 
         go : (b : Bool) → leb room (length (s .lines)) ≡ b
-            → cond b full (recorded trace count n (concludedAt p work n code outcomes (s .used)))
+            → cond b full (recorded trace count n (concludedAt p work n what outcomes (s .used)))
             ≡ cond (leb (length (s .lines) + length (e .lines)) room) (took e) full
         go true h =
             sym (ap (λ (b : Bool). cond b (took e) full)
@@ -144,15 +146,15 @@ module _ {p outcomes : List ℕ} {s : State} {t0 : List ℕ} {room : ℕ} (here 
     abbrev pub words : List ℕ
     words = processWords (runs (f ∷ fs))
 
-    -- a fault, by whatever code it came
-    pub fault-as : (code m : ℕ) → IsFault m
-        → concludeOp p words code (config .qubits) (config .channels) outcomes (s .used) ≡ afterEvent (faultEvent m)
+    -- a fault, however it came
+    pub fault-as : (what : Single) (m : ℕ) → IsFault m
+        → concludeOp p words what (config .qubits) (config .channels) outcomes (s .used) ≡ afterEvent (faultEvent m)
         (processWords (record { status = stopped m; frames = f ∷ fs }))
-        → singleOp p outcomes trace work room count n code ≡ tried (applied p outcomes k s n (faults m))
+        → singleOp p outcomes trace work room count n what ≡ tried (applied p outcomes k s n (faults m))
     unfolding appliedIn countedWords
-    fault-as code m listed conc =
-        single-law (live .made) code (faultEvent m) halted (stops m) (applied p outcomes k s n (faults m))
-        (ap (λ (w : List ℕ). concludeOp p w code (config .qubits) (config .channels) outcomes (s .used)) part-now
+    fault-as what m listed conc =
+        single-law (live .made) what (faultEvent m) halted (stops m) (applied p outcomes k s n (faults m))
+        (ap (λ (w : List ℕ). concludeOp p w what (config .qubits) (config .channels) outcomes (s .used)) part-now
         ∙ conc
         ∙ ap (λ (gs : List Frame). afterEvent (faultEvent m) (processWords (record { status = stopped m; frames = gs }))) (sym frames-are))
         (process-length p config halted (record { status = (listed, some); depth = deep-now; frames = fine-now }))
@@ -173,31 +175,27 @@ module _ {p outcomes : List ℕ} {s : State} {t0 : List ℕ} {room : ℕ} (here 
         fine-now : All (FrameSound p config) (processAt config n .frames)
         fine-now = subst (All (FrameSound p config)) (sym frames-are) (live .busy .stack .sound)
 
-    -- every fault's number lies between those of the codes of ops
+    -- no fault has the number 0
     fault-low : (m : ℕ) → IsFault m → 0 < m
     fault-low m (inl h) = omega (arith, h .0)
     fault-low m (inr e) = omega (arith, e)
 
-    fault-high : (m : ℕ) → IsFault m → m < 100
-    fault-high m (inl h) = omega (arith, h .1)
-    fault-high m (inr e) = omega (arith, e)
-
     pub fault-law : (m : ℕ) → IsFault m
-        → singleOp p outcomes trace work room count n m ≡ tried (applied p outcomes k s n (faults m))
+        → singleOp p outcomes trace work room count n (Fault m) ≡ tried (applied p outcomes k s n (faults m))
     fault-law m listed =
-        fault-as m m listed
-        (concluded-fault outcomes s (live .busy) (sound .qubitCount) m (fault-low m listed) (fault-high m listed)
+        fault-as (Fault m) m listed
+        (concluded-fault outcomes s (live .busy) (sound .qubitCount) m (fault-low m listed)
         (config .qubits) (config .channels) outcomes (s .used))
 
     -- the root frame's return
-    pub ends-as : (code : ℕ)
-        → concludeOp p words code (config .qubits) (config .channels) outcomes (s .used) ≡ afterEvent
+    pub ends-as : (what : Single)
+        → concludeOp p words what (config .qubits) (config .channels) outcomes (s .used) ≡ afterEvent
         (eventOf 0 finishes) (processWords (record { status = finished; frames = [] }))
-        → singleOp p outcomes trace work room count n code ≡ tried (applied p outcomes k s n ends)
+        → singleOp p outcomes trace work room count n what ≡ tried (applied p outcomes k s n ends)
     unfolding appliedIn countedWords
-    ends-as code conc =
-        single-law (live .made) code (eventOf 0 finishes) gone finishes (applied p outcomes k s n ends)
-        (ap (λ (w : List ℕ). concludeOp p w code (config .qubits) (config .channels) outcomes (s .used)) part-now
+    ends-as what conc =
+        single-law (live .made) what (eventOf 0 finishes) gone finishes (applied p outcomes k s n ends)
+        (ap (λ (w : List ℕ). concludeOp p w what (config .qubits) (config .channels) outcomes (s .used)) part-now
         ∙ conc)
         (process-length p config gone (record { status = refl; depth = omega arith; frames = tt }))
         refl refl refl (omega arith) refl
@@ -205,9 +203,9 @@ module _ {p outcomes : List ℕ} {s : State} {t0 : List ℕ} {room : ℕ} (here 
         gone : Process
         gone = record { status = finished; frames = [] }
 
-    pub ends-law : singleOp p outcomes trace work room count n 113 ≡ tried (applied p outcomes k s n ends)
+    pub ends-law : singleOp p outcomes trace work room count n LastRet ≡ tried (applied p outcomes k s n ends)
     ends-law =
-        ends-as 113
+        ends-as LastRet
         (concluded-ends outcomes s (live .busy) (sound .qubitCount) (config .qubits) (config .channels) outcomes
         (s .used))
 
@@ -237,15 +235,15 @@ module _ {p outcomes : List ℕ} {s : State} {t0 : List ℕ} {room : ℕ} (here 
           (process-length p config unmade (record { status = refl; depth = omega arith; frames = tt })))
 
     -- an op that goes on with one line of its own process
-    pub line-law : (code : ℕ) (gs : List Frame) (ev : Event) (u : ℕ) → actOf p outcomes s n ≡ goes gs (ev ∷ []) u
-        → concludeOp p words code (config .qubits) (config .channels) outcomes (s .used) ≡ afterEvent (eventOf u ev)
+    pub line-law : (what : Single) (gs : List Frame) (ev : Event) (u : ℕ) → actOf p outcomes s n ≡ goes gs (ev ∷ []) u
+        → concludeOp p words what (config .qubits) (config .channels) outcomes (s .used) ≡ afterEvent (eventOf u ev)
         (processWords (runs gs))
         → ev .kind ≢ 1 → ev .kind ≢ 2 → u ≤ 1
-        → singleOp p outcomes trace work room count n code ≡ tried (applied p outcomes k s n (goes gs (ev ∷ []) u))
+        → singleOp p outcomes trace work room count n what ≡ tried (applied p outcomes k s n (goes gs (ev ∷ []) u))
     unfolding appliedIn judged countedWords
-    line-law code gs ev u does conc one two few =
-        single-law (live .made) code (eventOf u ev) (runs gs) ev (applied p outcomes k s n (goes gs (ev ∷ []) u))
-        (ap (λ (w : List ℕ). concludeOp p w code (config .qubits) (config .channels) outcomes (s .used)) part-now
+    line-law what gs ev u does conc one two few =
+        single-law (live .made) what (eventOf u ev) (runs gs) ev (applied p outcomes k s n (goes gs (ev ∷ []) u))
+        (ap (λ (w : List ℕ). concludeOp p w what (config .qubits) (config .channels) outcomes (s .used)) part-now
         ∙ conc)
         (after-long (goes gs (ev ∷ []) u) does n (runs gs) (process-same config n (runs gs) (live .made)))
         refl refl refl few
@@ -257,39 +255,39 @@ module _ {p outcomes : List ℕ} {s : State} {t0 : List ℕ} {room : ℕ} (here 
         w = encode (setProcess config n (runs gs)) ++ rest
 
     -- a thing made: the line of its making, where counting it leaves these words
-    making-law : (code : ℕ) (t : Thing) (gs : List Frame) → actOf p outcomes s n ≡ makes t gs
-        → concludeOp p words code (config .qubits) (config .channels) outcomes (s .used) ≡ afterEvent
+    making-law : (what : Single) (t : Thing) (gs : List Frame) → actOf p outcomes s n ≡ makes t gs
+        → concludeOp p words what (config .qubits) (config .channels) outcomes (s .used) ≡ afterEvent
         (eventOf 0 (making t)) (processWords (runs gs))
         → countedWords (encode (setProcess config n (runs gs)) ++ rest) (making t .kind) ≡ encode
         (counted t (setProcess config n (runs gs))) ++ rest
-        → singleOp p outcomes trace work room count n code ≡ tried (applied p outcomes k s n (makes t gs))
+        → singleOp p outcomes trace work room count n what ≡ tried (applied p outcomes k s n (makes t gs))
     unfolding appliedIn judged
-    making-law code t gs does conc words-counted =
-        single-law (live .made) code (eventOf 0 (making t)) (runs gs) (making t) (applied p outcomes k s n (makes t gs))
-        (ap (λ (w : List ℕ). concludeOp p w code (config .qubits) (config .channels) outcomes (s .used)) part-now
+    making-law what t gs does conc words-counted =
+        single-law (live .made) what (eventOf 0 (making t)) (runs gs) (making t) (applied p outcomes k s n (makes t gs))
+        (ap (λ (w : List ℕ). concludeOp p w what (config .qubits) (config .channels) outcomes (s .used)) part-now
         ∙ conc)
         (after-long (makes t gs) does n (runs gs)
         (counted-process t (setProcess config n (runs gs)) n ∙ process-same config n (runs gs) (live .made)))
         refl refl refl (omega arith) words-counted
 
-    pub made-law : (code : ℕ) (t : Thing) (gs : List Frame) → actOf p outcomes s n ≡ makes t gs
-        → concludeOp p words code (config .qubits) (config .channels) outcomes (s .used) ≡ afterEvent
+    pub made-law : (what : Single) (t : Thing) (gs : List Frame) → actOf p outcomes s n ≡ makes t gs
+        → concludeOp p words what (config .qubits) (config .channels) outcomes (s .used) ≡ afterEvent
         (eventOf 0 (making t)) (processWords (runs gs))
         → ((i : ℕ) (d : Bool) → t ≢ end i d)
-        → singleOp p outcomes trace work room count n code ≡ tried (applied p outcomes k s n (makes t gs))
+        → singleOp p outcomes trace work room count n what ≡ tried (applied p outcomes k s n (makes t gs))
     unfolding countedWords making counted setProcess
-    made-law code (qubit q) gs does conc never =
-        making-law code (qubit q) gs does conc
+    made-law what (qubit q) gs does conc never =
+        making-law what (qubit q) gs does conc
         (ap (set (encode (setProcess config n (runs gs)) ++ rest) 1)
         (ap (λ (i : ℕ). (i + 1) % 4294967296) (qubits-word (setProcess config n (runs gs)) rest)
         ∙ mod-eq-of-lt (omega (arith, sound .qubitCount))
         ∙ omega arith)
         ∙ qubit-counted (setProcess config n (runs gs)) q rest)
-    made-law code (channel q) gs does conc never =
-        making-law code (channel q) gs does conc
+    made-law what (channel q) gs does conc never =
+        making-law what (channel q) gs does conc
         (ap (set (encode (setProcess config n (runs gs)) ++ rest) 2)
         (ap (λ (i : ℕ). (i + 1) % 4294967296) (channels-word (setProcess config n (runs gs)) rest)
         ∙ mod-eq-of-lt (omega (arith, sound .channelCount))
         ∙ omega arith)
         ∙ channel-counted (setProcess config n (runs gs)) q rest)
-    made-law code (end i d) gs does conc never = absurd (never i d refl)
+    made-law what (end i d) gs does conc never = absurd (never i d refl)

@@ -10,6 +10,7 @@ use Rattle.trace_lines.specs.declared.TraceLine.{TraceLine}
 use Rattle.trace_lines.specs.WrittenCode.{withLine}
 use Rattle.run_events.specs.declared.event.EventResult.{EventResult}
 use Rattle.run_events.specs.EventsCode.{AfterEvent, afterEvent}
+use Rattle.run_events.specs.declared.conclude.Single.{Single}
 use Rattle.run_events.specs.ConcludeCode.{concludeOp}
 use Rattle.run_single.specs.declared.result.Count.{Count}
 use Rattle.run_single.specs.ResultCode.{AfterEntry, afterEntry, takenTo, fullAt}
@@ -18,9 +19,9 @@ use Rattle.run_single.specs.ResultCode.{AfterEntry, afterEntry, takenTo,
 unfoldable pub inPart : List ℕ → ℕ → AfterEvent → AfterEvent
 inPart work n l = afterEvent (l .event) (withPart work n (l .words))
 
-unfoldable pub concludedAt : List ℕ → List ℕ → ℕ → ℕ → List ℕ → ℕ → AfterEvent
-concludedAt p work n code outcomes used =
-    inPart work n (concludeOp p (partOf work n) code (getD work 1 0) (getD work 2 0) outcomes used)
+unfoldable pub concludedAt : List ℕ → List ℕ → ℕ → Single → List ℕ → ℕ → AfterEvent
+concludedAt p work n does outcomes used =
+    inPart work n (concludeOp p (partOf work n) does (getD work 1 0) (getD work 2 0) outcomes used)
 
 unfoldable pub countedWords : List ℕ → ℕ → List ℕ
 countedWords work kind =
@@ -37,7 +38,7 @@ recorded trace g n l =
     (withLine trace (g .lines) (eventLine (g .entry) n (l .event)))
     (countedWords (l .words) (l .event .kind))
 
-unfoldable pub singleOp : List ℕ → List ℕ → List ℕ → List ℕ → ℕ → Count → ℕ → ℕ → AfterEntry
-singleOp p outcomes trace work room g n code =
+unfoldable pub singleOp : List ℕ → List ℕ → List ℕ → List ℕ → ℕ → Count → ℕ → Single → AfterEntry
+singleOp p outcomes trace work room g n does =
     cond (leb room (g .lines)) (afterEntry (fullAt g) trace work)
-    (recorded trace g n (concludedAt p work n code outcomes (g .used)))
+    (recorded trace g n (concludedAt p work n does outcomes (g .used)))

@@ -10,6 +10,7 @@ use super::result::Count;
 use super::result::EntryResult;
 use super::result::full;
 use super::result::taken;
+use run_events::conclude::Single;
 use run_events::conclude::conclude;
 use run_events::event::EventResult;
 use run_parts::part::part_at;
@@ -20,18 +21,18 @@ use run_store::values::put;
 use trace_lines::TraceLine;
 use trace_lines::write_line;
 
-// The entry of this code carried out in the process's part.
+// The entry carried out in the process's part.
 fn conclude_at(
     p: &[u16],
     start: usize,
     work: &mut [u32],
     n: ProcessNo,
-    code: u16,
+    does: Single,
     outcomes: &[u8],
     used: u32,
 ) -> EventResult
     requires { ⌜ (start ≡ 2 + 20 * methods (now p)) × (8192 ≤ length (now work)) × (n .0 < 8) ⌝ }
-    ensures { λ r. ⌜ afterEvent r (now (work .exit)) ≡ concludedAt (now (p .entry)) (now (work .entry)) (n .0) code (now (outcomes .entry)) used ⌝ }
+    ensures { λ r. ⌜ afterEvent r (now (work .exit)) ≡ concludedAt (now (p .entry)) (now (work .entry)) (n .0) does (now (outcomes .entry)) used ⌝ }
 {
     let qubits = get(work, 1);
     let channels = get(work, 2);
@@ -41,7 +42,7 @@ fn conclude_at(
         p,
         start,
         &mut work[from..to],
-        code,
+        does,
         qubits,
         channels,
         outcomes,
@@ -77,7 +78,7 @@ fn event_line(entry: u16, n: ProcessNo, t: EventResult) -> TraceLine
     }
 }
 
-// The entry of this code: a fault's number, 113 for the root frame's return, or 100 and the op.
+// An entry with one line.
 pub fn single(
     p: &[u16],
     start: usize,
@@ -87,15 +88,15 @@ pub fn single(
     room: usize,
     g: Count,
     n: ProcessNo,
-    code: u16,
+    does: Single,
 ) -> EntryResult
     requires { ⌜ (start ≡ 2 + 20 * methods (now p)) × (8192 ≤ length (now work)) × (n .0 < 8) × (g .lines < 16000000) ⌝ }
-    ensures { λ r. ⌜ afterEntry r (now (trace .exit)) (now (work .exit)) ≡ singleOp (now (p .entry)) (now (outcomes .entry)) (now (trace .entry)) (now (work .entry)) room g (n .0) code ⌝ }
+    ensures { λ r. ⌜ afterEntry r (now (trace .exit)) (now (work .exit)) ≡ singleOp (now (p .entry)) (now (outcomes .entry)) (now (trace .entry)) (now (work .entry)) room g (n .0) does ⌝ }
 {
     if room <= g.lines as usize {
         return full(g);
     }
-    let t = conclude_at(p, start, work, n, code, outcomes, g.used);
+    let t = conclude_at(p, start, work, n, does, outcomes, g.used);
     count_made(work, t.kind);
     write_line(trace, g.lines, event_line(g.entry, n, t));
     taken(g.lines + 1, low(g.used as usize + t.used as usize))

@@ -12,6 +12,7 @@ use Rattle.run_store.specs.declared.head.Head.{Head}
 use Rattle.run_store.specs.StoreCode.{valueAt, slotAt, topAt}
 use Rattle.table.specs.Table.{offsetOf}
 use Rattle.run_values.specs.ValuesCode.{AfterStep, afterStep, unlessEmpty, pushOn, dropTop, dropTo, targetOf, emptyTwo, twoOp, getOp, jfalseOp}
+use Rattle.run_values.specs.declared.steps.StepResult.the-variants.{WentOn}
 use Rattle.run_values.proofs.Returns.{full-goes, two-go}
 use Rattle.run_stretch.specs.declared.cursor.Cursor.{Cursor}
 use Rattle.run_stretch.specs.declared.cursor.Top.{Top}
@@ -31,9 +32,9 @@ module _ {h : Head} {w : List ℕ} {c : Cursor} (s : Steady h w c) where
 
   -- GET of a slot that is not emptied
   pub gets : (a : ℕ) {at : ℕ} → at ≡ 16 + 48 * h .frames + 2 * a → (getD w at 0 ≡ 0 → ⊥)
-      → getOp (laid w h c) (headWith h c) a ≡ afterStep 0 (pushOn (laid w h c) (headWith h c) (record { tag = getD w at 0; number = getD w (at + 1) 0 }))
+      → getOp (laid w h c) (headWith h c) a ≡ afterStep WentOn (pushOn (laid w h c) (headWith h c) (record { tag = getD w at 0; number = getD w (at + 1) 0 }))
   unfolding getOp valueAt slotAt headWith
-  gets a {at} e ne = sym (full-goes {u = valueAt w at} _ _ _ there ne (ap (λ (v : Val). afterStep 0 (pushOn (laid w h c) (headWith h c) v)) there))
+  gets a {at} e ne = sym (full-goes {u = valueAt w at} _ _ _ there ne (ap (λ (v : Val). afterStep WentOn (pushOn (laid w h c) (headWith h c) v)) there))
     where
       there : valueAt w at ≡ valueAt (laid w h c) (slotAt (headWith h c) a)
       there = ap (valueAt w) {x = at} {y = slotAt (headWith h c) a} e ∙ sym (far-slot a)
@@ -52,18 +53,18 @@ module _ {h : Head} {w : List ℕ} {c : Cursor} (s : Steady h w c) where
 
     -- JFALSE on false, and on true
     pub false-jumps : (p : List ℕ) (a : ℕ) {offset : ℕ} → offset ≡ offsetOf p (h .method) → t .number ≡ 0
-        → jfalseOp p (laid w h c) (headWith h c) a ≡ afterStep 0 (dropTo (laid w h c) (headWith h c) (offset + a))
+        → jfalseOp p (laid w h c) (headWith h c) a ≡ afterStep WentOn (dropTo (laid w h c) (headWith h c) (offset + a))
     unfolding jfalseOp targetOf headWith
     false-jumps p a o z =
-        top-goes (λ v. cond (eqb (v .number) 0) (afterStep 0 (dropTo (laid w h c) (headWith h c) (targetOf p (headWith h c) a))) (afterStep 0 (dropTop (laid w h c) (headWith h c))))
-        ∙ rw (eq-eqb (t .number) 0 z) (ap (λ (i : ℕ). afterStep 0 (dropTo (laid w h c) (headWith h c) (i + a))) (sym o))
+        top-goes (λ v. cond (eqb (v .number) 0) (afterStep WentOn (dropTo (laid w h c) (headWith h c) (targetOf p (headWith h c) a))) (afterStep WentOn (dropTop (laid w h c) (headWith h c))))
+        ∙ rw (eq-eqb (t .number) 0 z) (ap (λ (i : ℕ). afterStep WentOn (dropTo (laid w h c) (headWith h c) (i + a))) (sym o))
 
     pub true-goes-on : (p : List ℕ) (a : ℕ) → c .place < 65536 → (t .number ≡ 0 → ⊥)
-        → jfalseOp p (laid w h c) (headWith h c) a ≡ afterStep 0 (dropTo (laid w h c) (headWith h c) (c .place + 1))
+        → jfalseOp p (laid w h c) (headWith h c) a ≡ afterStep WentOn (dropTo (laid w h c) (headWith h c) (c .place + 1))
     unfolding jfalseOp
     true-goes-on p a l z =
-        top-goes (λ v. cond (eqb (v .number) 0) (afterStep 0 (dropTo (laid w h c) (headWith h c) (targetOf p (headWith h c) a))) (afterStep 0 (dropTop (laid w h c) (headWith h c))))
-        ∙ rw (ne-eqb (t .number) 0 z) (ap (afterStep 0) (drops-on s l (read there .0)))
+        top-goes (λ v. cond (eqb (v .number) 0) (afterStep WentOn (dropTo (laid w h c) (headWith h c) (targetOf p (headWith h c) a))) (afterStep WentOn (dropTop (laid w h c) (headWith h c))))
+        ∙ rw (ne-eqb (t .number) 0 z) (ap (afterStep WentOn) (drops-on s l (read there .0)))
 
   -- an op on the two topmost
   module _ (t : Two) (there : t .there ≡ true) (read : TwoRead w h c t) where

@@ -12,6 +12,7 @@ use Rattle.run_store.specs.declared.values.Val.{Val}
 use Rattle.run_store.specs.declared.head.Head.{Head}
 use Rattle.run_store.specs.StoreCode.{valueAt, headAt, putTop, topAt}
 use Rattle.run_values.specs.ValuesCode.{AfterStep, afterStep}
+use Rattle.run_values.specs.declared.steps.StepResult.the-variants.{WentOn}
 use Rattle.run_ops.specs.OpsCode.{stepOp}
 use Rattle.run_stretch.specs.declared.cursor.Cursor.{Cursor}
 use Rattle.run_stretch.specs.declared.cursor.Top.{Top}
@@ -50,7 +51,7 @@ pub record Steady (h : Head) (w : List ℕ) (c : Cursor) : Type 0 where
 
 -- what d says of the words with the cursor put back was done, and the cursor has come to a place of I; or nothing was done
 pub record Goes (d : AfterStep) (I : ℕ → Type 0) (h : Head) (w : List ℕ) (c : Cursor) (w′ : List ℕ) (r : Cursor) : Type 0 where
-  pub going : r .halted ≡ false → d ≡ afterStep 0 (laid w′ h r)
+  pub going : r .halted ≡ false → d ≡ afterStep WentOn (laid w′ h r)
   pub halting : r .halted ≡ true → laid w′ h r ≡ laid w h c
   pub onward : r .halted ≡ false → I (r .place)
   pub steady : Steady h w′ r
@@ -82,4 +83,4 @@ TwoRead w h c t =
 pub data Ran (p schedule : List ℕ) (n from : ℕ) (w₀ : List ℕ) : ℕ → List ℕ → Type 0 where
   begins : Ran p schedule n from w₀ from w₀
   goes-on : {k : ℕ} {w w′ : List ℕ} → Ran p schedule n from w₀ k w → k < length schedule → getD schedule k 0 ≡ n → length w ≡ 512 → length w′ ≡ 512
-      → stepOp p w ≡ afterStep 0 w′ → Ran p schedule n from w₀ (k + 1) w′
+      → stepOp p w ≡ afterStep WentOn w′ → Ran p schedule n from w₀ (k + 1) w′

@@ -3,6 +3,7 @@ ghost use mathlib.Core.Path.{_≡_};
 ghost use Prim.Native.Nat.{_+_, _<_, _≤_};
 ghost use Rattle.run_values.specs.ValuesCode.{afterStep, pushOn, onTop, dropTo, overTwo, inSlot, getOp, putOp, dropOp, endOp};
 ghost use Rattle.run_stretch.specs.StretchCode.{headWith, laid, Steady, Goes, Only};
+ghost use Rattle.run_values.specs.declared.steps.StepResult.the-variants.{WentOn};
 use super::cursor::Cursor;
 use super::cursor::free;
 use super::cursor::read_top;
@@ -13,7 +14,7 @@ use run_store::head::Head;
 // A value pushed, where there is room.
 pub fn push(w: &mut [u32], h: Head, c: Cursor, tag: u32, number: u32) -> Cursor
     requires { ⌜ Steady h (now w) c × (c .place < 65536) ⌝ }
-    ensures { λ r. ⌜ Goes (afterStep 0 (pushOn (laid (now (w .entry)) h c) (headWith h c) (record { tag = tag; number = number }))) (Only (c .place + 1)) h (now (w .entry)) c (now (w .exit)) r ⌝ }
+    ensures { λ r. ⌜ Goes (afterStep WentOn (pushOn (laid (now (w .entry)) h c) (headWith h c) (record { tag = tag; number = number }))) (Only (c .place + 1)) h (now (w .entry)) c (now (w .exit)) r ⌝ }
 {
     if 8 <= c.pending {
         return c.halt();
@@ -29,7 +30,7 @@ pub fn push(w: &mut [u32], h: Head, c: Cursor, tag: u32, number: u32) -> Cursor
 // The top value replaced.
 pub fn replace(w: &mut [u32], h: Head, c: Cursor, tag: u32, number: u32) -> Cursor
     requires { ⌜ Steady h (now w) c × (c .place < 65536) × (1 ≤ c .pending) ⌝ }
-    ensures { λ r. ⌜ Goes (afterStep 0 (onTop (laid (now (w .entry)) h c) (headWith h c) (record { tag = tag; number = number }))) (Only (c .place + 1)) h (now (w .entry)) c (now (w .exit)) r ⌝ }
+    ensures { λ r. ⌜ Goes (afterStep WentOn (onTop (laid (now (w .entry)) h c) (headWith h c) (record { tag = tag; number = number }))) (Only (c .place + 1)) h (now (w .entry)) c (now (w .exit)) r ⌝ }
 {
     write(w, free(h, c) - 2, tag, number);
     Cursor {
@@ -42,7 +43,7 @@ pub fn replace(w: &mut [u32], h: Head, c: Cursor, tag: u32, number: u32) -> Curs
 // The top value off, and the frame at instruction `to`.
 pub fn discard_to(w: &mut [u32], h: Head, c: Cursor, to: u32) -> Cursor
     requires { ⌜ Steady h (now w) c × (1 ≤ c .pending) ⌝ }
-    ensures { λ r. ⌜ Goes (afterStep 0 (dropTo (laid (now (w .entry)) h c) (headWith h c) to)) (Only to) h (now (w .entry)) c (now (w .exit)) r ⌝ }
+    ensures { λ r. ⌜ Goes (afterStep WentOn (dropTo (laid (now (w .entry)) h c) (headWith h c) to)) (Only to) h (now (w .entry)) c (now (w .exit)) r ⌝ }
 {
     write(w, free(h, c) - 2, 0, 0);
     Cursor {
@@ -55,7 +56,7 @@ pub fn discard_to(w: &mut [u32], h: Head, c: Cursor, to: u32) -> Cursor
 // Two values off, one on.
 pub fn replace_two(w: &mut [u32], h: Head, c: Cursor, tag: u32, number: u32) -> Cursor
     requires { ⌜ Steady h (now w) c × (c .place < 65536) × (2 ≤ c .pending) ⌝ }
-    ensures { λ r. ⌜ Goes (afterStep 0 (overTwo (laid (now (w .entry)) h c) (headWith h c) (record { tag = tag; number = number }))) (Only (c .place + 1)) h (now (w .entry)) c (now (w .exit)) r ⌝ }
+    ensures { λ r. ⌜ Goes (afterStep WentOn (overTwo (laid (now (w .entry)) h c) (headWith h c) (record { tag = tag; number = number }))) (Only (c .place + 1)) h (now (w .entry)) c (now (w .exit)) r ⌝ }
 {
     let at = free(h, c);
     write(w, at - 2, 0, 0);
@@ -70,7 +71,7 @@ pub fn replace_two(w: &mut [u32], h: Head, c: Cursor, tag: u32, number: u32) -> 
 // A slot written.
 pub fn store_slot(w: &mut [u32], h: Head, c: Cursor, a: u16, tag: u32, number: u32) -> Cursor
     requires { ⌜ Steady h (now w) c × (c .place < 65536) × (a < 16) ⌝ }
-    ensures { λ r. ⌜ Goes (afterStep 0 (inSlot (laid (now (w .entry)) h c) (headWith h c) a (record { tag = tag; number = number }))) (Only (c .place + 1)) h (now (w .entry)) c (now (w .exit)) r ⌝ }
+    ensures { λ r. ⌜ Goes (afterStep WentOn (inSlot (laid (now (w .entry)) h c) (headWith h c) a (record { tag = tag; number = number }))) (Only (c .place + 1)) h (now (w .entry)) c (now (w .exit)) r ⌝ }
 {
     write(w, slot(h, a), tag, number);
     Cursor {

@@ -1,3 +1,4 @@
+pub mod Cases
 pub mod Returns
 pub mod Ints
 pub mod Places

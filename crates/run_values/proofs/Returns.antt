@@ -9,10 +9,11 @@ use Rattle.run_store.specs.declared.values.Val.{Val}
 use Rattle.run_store.specs.declared.head.Head.{Head}
 use Rattle.run_store.specs.StoreCode.{valueAt, topAt}
 use Rattle.run_values.specs.ValuesCode.{AfterStep, afterStep, intVal, unlessEmpty, overTwo, emptyTwo, twoOp, resultOp}
+use Rattle.run_values.specs.declared.steps.StepResult.the-variants.{WentOn, Empty, OutOfRange}
 
 -- a value that was read was empty
 pub empty-stops : {u : Val} (v : Val) (w : List ℕ) (d : AfterStep) → u ≡ v → u .tag ≡ 0
-    → afterStep 20 w ≡ unlessEmpty v w d
+    → afterStep Empty w ≡ unlessEmpty v w d
 unfolding unlessEmpty
 empty-stops {u} v w d e t = rw (eq-eqb (v .tag) 0 (ap (λ (x : Val). x .tag) (sym e) ∙ t))
 
@@ -24,7 +25,7 @@ full-goes {u} v w d e t p = rw (ne-eqb (v .tag) 0 (λ z. t (ap (λ (x : Val). x 
 
 -- the same for two operands
 pub two-stop : {b : Bool} (w : List ℕ) (h : Head) (k : ℕ → ℕ → AfterStep) → b ≡ emptyTwo w h → b ≡ true
-    → afterStep 20 w ≡ twoOp w h k
+    → afterStep Empty w ≡ twoOp w h k
 unfolding twoOp
 two-stop w h k e t = rw (sym e ∙ t)
 
@@ -35,16 +36,16 @@ unfolding twoOp
 two-go w h k e t p q r = rw (sym e ∙ t) (r ∙ ap₂ k p q)
 
 -- an int in range, or not
-pub result-low : (w : List ℕ) (h : Head) (s : ℕ) → s < 2147483648 → afterStep 26 w ≡ resultOp w h s
+pub result-low : (w : List ℕ) (h : Head) (s : ℕ) → s < 2147483648 → afterStep OutOfRange w ≡ resultOp w h s
 unfolding resultOp
 result-low w h s t = rw (lt-ltb s 2147483648 t)
 
-pub result-high : (w : List ℕ) (h : Head) (s : ℕ) → 2147483648 ≤ s → 6442450944 ≤ s → afterStep 26 w ≡ resultOp w h s
+pub result-high : (w : List ℕ) (h : Head) (s : ℕ) → 2147483648 ≤ s → 6442450944 ≤ s → afterStep OutOfRange w ≡ resultOp w h s
 unfolding resultOp
 result-high w h s t u = rw (le-ltb s 2147483648 t, le-leb 6442450944 s u)
 
 pub result-in : (w : List ℕ) (h : Head) (s : ℕ) → 2147483648 ≤ s → s < 6442450944
-    → afterStep 0 (overTwo w h (intVal (s % 4294967296))) ≡ resultOp w h s
+    → afterStep WentOn (overTwo w h (intVal (s % 4294967296))) ≡ resultOp w h s
 unfolding resultOp
 result-in w h s t u = rw (le-ltb s 2147483648 t, lt-leb 6442450944 s u)
 

@@ -1,9 +1,8 @@
 // JUMP and JFALSE.
 ghost use mathlib.Core.Path.{_≡_};
 ghost use Rattle.run_values.specs.ValuesCode.{afterStep, targetOf, dropTo, jumpOp, jfalseOp};
-use super::codes::EMPTY;
-use super::codes::WENT_ON;
 use super::moves::discard;
+use super::steps::StepResult;
 use run_store::head::Head;
 use run_store::head::put_top;
 use run_store::values::empty;
@@ -19,11 +18,11 @@ pub fn target(p: &[u16], h: Head, a: u16) -> u32
     (start + a as usize) as u32
 }
 
-pub fn op_jump(p: &[u16], w: &mut [u32], h: Head, a: u16) -> u32
+pub fn op_jump(p: &[u16], w: &mut [u32], h: Head, a: u16) -> StepResult
     ensures { λ r. ⌜ afterStep r (now (w .exit)) ≡ jumpOp (now (p .entry)) (now (w .entry)) h a ⌝ }
 {
     put_top(w, h.to(target(p, h, a)));
-    WENT_ON
+    StepResult::WentOn
 }
 
 // The top value off, and the frame at instruction `to`.
@@ -35,17 +34,17 @@ pub fn discard_to(w: &mut [u32], h: Head, to: u32)
 }
 
 // "JFALSE takes a boolean, jumps on false".
-pub fn op_jfalse(p: &[u16], w: &mut [u32], h: Head, a: u16) -> u32
+pub fn op_jfalse(p: &[u16], w: &mut [u32], h: Head, a: u16) -> StepResult
     ensures { λ r. ⌜ afterStep r (now (w .exit)) ≡ jfalseOp (now (p .entry)) (now (w .entry)) h a ⌝ }
 {
     let v = value(w, h.top(1));
     if v.tag == 0 {
-        return EMPTY;
+        return StepResult::Empty;
     }
     if v.number == 0 {
         discard_to(w, h, target(p, h, a));
-        return WENT_ON;
+        return StepResult::WentOn;
     }
     discard(w, h);
-    WENT_ON
+    StepResult::WentOn
 }

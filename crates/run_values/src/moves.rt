@@ -1,8 +1,7 @@
 // Values pushed, taken and stored. A function that can fault answers the fault and changes nothing.
 ghost use mathlib.Core.Path.{_≡_};
 ghost use Rattle.run_values.specs.ValuesCode.{afterStep, pushOn, onTop, dropTop, overTwo, inSlot, signExtended, intOp, boolOp, clearOp, getOp, putOp, dropOp, endOp};
-use super::codes::EMPTY;
-use super::codes::WENT_ON;
+use super::steps::StepResult;
 use run_store::head::Head;
 use run_store::head::put_top;
 use run_store::values::Val;
@@ -62,7 +61,7 @@ pub fn extend(a: u16) -> u32
 }
 
 // INT and BOOL: "push it".
-pub fn op_int(p: &[u16], w: &mut [u32], h: Head, a: u16) -> u32
+pub fn op_int(p: &[u16], w: &mut [u32], h: Head, a: u16) -> StepResult
     ensures { λ r. ⌜ afterStep r (now (w .exit)) ≡ intOp (now (p .entry)) (now (w .entry)) h a ⌝ }
 {
     push(
@@ -73,10 +72,10 @@ pub fn op_int(p: &[u16], w: &mut [u32], h: Head, a: u16) -> u32
             number: extend(a),
         },
     );
-    WENT_ON
+    StepResult::WentOn
 }
 
-pub fn op_bool(p: &[u16], w: &mut [u32], h: Head, a: u16) -> u32
+pub fn op_bool(p: &[u16], w: &mut [u32], h: Head, a: u16) -> StepResult
     ensures { λ r. ⌜ afterStep r (now (w .exit)) ≡ boolOp (now (p .entry)) (now (w .entry)) h a ⌝ }
 {
     push(
@@ -87,60 +86,60 @@ pub fn op_bool(p: &[u16], w: &mut [u32], h: Head, a: u16) -> u32
             number: a as u32,
         },
     );
-    WENT_ON
+    StepResult::WentOn
 }
 
 // CLEAR: "empty it".
-pub fn op_clear(p: &[u16], w: &mut [u32], h: Head, a: u16) -> u32
+pub fn op_clear(p: &[u16], w: &mut [u32], h: Head, a: u16) -> StepResult
     ensures { λ r. ⌜ afterStep r (now (w .exit)) ≡ clearOp (now (p .entry)) (now (w .entry)) h a ⌝ }
 {
     store_slot(w, h, a, empty());
-    WENT_ON
+    StepResult::WentOn
 }
 
 // GET: "push its value".
-pub fn op_get(w: &mut [u32], h: Head, a: u16) -> u32
+pub fn op_get(w: &mut [u32], h: Head, a: u16) -> StepResult
     ensures { λ r. ⌜ afterStep r (now (w .exit)) ≡ getOp (now (w .entry)) h a ⌝ }
 {
     let v = value(w, h.slot(a));
     if v.tag == 0 {
-        return EMPTY;
+        return StepResult::Empty;
     }
     push(w, h, v);
-    WENT_ON
+    StepResult::WentOn
 }
 
 // PUT: "store the top, leave it on top".
-pub fn op_put(w: &mut [u32], h: Head, a: u16) -> u32
+pub fn op_put(w: &mut [u32], h: Head, a: u16) -> StepResult
     ensures { λ r. ⌜ afterStep r (now (w .exit)) ≡ putOp (now (w .entry)) h a ⌝ }
 {
     let v = value(w, h.top(1));
     if v.tag == 0 {
-        return EMPTY;
+        return StepResult::Empty;
     }
     store_slot(w, h, a, v);
-    WENT_ON
+    StepResult::WentOn
 }
 
 // DROP: "take the top away".
-pub fn op_drop(w: &mut [u32], h: Head) -> u32
+pub fn op_drop(w: &mut [u32], h: Head) -> StepResult
     ensures { λ r. ⌜ afterStep r (now (w .exit)) ≡ dropOp (now (w .entry)) h ⌝ }
 {
     let v = value(w, h.top(1));
     if v.tag == 0 {
-        return EMPTY;
+        return StepResult::Empty;
     }
     discard(w, h);
-    WENT_ON
+    StepResult::WentOn
 }
 
 // END: "channel off, that end on". An end has the tag 5 or 6, by its side, and the channel's number.
-pub fn op_end(w: &mut [u32], h: Head, a: u16) -> u32
+pub fn op_end(w: &mut [u32], h: Head, a: u16) -> StepResult
     ensures { λ r. ⌜ afterStep r (now (w .exit)) ≡ endOp (now (w .entry)) h a ⌝ }
 {
     let v = value(w, h.top(1));
     if v.tag == 0 {
-        return EMPTY;
+        return StepResult::Empty;
     }
     replace(
         w,
@@ -150,5 +149,5 @@ pub fn op_end(w: &mut [u32], h: Head, a: u16) -> u32
             number: v.number,
         },
     );
-    WENT_ON
+    StepResult::WentOn
 }

@@ -4,11 +4,9 @@ ghost use mathlib.Core.Path.{_≡_};
 ghost use Prim.Native.Nat.{_+_, _-_, _<_};
 ghost use Rattle.run_store.specs.StoreCode.{valueAt, topAt};
 ghost use Rattle.run_values.specs.ValuesCode.{afterStep, boolVal, bit, biased, emptyTwo, resultOp, addOp, subOp, eqOp, lessOp, notOp};
-use super::codes::EMPTY;
-use super::codes::OUT_OF_RANGE;
-use super::codes::WENT_ON;
 use super::moves::replace;
 use super::moves::replace_two;
+use super::steps::StepResult;
 use run_store::head::Head;
 use run_store::values::Val;
 use run_store::values::value;
@@ -47,14 +45,14 @@ pub fn flag(b: bool) -> Val
 }
 
 // The int whose number, moved up by 2^32, is s, in place of two operands, where it is in range.
-pub fn result(w: &mut [u32], h: Head, s: u64) -> u32
+pub fn result(w: &mut [u32], h: Head, s: u64) -> StepResult
     ensures { λ r. ⌜ afterStep r (now (w .exit)) ≡ resultOp (now (w .entry)) h s ⌝ }
 {
     if s < 2147483648 {
-        return OUT_OF_RANGE;
+        return StepResult::OutOfRange;
     }
     if 6442450944 <= s {
-        return OUT_OF_RANGE;
+        return StepResult::OutOfRange;
     }
     replace_two(
         w,
@@ -64,62 +62,62 @@ pub fn result(w: &mut [u32], h: Head, s: u64) -> u32
             number: (s % 4294967296) as u32,
         },
     );
-    WENT_ON
+    StepResult::WentOn
 }
 
-pub fn op_add(w: &mut [u32], h: Head) -> u32
+pub fn op_add(w: &mut [u32], h: Head) -> StepResult
     ensures { λ r. ⌜ afterStep r (now (w .exit)) ≡ addOp (now (w .entry)) h ⌝ }
 {
     if two_empty(w, h) {
-        return EMPTY;
+        return StepResult::Empty;
     }
     let x = number(w, h, 2);
     let y = number(w, h, 1);
     result(w, h, bias(x) + bias(y))
 }
 
-pub fn op_sub(w: &mut [u32], h: Head) -> u32
+pub fn op_sub(w: &mut [u32], h: Head) -> StepResult
     ensures { λ r. ⌜ afterStep r (now (w .exit)) ≡ subOp (now (w .entry)) h ⌝ }
 {
     if two_empty(w, h) {
-        return EMPTY;
+        return StepResult::Empty;
     }
     let x = number(w, h, 2);
     let y = number(w, h, 1);
     result(w, h, bias(x) + 4294967296 - bias(y))
 }
 
-pub fn op_eq(w: &mut [u32], h: Head) -> u32
+pub fn op_eq(w: &mut [u32], h: Head) -> StepResult
     ensures { λ r. ⌜ afterStep r (now (w .exit)) ≡ eqOp (now (w .entry)) h ⌝ }
 {
     if two_empty(w, h) {
-        return EMPTY;
+        return StepResult::Empty;
     }
     let x = number(w, h, 2);
     let y = number(w, h, 1);
     replace_two(w, h, flag(x == y));
-    WENT_ON
+    StepResult::WentOn
 }
 
-pub fn op_less(w: &mut [u32], h: Head) -> u32
+pub fn op_less(w: &mut [u32], h: Head) -> StepResult
     ensures { λ r. ⌜ afterStep r (now (w .exit)) ≡ lessOp (now (w .entry)) h ⌝ }
 {
     if two_empty(w, h) {
-        return EMPTY;
+        return StepResult::Empty;
     }
     let x = number(w, h, 2);
     let y = number(w, h, 1);
     replace_two(w, h, flag(bias(x) < bias(y)));
-    WENT_ON
+    StepResult::WentOn
 }
 
-pub fn op_not(w: &mut [u32], h: Head) -> u32
+pub fn op_not(w: &mut [u32], h: Head) -> StepResult
     ensures { λ r. ⌜ afterStep r (now (w .exit)) ≡ notOp (now (w .entry)) h ⌝ }
 {
     let v = value(w, h.top(1));
     if v.tag == 0 {
-        return EMPTY;
+        return StepResult::Empty;
     }
     replace(w, h, flag(v.number == 0));
-    WENT_ON
+    StepResult::WentOn
 }

@@ -24,7 +24,7 @@ fn block(document: &str, line: &str) -> String {
     block.join("\n").trim().to_string() + "\n"
 }
 
-/// The calls that a document shows behind `$ ` and a name of the command, each
+/// The calls that a document shows after `$ ` and a name of the command, each
 /// with the lines that it shows for it.
 fn calls<'d>(document: &'d str, command: &str) -> Vec<(&'d str, Vec<&'d str>)> {
     let mark = format!("    $ {command} ");
@@ -41,7 +41,7 @@ fn calls<'d>(document: &'d str, command: &str) -> Vec<(&'d str, Vec<&'d str>)> {
     calls
 }
 
-/// What a call prints, its notes behind it; behind `>` is a file for what it
+/// What a call prints, its notes after it; after `>` is a file for what it
 /// prints.
 fn called(folder: &Path, call: &str) -> String {
     let (call, file) = call.split_once(" > ").map_or((call, None), |(call, file)| (call, Some(file)));

@@ -222,7 +222,7 @@ fn the_other_sentences() {
     assert_eq!(line([0, 1, 11, 0, 0, 0]), "process 1 writes a line of kind 11");
 }
 
-/// The lines behind the line of the end.
+/// The lines after the line of the end.
 fn outro(explained: &str) -> Vec<&str> {
     let lines = explained.lines().skip_while(|line| !line.starts_with("end "));
     lines.skip(2).collect()

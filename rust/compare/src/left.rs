@@ -32,8 +32,8 @@ impl Buffers {
         (inner(&mut self.trace), inner(&mut self.work))
     }
 
-    /// The words behind the lent trace.
-    pub fn behind_trace(&mut self) -> &mut [u16] {
+    /// The words after the lent trace.
+    pub fn after_trace(&mut self) -> &mut [u16] {
         let end = self.trace.len() - AROUND;
         &mut self.trace[end..]
     }

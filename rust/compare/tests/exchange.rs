@@ -167,8 +167,8 @@ fn is_the_same_but_for_two_entries(before: &Ran, after: &Ran, first: usize) {
     assert_eq!(after.answer, before.answer);
     assert!(after.work == before.work, "the work stores differ");
     assert_eq!(after.lines(), lines_exchanged(before.lines(), first));
-    let behind = LINE_WORDS * before.answer.lines;
-    assert_eq!(after.trace[behind..], before.trace[behind..]);
+    let written = LINE_WORDS * before.answer.lines;
+    assert_eq!(after.trace[written..], before.trace[written..]);
 }
 
 /// Exchanges random neighbours of a case, each in the schedule that the exchange

@@ -102,7 +102,7 @@ impl fmt::Display for Thing {
 }
 
 /// A frame. Its place counts instructions over the table; a caller's stands
-/// behind its CALL. Pending values are the lowest first.
+/// after its CALL. Pending values are the lowest first.
 #[derive(Clone, Debug, PartialEq, Eq)]
 pub struct Frame {
     pub method: usize,

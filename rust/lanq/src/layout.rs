@@ -22,7 +22,7 @@ const END_HOLDERS: usize = QUBIT_HOLDERS + QUBITS;
 const NOT_MADE: u16 = 255;
 
 /// The configuration in a work store that a run has left; nothing where the
-/// first [`WORK_WORDS`] words are none, with every unused word 0. Words behind
+/// first [`WORK_WORDS`] words are none, with every unused word 0. Words beyond
 /// them do not count.
 ///
 /// ```

@@ -20,7 +20,7 @@ use crate::report::VERSION;
 #[derive(Debug)]
 pub struct Command {
     pub name: &'static str,
-    /// What stands behind the name.
+    /// What stands after the name.
     pub usage: &'static str,
     /// What it does, in one line.
     pub about: &'static str,

@@ -119,7 +119,7 @@ fn spans(entries: &[usize]) -> String {
     }
 }
 
-/// Steps as rows of instructions that stand one behind the other.
+/// Steps as rows of instructions that stand one after the other.
 fn rows(steps: &[Site]) -> String {
     let rows: Vec<&[Site]> =
         steps.chunk_by(|one, next| one.place + 1 == next.place && one.method == next.method).collect();

@@ -25,7 +25,7 @@ pub fn processes(told: Told, emptied: Option<&Emptied>) -> String {
             text += &format!("    {}\n", gone(configuration, &holders, number, offer));
         }
         for (f, frame) in process.frames.iter().enumerate() {
-            // A caller's place stands behind its CALL.
+            // A caller's place is after its CALL.
             let verb = if f + 1 == process.frames.len() { "stands at" } else { "goes on at" };
             let site = told.code.site(frame.place).map(|site| site.to_string()).unwrap_or_default();
             text += &format!("    frame {f} {verb} {site}\n");

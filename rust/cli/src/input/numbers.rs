@@ -70,7 +70,7 @@ fn each(text: &str, what: &str, read: impl Fn(&str) -> Option<Vec<u8>>, into: &m
     Ok(())
 }
 
-/// Behind `(`.
+/// After `(`.
 fn group(
     line: &mut Cursor,
     what: &str,

@@ -14,7 +14,7 @@ pub const WRONG: [Wrong; 14] = [
     ("unused words of the store are kept", Rules { leave: unused_kept, ..RIGHT }),
     ("words beyond the configuration are cleared", Rules { leave: beyond_cleared, ..RIGHT }),
     ("the trace's tail is cleared", Rules { leave: tail_cleared, ..RIGHT }),
-    ("a word behind the trace is written", Rules { leave: one_behind, ..RIGHT }),
+    ("a word after the trace is written", Rules { leave: one_after, ..RIGHT }),
     ("an unused column is 0", Rules { leave: columns_0, ..RIGHT }),
     ("entries are counted from 1 in the trace", Rules { leave: from_1, ..RIGHT }),
     ("places are counted from the method's start", Rules { leave: place_in_method, ..RIGHT }),
@@ -78,8 +78,8 @@ fn tail_cleared(case: &Case, ran: &Ran, buffers: Buffers) -> Left {
     after_run(case, ran, buffers, |_, run, left, _| left.lent().0[6 * run.lines.len()..].fill(0))
 }
 
-fn one_behind(case: &Case, ran: &Ran, buffers: Buffers) -> Left {
-    after_run(case, ran, buffers, |_, _, left, _| left.behind_trace()[0] ^= 1)
+fn one_after(case: &Case, ran: &Ran, buffers: Buffers) -> Left {
+    after_run(case, ran, buffers, |_, _, left, _| left.after_trace()[0] ^= 1)
 }
 
 fn columns_0(case: &Case, ran: &Ran, buffers: Buffers) -> Left {

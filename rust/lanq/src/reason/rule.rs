@@ -1,4 +1,4 @@
-//! The rules behind the questions, and their words.
+//! The rules of the questions, and their words.
 
 use std::fmt;
 

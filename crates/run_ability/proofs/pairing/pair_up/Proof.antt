@@ -7,16 +7,20 @@ use Rattle.run_ability.proofs.pairing.pair_up.Tie as tie
 offer-of-requires : tie.Need-offer-of-requires
 offer-of-requires c κs = search needs
 
+is-offering-requires : tie.Need-is-offering-requires
+is-offering-requires c κs = search needs
+
 no-meeting-requires : tie.Need-no-meeting-requires
 no-meeting-requires c κs = search needs
 
 returns : tie.Need-returns
 returns c =
     let at-if1 = c .before in
-    let at-offer-of = at-if1 .before .before in
+    let at-is-offering = at-if1 .before in
+    let at-offer-of = at-is-offering .before in
     let args = at-offer-of .before .before .before .args in
-    pairs-none (args .p .now) (args .work .now) (args .t .now) (args .n .0) (args .code)
-    (at-offer-of .offer-of .ensures) (at-if1 .if1 .taken) (c .no-meeting .ensures)
+    pairs-none (args .p .now) (args .work .now) (args .t .now) (args .n .0) (args .step)
+    (at-offer-of .offer-of .ensures) (at-is-offering .is-offering .ensures) (at-if1 .if1 .taken) (c .no-meeting .ensures)
 
 opposite-requires : tie.Need-opposite-requires
 opposite-requires c κs = search needs
@@ -32,10 +36,11 @@ returns-2 c =
     let at-holder-of = c .before in
     let at-opposite = at-holder-of .before in
     let at-if1 = at-opposite .before in
-    let at-offer-of = at-if1 .before .before in
+    let at-is-offering = at-if1 .before in
+    let at-offer-of = at-is-offering .before in
     let args = at-offer-of .before .before .before .args in
-    pairs-asked (args .p .now) (args .work .now) (args .t .now) (args .n .0) (args .code)
-    (at-offer-of .offer-of .ensures) (at-if1 .if1 .left) (at-opposite .opposite .ensures .0)
+    pairs-asked (args .p .now) (args .work .now) (args .t .now) (args .n .0) (args .step)
+    (at-offer-of .offer-of .ensures) (at-is-offering .is-offering .ensures) (at-if1 .if1 .left) (at-opposite .opposite .ensures .0)
     (at-opposite .opposite .ensures .1) (at-holder-of .holder-of .ensures) (c .pair-with .ensures)
 
 pub pair-up-spec : {M : Type 1} → statement M
@@ -43,6 +48,7 @@ pair-up-spec =
     tie.close
     (tie.spec
     offer-of-requires
+    is-offering-requires
     no-meeting-requires
     returns
     opposite-requires

@@ -27,16 +27,16 @@ readiness-of-requires : tie.Need-readiness-of-requires
 readiness-of-requires c κs =
     let at-is-no-other = c .before in
     let at-holder-of = at-is-no-other .before in
-    let at-pre = at-holder-of .before .before .before .before in (
-      at-pre .pre .0,
-      at-pre .pre .1,
-      other-low (at-pre .args .n .0) (at-holder-of .holder-of .result .0)
-          (at-is-no-other .is-no-other .ensures) (c .if1 .left),
-    )
+    let at-pre = at-holder-of .before .before .before .before in
+    (at-pre .pre .0, at-pre .pre .1, other-low (at-pre .args .n .0) (at-holder-of .holder-of .result .0) (at-is-no-other .is-no-other .ensures) (c .if1 .left))
+
+is-over-requires : tie.Need-is-over-requires
+is-over-requires c κs = search needs
 
 returns-2 : tie.Need-returns-2
 returns-2 c =
-    let at-readiness-of = c .before .before in
+    let at-is-over = c .before in
+    let at-readiness-of = at-is-over .before in
     let at-if1 = at-readiness-of .before in
     let at-is-no-other = at-if1 .before in
     let at-holder-of = at-is-no-other .before in
@@ -44,7 +44,7 @@ returns-2 c =
     let args = at-opposite .before .before .before .args in
     over-asked (args .p .now) (args .work .now) (args .t .now) (args .n .0) (args .a)
     (at-opposite .opposite .ensures .0) (at-opposite .opposite .ensures .1) (at-holder-of .holder-of .ensures)
-    (at-is-no-other .is-no-other .ensures) (at-if1 .if1 .left) (at-readiness-of .readiness-of .ensures) (c .if2 .taken)
+    (at-is-no-other .is-no-other .ensures) (at-if1 .if1 .left) (at-readiness-of .readiness-of .ensures) (at-is-over .is-over .ensures) (c .if2 .taken)
 
 meets-requires : tie.Need-meets-requires
 meets-requires c κs = search needs
@@ -52,7 +52,8 @@ meets-requires c κs = search needs
 returns-3 : tie.Need-returns-3
 returns-3 c =
     let at-if2 = c .before in
-    let at-readiness-of = at-if2 .before .before in
+    let at-is-over = at-if2 .before in
+    let at-readiness-of = at-is-over .before in
     let at-if1 = at-readiness-of .before in
     let at-is-no-other = at-if1 .before in
     let at-holder-of = at-is-no-other .before in
@@ -61,10 +62,18 @@ returns-3 c =
     other-asked (args .p .now) (args .work .now) (args .t .now) (args .n .0) (args .a)
     (at-opposite .opposite .ensures .0) (at-opposite .opposite .ensures .1) (at-holder-of .holder-of .ensures)
     (at-is-no-other .is-no-other .ensures) (at-if1 .if1 .left) (at-readiness-of .readiness-of .ensures)
-    (at-if2 .if2 .left) (c .meets .ensures)
+    (at-is-over .is-over .ensures) (at-if2 .if2 .left) (c .meets .ensures)
 
 pub is-moved-spec : {M : Type 1} → statement M
 is-moved-spec =
     tie.close
-    (tie.spec opposite-requires holder-of-requires is-no-other-requires returns readiness-of-requires returns-2
-    meets-requires returns-3)
+    (tie.spec
+    opposite-requires
+    holder-of-requires
+    is-no-other-requires
+    returns
+    readiness-of-requires
+    is-over-requires
+    returns-2
+    meets-requires
+    returns-3)

@@ -34,7 +34,7 @@ returns c =
     let at-part-at = c .before .before in
     let args = at-part-at .before .before .args in
     c .read-offer .ensures
-    ∙ ap (λ (w : List ℕ). offerOf w (args .code))
+    ∙ ap (λ (w : List ℕ). offerOf w (args .step))
     (part-lent (args .work .now) (args .n .0) (at-part-at .part-at .ensures))
 
 pub offer-of-spec : {M : Type 1} → statement M

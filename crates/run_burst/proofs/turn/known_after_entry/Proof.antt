@@ -15,7 +15,7 @@ returns c =
     let at-if1 = c .before in
     let at-one-line = at-if1 .before in
     let args = at-one-line .before .before .before .args in
-    one-entered (args .p .now) (args .work .now) (args .n) (args .known) (args .code) (at-one-line .one-line .ensures)
+    one-entered (args .p .now) (args .work .now) (args .n) (args .known) (args .step) (at-one-line .one-line .ensures)
     (at-if1 .if1 .taken) (c .known-after-step .ensures)
 
 nothing-known-requires : tie.Need-nothing-known-requires
@@ -26,7 +26,7 @@ returns-2 c =
     let at-if1 = c .before in
     let at-one-line = at-if1 .before in
     let args = at-one-line .before .before .before .args in
-    more-entered (args .p .now) (args .work .now) (args .n) (args .known) (args .code) (at-one-line .one-line .ensures)
+    more-entered (args .p .now) (args .work .now) (args .n) (args .known) (args .step) (at-one-line .one-line .ensures)
     (at-if1 .if1 .left) (c .nothing-known .ensures)
 
 pub known-after-entry-spec : {M : Type 1} → statement M

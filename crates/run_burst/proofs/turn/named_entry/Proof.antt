@@ -12,7 +12,7 @@ returns c =
     let at-if1 = c .before in
     let args = at-if1 .before .before .before .before .before .args in
     names-none (args .p .now) (args .outcomes .now) (args .trace .now) (args .work .now) (args .room) (args .g)
-    (args .n) (args .code) (args .m) (at-if1 .if1 .taken) (c .idle .ensures)
+    (args .n) (args .step) (args .m) (at-if1 .if1 .taken) (c .idle .ensures)
 
 entry-requires : tie.Need-entry-requires
 entry-requires c κs = search needs
@@ -29,7 +29,7 @@ returns-2 c =
     let at-if1 = at-entry .before .before .before in
     let args = at-if1 .before .before .before .before .before .args in
     names-one (args .p .now) (args .outcomes .now) (args .trace .now) (args .work .now) (args .room) (args .g) (args .n)
-    (args .code) (args .m) (at-if1 .if1 .left) (at-entry .entry .ensures)
+    (args .step) (args .m) (at-if1 .if1 .left) (at-entry .entry .ensures)
 
 pub named-entry-spec : {M : Type 1} → statement M
 named-entry-spec =

@@ -44,7 +44,7 @@ returns c =
     let at-named-entry = at-told .before .before .before .before .before .before in
     let args = at-named-entry .before .before .before .before .before .before .before .args in
     turn-is (args .p .now) (args .outcomes .now) (args .trace .now) (args .work .now) (args .room) (args .t .now)
-    (args .g) (args .n) (args .code) (args .offer) (args .known) (at-named-entry .named-entry .ensures)
+    (args .g) (args .n) (args .step) (args .offer) (args .known) (at-named-entry .named-entry .ensures)
     Full (at-told .enum-told .given .1) refl (c .nothing-known .ensures)
 
 same-length-3 : tie.Need-same-length-3
@@ -60,7 +60,7 @@ returns-2 c =
     let at-named-entry = at-told .before .before .before .before .before .before in
     let args = at-named-entry .before .before .before .before .before .before .before .args in
     turn-is (args .p .now) (args .outcomes .now) (args .trace .now) (args .work .now) (args .room) (args .t .now)
-    (args .g) (args .n) (args .code) (args .offer) (args .known) (at-named-entry .named-entry .ensures)
+    (args .g) (args .n) (args .step) (args .offer) (args .known) (at-named-entry .named-entry .ensures)
     Taken (at-told .enum-told2 .given .1) refl (c .known-after-entry .ensures)
 
 same-length-5 : tie.Need-same-length-5
@@ -76,7 +76,7 @@ returns-3 c =
     let at-named-entry = at-told .before .before .before .before .before .before in
     let args = at-named-entry .before .before .before .before .before .before .before .args in
     turn-is (args .p .now) (args .outcomes .now) (args .trace .now) (args .work .now) (args .room) (args .t .now)
-    (args .g) (args .n) (args .code) (args .offer) (args .known) (at-named-entry .named-entry .ensures)
+    (args .g) (args .n) (args .step) (args .offer) (args .known) (at-named-entry .named-entry .ensures)
     Unable (at-told .enum-told3 .given .1) (c .before .ending .ensures) (c .with-idle .ensures)
 
 pub take-turn-spec : {M : Type 1} → statement M

@@ -4,8 +4,8 @@ use borrow.Author.Needs.{needs}
 use Rattle.run_burst.proofs.turn.turn_at.Statement.{statement}
 use Rattle.run_burst.proofs.turn.turn_at.Tie as tie
 
-cast-t17 : tie.Need-cast-t17
-cast-t17 c = search needs
+cast-t18 : tie.Need-cast-t18
+cast-t18 c = search needs
 
 shared-slice-read-n : tie.Need-shared-slice-read-n
 shared-slice-read-n c = search needs
@@ -26,4 +26,4 @@ returns c = c .before .before .before .before .take-turn .ensures
 pub turn-at-spec : {M : Type 1} → statement M
 turn-at-spec =
     tie.close
-    (tie.spec cast-t17 shared-slice-read-n take-turn-requires same-length same-length-2 returns)
+    (tie.spec cast-t18 shared-slice-read-n take-turn-requires same-length same-length-2 returns)

@@ -50,8 +50,8 @@ returns-2 c =
     (args .n .0) (args .m) (args .args) (at-lacks-of .lacks-of .ensures) (at-if1 .if1 .left) (at-get .get .ensures)
     (at-if2 .if2 .taken) (at-single2 .single2 .ensures)
 
-cast-t30 : tie.Need-cast-t30
-cast-t30 c = search needs
+cast-t32 : tie.Need-cast-t32
+cast-t32 c = search needs
 
 start-child-requires : tie.Need-start-child-requires
 start-child-requires c κs = search needs
@@ -88,7 +88,7 @@ try-fork-spec =
     same-length-3
     same-length-4
     returns-2
-    cast-t30
+    cast-t32
     start-child-requires
     same-length-5
     same-length-6

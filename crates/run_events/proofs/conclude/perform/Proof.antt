@@ -1,4 +1,4 @@
--- `perform` is the op's own function, code by code.
+-- `perform` is the op's own function, case by case.
 use Rattle.run_events.specs.EventsCode.{afterEvent}
 use Rattle.run_events.proofs.Returns.{event-newq, event-newc, event-gate, event-meas, event-end, event-fault}
 use Rattle.table.specs.Table.{methods, word}
@@ -34,11 +34,20 @@ add-word-at-2 c =
 word-at-requires : tie.Need-word-at-requires
 word-at-requires c κs = search needs
 
+enum-told : tie.Need-enum-told
+enum-told c = search needs
+
 op-newq-requires : tie.Need-op-newq-requires
 op-newq-requires c κs = search needs
 
+enum-told-2 : tie.Need-enum-told-2
+enum-told-2 c = search needs
+
 op-newc-requires : tie.Need-op-newc-requires
 op-newc-requires c κs = search needs
+
+enum-told-3 : tie.Need-enum-told-3
+enum-told-3 c = search needs
 
 cast-op-gate : tie.Need-cast-op-gate
 cast-op-gate c = search needs
@@ -46,11 +55,20 @@ cast-op-gate c = search needs
 op-gate-requires : tie.Need-op-gate-requires
 op-gate-requires c κs = search needs
 
+enum-told-4 : tie.Need-enum-told-4
+enum-told-4 c = search needs
+
 op-meas-requires : tie.Need-op-meas-requires
 op-meas-requires c κs = search needs
 
+enum-told-5 : tie.Need-enum-told-5
+enum-told-5 c = search needs
+
 line-requires : tie.Need-line-requires
 line-requires c κs = search needs
+
+enum-known-does : tie.Need-enum-known-does
+enum-known-does c = search needs
 
 fault-requires : tie.Need-fault-requires
 fault-requires c κs = search needs
@@ -61,11 +79,11 @@ same-length c = search needs
 returns : tie.Need-returns
 returns c =
     let at-op-newq = c .before .before in
-    let at-match = at-op-newq .before .before in
-    let at-read-head = at-match .before .before .before in
+    let at-enum-told = at-op-newq .before .before in
+    let at-read-head = at-enum-told .before .before .before .before in
     let args = at-read-head .before .before .before .before .before .args in
-    event-newq (args .p .now) (args .w .now) (args .code) (args .qubits) (args .channels) (args .outcomes .now)
-    (args .used) (at-read-head .read-head .ensures) (at-match .match .keys1) (at-op-newq .op-newq .ensures)
+    event-newq (args .p .now) (args .w .now) (args .does) (args .qubits) (args .channels) (args .outcomes .now)
+    (args .used) (at-read-head .read-head .ensures) (at-enum-told .enum-told .given .1) (at-op-newq .op-newq .ensures)
 
 same-length-2 : tie.Need-same-length-2
 same-length-2 c = search needs
@@ -73,11 +91,11 @@ same-length-2 c = search needs
 returns-2 : tie.Need-returns-2
 returns-2 c =
     let at-op-newc = c .before .before in
-    let at-match = at-op-newc .before .before in
-    let at-read-head = at-match .before .before .before in
+    let at-enum-told2 = at-op-newc .before .before in
+    let at-read-head = at-enum-told2 .before .before .before .before in
     let args = at-read-head .before .before .before .before .before .args in
-    event-newc (args .p .now) (args .w .now) (args .code) (args .qubits) (args .channels) (args .outcomes .now)
-    (args .used) (at-read-head .read-head .ensures) (at-match .match .keys2) (at-op-newc .op-newc .ensures)
+    event-newc (args .p .now) (args .w .now) (args .does) (args .qubits) (args .channels) (args .outcomes .now)
+    (args .used) (at-read-head .read-head .ensures) (at-enum-told2 .enum-told2 .given .1) (at-op-newc .op-newc .ensures)
 
 same-length-3 : tie.Need-same-length-3
 same-length-3 c = search needs
@@ -85,13 +103,13 @@ same-length-3 c = search needs
 returns-3 : tie.Need-returns-3
 returns-3 c =
     let at-op-gate = c .before .before in
-    let at-match = at-op-gate .before .before in
-    let at-word-at = at-match .before in
+    let at-enum-told3 = at-op-gate .before .before in
+    let at-word-at = at-enum-told3 .before .before in
     let at-read-head = at-word-at .before .before in
-    let at-args = at-read-head .before .before .before .before .before in
-    event-gate (at-args .args .p .now) (at-args .args .w .now) (at-args .args .code) (at-args .args .qubits)
-    (at-args .args .channels) (at-args .args .outcomes .now) (at-args .args .used) (at-read-head .read-head .ensures)
-    (at-args .args .start) _ (at-args .pre) (at-word-at .word-at .ensures .0) (at-match .match .keys3)
+    let at-pre = at-read-head .before .before .before .before .before in
+    event-gate (at-pre .args .p .now) (at-pre .args .w .now) (at-pre .args .does) (at-pre .args .qubits)
+    (at-pre .args .channels) (at-pre .args .outcomes .now) (at-pre .args .used) (at-read-head .read-head .ensures)
+    (at-pre .args .start) _ (at-pre .pre) (at-word-at .word-at .ensures .0) (at-enum-told3 .enum-told3 .given .1)
     (at-op-gate .op-gate .ensures)
 
 same-length-4 : tie.Need-same-length-4
@@ -100,33 +118,31 @@ same-length-4 c = search needs
 returns-4 : tie.Need-returns-4
 returns-4 c =
     let at-op-meas = c .before .before in
-    let at-match = at-op-meas .before .before in
-    let at-read-head = at-match .before .before .before in
+    let at-enum-told4 = at-op-meas .before .before in
+    let at-read-head = at-enum-told4 .before .before .before .before in
     let args = at-read-head .before .before .before .before .before .args in
-    event-meas (args .p .now) (args .w .now) (args .code) (args .qubits) (args .channels) (args .outcomes .now)
-    (args .used) (at-read-head .read-head .ensures) (at-match .match .keys4) (at-op-meas .op-meas .ensures)
+    event-meas (args .p .now) (args .w .now) (args .does) (args .qubits) (args .channels) (args .outcomes .now)
+    (args .used) (at-read-head .read-head .ensures) (at-enum-told4 .enum-told4 .given .1) (at-op-meas .op-meas .ensures)
 
 same-length-5 : tie.Need-same-length-5
 same-length-5 c = search needs
 
 returns-5 : tie.Need-returns-5
 returns-5 c =
-    let at-match = c .before in
-    let args = at-match .before .before .before .before .before .before .before .before .args in
-    event-end (args .p .now) (args .w .now) (args .code) (args .qubits) (args .channels) (args .outcomes .now)
-    (args .used) (at-match .match .keys5) (ap₂ afterEvent (c .line .ensures) refl)
+    let at-enum-told5 = c .before in
+    let args = at-enum-told5 .before .before .before .before .before .before .before .before .before .args in
+    event-end (args .p .now) (args .w .now) (args .does) (args .qubits) (args .channels) (args .outcomes .now)
+    (args .used) (at-enum-told5 .enum-told5 .given .1) (ap₂ afterEvent (c .line .ensures) refl)
 
 same-length-6 : tie.Need-same-length-6
 same-length-6 c = search needs
 
 returns-6 : tie.Need-returns-6
 returns-6 c =
-    let at-match = c .before in
-    let args = at-match .before .before .before .before .before .before .before .before .args in
-    event-fault (args .p .now) (args .w .now) (args .code) (args .qubits) (args .channels) (args .outcomes .now)
-    (args .used) (at-match .match .rest .0 .0 .0 .0 .1) (at-match .match .rest .0 .0 .0 .1)
-    (at-match .match .rest .0 .0 .1) (at-match .match .rest .0 .1) (at-match .match .rest .1)
-    (ap₂ afterEvent (c .fault .ensures) refl)
+    let at-does = c .before .before in
+    let args = at-does .before .before .before .before .before .before .before .before .before .args in
+    event-fault (args .p .now) (args .w .now) (args .does) (args .qubits) (args .channels) (args .outcomes .now)
+    (args .used) _ (at-does .does .given .1) (ap₂ afterEvent (c .fault .ensures) refl)
 
 pub perform-spec : {M : Type 1} → statement M
 perform-spec =
@@ -138,12 +154,18 @@ perform-spec =
     add-word-at
     add-word-at-2
     word-at-requires
+    enum-told
     op-newq-requires
+    enum-told-2
     op-newc-requires
+    enum-told-3
     cast-op-gate
     op-gate-requires
+    enum-told-4
     op-meas-requires
+    enum-told-5
     line-requires
+    enum-known-does
     fault-requires
     same-length
     returns

@@ -1,6 +1,7 @@
 -- `op_call` tests the arguments, then the number of frames.
 use Rattle.run_ops.proofs.Returns.{took, passed-by}
 use Rattle.run_values.specs.ValuesCode.{afterStep}
+use Rattle.run_values.specs.declared.steps.StepResult.the-variants.{WentOn}
 use Rattle.run_ops.specs.OpsCode.{callOp, opened}
 use Rattle.run_store.specs.StoreCode.{emptyDown}
 use borrow.Author.Tests.{le-leb, lt-leb}
@@ -68,7 +69,7 @@ returns-3 c =
     (at-any-empty .any-empty .ensures
     ∙ ap₂ (emptyDown (args .w .now)) (at-top .top .ensures) (at-params .params .ensures)) (at-if1 .if1 .left)
     (passed-by _ _ _ refl (lt-leb 8 (args .h .frames) (at-if2 .if2 .left))
-    (ap (afterStep 0)
+    (ap (afterStep WentOn)
     (at-open-frame .open-frame .ensures
     ∙ ap (opened (args .p .now) (args .w .now) (args .h) (args .a)) (at-params .params .ensures))))
 

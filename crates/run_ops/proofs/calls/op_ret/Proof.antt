@@ -2,6 +2,7 @@
 use Rattle.run_values.proofs.Returns.{empty-stops, full-goes}
 use Rattle.run_ops.proofs.Returns.{took, passed-by}
 use Rattle.run_values.specs.ValuesCode.{afterStep}
+use Rattle.run_values.specs.declared.steps.StepResult.the-variants.{WentOn}
 use Rattle.run_ops.specs.OpsCode.{retOp, handed}
 use Rattle.run_store.specs.StoreCode.{valueAt}
 use borrow.Author.Tests.{eq-eqb, ne-eqb}
@@ -47,7 +48,7 @@ returns-2 c =
     let args = at-returns-void .before .before .before .before .before .before .args in
     took _ _ _ (at-returns-void .returns-void .ensures) (at-if1 .if1 .taken)
     (passed-by _ _ _ refl (ne-eqb (args .h .frames) 1 (at-if2 .if2 .left))
-    (ap (afterStep 0) (at-close-frame .close-frame .ensures)))
+    (ap (afterStep WentOn) (at-close-frame .close-frame .ensures)))
 
 same-length-3 : tie.Need-same-length-3
 same-length-3 c = search needs
@@ -103,7 +104,7 @@ returns-5 c =
     passed-by _ _ _ (at-returns-void .returns-void .ensures) (at-if1 .if1 .left)
     (full-goes _ _ _ (at-value .value .ensures ∙ ap (valueAt (args .w .now)) (at-top .top .ensures)) (at-if3 .if3 .left)
     (passed-by _ _ _ refl (ne-eqb (args .h .frames) 1 (at-if4 .if4 .left))
-    (ap (afterStep 0)
+    (ap (afterStep WentOn)
     (at-hand-back .hand-back .ensures
     ∙ ap₂ handed (at-close-frame2 .close-frame2 .ensures)
     (at-value .value .ensures ∙ ap (valueAt (args .w .now)) (at-top .top .ensures))))))

@@ -49,11 +49,11 @@ returns c =
     let at-get = at-get2 .before .before in
     let args = at-get .before .before .before .before .before .args in
     lifted-left (args .work .now) (args .n .0) (at-part-at .part-at .ensures) (at-conclude .conclude .last .1 .1 .0)
-    (λ (l : List ℕ). concludeOp (args .p .now) l (args .code) (at-get .get .result) (at-get2 .get2 .result)
+    (λ (l : List ℕ). concludeOp (args .p .now) l (args .does) (at-get .get .result) (at-get2 .get2 .result)
     (args .outcomes .now) (args .used)) (at-conclude .conclude .ensures)
     ∙ ap₂
     (λ (q c : ℕ). inPart (args .work .now) (args .n .0)
-    (concludeOp (args .p .now) (partOf (args .work .now) (args .n .0)) (args .code) q c (args .outcomes .now)
+    (concludeOp (args .p .now) (partOf (args .work .now) (args .n .0)) (args .does) q c (args .outcomes .now)
     (args .used))) (at-get .get .ensures) (at-get2 .get2 .ensures)
 
 pub conclude-at-spec : {M : Type 1} → statement M

@@ -16,7 +16,7 @@ returns c =
     let at-if1 = c .before in
     let args = at-if1 .before .before .before .before .before .before .args in
     single-full (args .p .now) (args .outcomes .now) (args .trace .now) (args .work .now) (args .room) (args .g)
-    (args .n .0) (args .code) (at-if1 .if1 .taken) (c .full .ensures)
+    (args .n .0) (args .does) (at-if1 .if1 .taken) (c .full .ensures)
 
 conclude-at-requires : tie.Need-conclude-at-requires
 conclude-at-requires c κs = search needs
@@ -68,7 +68,7 @@ returns-2 c =
     let at-if1 = at-conclude-at .before .before in
     let args = at-if1 .before .before .before .before .before .before .args in
     single-noted (args .p .now) (args .outcomes .now) (args .trace .now) (args .work .now) (args .room) (args .g)
-    (args .n .0) (args .code) (at-if1 .if1 .left) (at-conclude-at .conclude-at .ensures)
+    (args .n .0) (args .does) (at-if1 .if1 .left) (at-conclude-at .conclude-at .ensures)
     (at-count-made .count-made .ensures) (at-event-line .event-line .ensures) (at-write-line .write-line .ensures)
     (at-low .low .ensures) (c .taken .ensures)
 

@@ -3,6 +3,7 @@ use mathlib.Core.Path.{refl, _∙_, ap}
 use Rattle.run_store.specs.declared.values.Val.{Val}
 use borrow.Author.Tests.{not-false}
 use Rattle.run_values.specs.ValuesCode.{afterStep, dropTop, dropOp}
+use Rattle.run_values.specs.declared.steps.StepResult.the-variants.{WentOn}
 use Rattle.run_stretch.specs.StretchCode.{headWith, laid}
 use Rattle.run_stretch.proofs.Laid.{halts}
 use Rattle.run_stretch.proofs.Shapes.{goes-as, drops-on}
@@ -34,7 +35,7 @@ same-length-2 c = search needs
 
 returns-2 : tie.Need-returns-2
 unfolding dropOp
-returns-2 c = goes-as (top-goes (c .before .before .before .before .before .before .before .before .before .before .pre .0) (c .before .before .before .before .before .before .before .read-top .result) (not-false (c .before .before .before .before .before .before .before .read-top .result .there) (c .before .before .before .before .before .if1 .left)) (c .before .before .before .before .before .before .before .read-top .ensures) (λ (v : Val). afterStep 0 (dropTop (laid (c .before .before .before .before .before .before .before .before .before .before .args .w .now) (c .before .before .before .before .before .before .before .before .before .before .args .h) (c .before .before .before .before .before .before .before .before .before .before .args .c)) (headWith (c .before .before .before .before .before .before .before .before .before .before .args .h) (c .before .before .before .before .before .before .before .before .before .before .args .c)))) ∙ ap (afterStep 0) (drops-on (c .before .before .before .before .before .before .before .before .before .before .pre .0) (c .before .before .before .before .before .before .before .before .before .before .pre .1) (top-some (c .before .before .before .before .before .before .before .before .before .before .pre .0) (c .before .before .before .before .before .before .before .read-top .result) (not-false (c .before .before .before .before .before .before .before .read-top .result .there) (c .before .before .before .before .before .if1 .left)) (c .before .before .before .before .before .before .before .read-top .ensures)))) (c .before .before .discard-to .ensures)
+returns-2 c = goes-as (top-goes (c .before .before .before .before .before .before .before .before .before .before .pre .0) (c .before .before .before .before .before .before .before .read-top .result) (not-false (c .before .before .before .before .before .before .before .read-top .result .there) (c .before .before .before .before .before .if1 .left)) (c .before .before .before .before .before .before .before .read-top .ensures) (λ (v : Val). afterStep WentOn (dropTop (laid (c .before .before .before .before .before .before .before .before .before .before .args .w .now) (c .before .before .before .before .before .before .before .before .before .before .args .h) (c .before .before .before .before .before .before .before .before .before .before .args .c)) (headWith (c .before .before .before .before .before .before .before .before .before .before .args .h) (c .before .before .before .before .before .before .before .before .before .before .args .c)))) ∙ ap (afterStep WentOn) (drops-on (c .before .before .before .before .before .before .before .before .before .before .pre .0) (c .before .before .before .before .before .before .before .before .before .before .pre .1) (top-some (c .before .before .before .before .before .before .before .before .before .before .pre .0) (c .before .before .before .before .before .before .before .read-top .result) (not-false (c .before .before .before .before .before .before .before .read-top .result .there) (c .before .before .before .before .before .if1 .left)) (c .before .before .before .before .before .before .before .read-top .ensures)))) (c .before .before .discard-to .ensures)
 
 pub drop-top-spec : {M : Type 1} → statement M
 drop-top-spec =

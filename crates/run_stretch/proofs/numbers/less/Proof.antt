@@ -5,6 +5,7 @@ use lib.Dec.{ltb}
 use Rattle.run_store.specs.declared.values.Val.{Val}
 use borrow.Author.Tests.{not-false}
 use Rattle.run_values.specs.ValuesCode.{afterStep, boolVal, bit, biased, overTwo, lessOp}
+use Rattle.run_values.specs.declared.steps.StepResult.the-variants.{WentOn}
 use Rattle.run_stretch.specs.StretchCode.{headWith, laid}
 use Rattle.run_stretch.proofs.Laid.{halts}
 use Rattle.run_stretch.proofs.Shapes.{goes-as}
@@ -42,7 +43,7 @@ same-length-2 c = search needs
 
 returns-2 : tie.Need-returns-2
 unfolding lessOp
-returns-2 c = goes-as (two-goes (c .before .before .before .before .before .before .before .before .before .before .before .before .pre .0) (c .before .before .before .before .before .before .before .before .before .read-two .result) (not-false (c .before .before .before .before .before .before .before .before .before .read-two .result .there) (c .before .before .before .before .before .before .before .if1 .left)) (c .before .before .before .before .before .before .before .before .before .read-two .ensures) (λ (x y : ℕ). afterStep 0 (overTwo (laid (c .before .before .before .before .before .before .before .before .before .before .before .before .args .w .now) (c .before .before .before .before .before .before .before .before .before .before .before .before .args .h) (c .before .before .before .before .before .before .before .before .before .before .before .before .args .c)) (headWith (c .before .before .before .before .before .before .before .before .before .before .before .before .args .h) (c .before .before .before .before .before .before .before .before .before .before .before .before .args .c)) (boolVal (bit (ltb (biased x) (biased y)))))) ∙ ap (λ (v : Val). afterStep 0 (overTwo (laid (c .before .before .before .before .before .before .before .before .before .before .before .before .args .w .now) (c .before .before .before .before .before .before .before .before .before .before .before .before .args .h) (c .before .before .before .before .before .before .before .before .before .before .before .before .args .c)) (headWith (c .before .before .before .before .before .before .before .before .before .before .before .before .args .h) (c .before .before .before .before .before .before .before .before .before .before .before .before .args .c)) v)) (sym (c .before .before .before .before .flag .ensures ∙ ap₂ (λ (x y : ℕ). boolVal (bit (ltb x y))) (c .before .before .before .before .before .before .bias .ensures .0) (c .before .before .before .before .before .bias2 .ensures .0)))) (c .before .before .replace-two .ensures)
+returns-2 c = goes-as (two-goes (c .before .before .before .before .before .before .before .before .before .before .before .before .pre .0) (c .before .before .before .before .before .before .before .before .before .read-two .result) (not-false (c .before .before .before .before .before .before .before .before .before .read-two .result .there) (c .before .before .before .before .before .before .before .if1 .left)) (c .before .before .before .before .before .before .before .before .before .read-two .ensures) (λ (x y : ℕ). afterStep WentOn (overTwo (laid (c .before .before .before .before .before .before .before .before .before .before .before .before .args .w .now) (c .before .before .before .before .before .before .before .before .before .before .before .before .args .h) (c .before .before .before .before .before .before .before .before .before .before .before .before .args .c)) (headWith (c .before .before .before .before .before .before .before .before .before .before .before .before .args .h) (c .before .before .before .before .before .before .before .before .before .before .before .before .args .c)) (boolVal (bit (ltb (biased x) (biased y)))))) ∙ ap (λ (v : Val). afterStep WentOn (overTwo (laid (c .before .before .before .before .before .before .before .before .before .before .before .before .args .w .now) (c .before .before .before .before .before .before .before .before .before .before .before .before .args .h) (c .before .before .before .before .before .before .before .before .before .before .before .before .args .c)) (headWith (c .before .before .before .before .before .before .before .before .before .before .before .before .args .h) (c .before .before .before .before .before .before .before .before .before .before .before .before .args .c)) v)) (sym (c .before .before .before .before .flag .ensures ∙ ap₂ (λ (x y : ℕ). boolVal (bit (ltb x y))) (c .before .before .before .before .before .before .bias .ensures .0) (c .before .before .before .before .before .bias2 .ensures .0)))) (c .before .before .replace-two .ensures)
 
 pub less-spec : {M : Type 1} → statement M
 less-spec =

@@ -4,6 +4,7 @@ use lib.Dec.{eqb}
 use Rattle.run_store.specs.declared.values.Val.{Val}
 use borrow.Author.Tests.{not-false}
 use Rattle.run_values.specs.ValuesCode.{afterStep, boolVal, bit, onTop, notOp}
+use Rattle.run_values.specs.declared.steps.StepResult.the-variants.{WentOn}
 use Rattle.run_stretch.specs.StretchCode.{headWith, laid}
 use Rattle.run_stretch.proofs.Laid.{halts}
 use Rattle.run_stretch.proofs.Shapes.{goes-as}
@@ -35,7 +36,7 @@ same-length-2 c = search needs
 
 returns-2 : tie.Need-returns-2
 unfolding notOp
-returns-2 c = goes-as (top-goes (c .before .before .before .before .before .before .before .before .before .before .before .pre .0) (c .before .before .before .before .before .before .before .before .read-top .result) (not-false (c .before .before .before .before .before .before .before .before .read-top .result .there) (c .before .before .before .before .before .before .if1 .left)) (c .before .before .before .before .before .before .before .before .read-top .ensures) (λ (v : Val). afterStep 0 (onTop (laid (c .before .before .before .before .before .before .before .before .before .before .before .args .w .now) (c .before .before .before .before .before .before .before .before .before .before .before .args .h) (c .before .before .before .before .before .before .before .before .before .before .before .args .c)) (headWith (c .before .before .before .before .before .before .before .before .before .before .before .args .h) (c .before .before .before .before .before .before .before .before .before .before .before .args .c)) (boolVal (bit (eqb (v .number) 0))))) ∙ ap (λ (v : Val). afterStep 0 (onTop (laid (c .before .before .before .before .before .before .before .before .before .before .before .args .w .now) (c .before .before .before .before .before .before .before .before .before .before .before .args .h) (c .before .before .before .before .before .before .before .before .before .before .before .args .c)) (headWith (c .before .before .before .before .before .before .before .before .before .before .before .args .h) (c .before .before .before .before .before .before .before .before .before .before .before .args .c)) v)) (sym (c .before .before .before .before .flag .ensures))) (c .before .before .replace .ensures)
+returns-2 c = goes-as (top-goes (c .before .before .before .before .before .before .before .before .before .before .before .pre .0) (c .before .before .before .before .before .before .before .before .read-top .result) (not-false (c .before .before .before .before .before .before .before .before .read-top .result .there) (c .before .before .before .before .before .before .if1 .left)) (c .before .before .before .before .before .before .before .before .read-top .ensures) (λ (v : Val). afterStep WentOn (onTop (laid (c .before .before .before .before .before .before .before .before .before .before .before .args .w .now) (c .before .before .before .before .before .before .before .before .before .before .before .args .h) (c .before .before .before .before .before .before .before .before .before .before .before .args .c)) (headWith (c .before .before .before .before .before .before .before .before .before .before .before .args .h) (c .before .before .before .before .before .before .before .before .before .before .before .args .c)) (boolVal (bit (eqb (v .number) 0))))) ∙ ap (λ (v : Val). afterStep WentOn (onTop (laid (c .before .before .before .before .before .before .before .before .before .before .before .args .w .now) (c .before .before .before .before .before .before .before .before .before .before .before .args .h) (c .before .before .before .before .before .before .before .before .before .before .before .args .c)) (headWith (c .before .before .before .before .before .before .before .before .before .before .before .args .h) (c .before .before .before .before .before .before .before .before .before .before .before .args .c)) v)) (sym (c .before .before .before .before .flag .ensures))) (c .before .before .replace .ensures)
 
 pub not-spec : {M : Type 1} → statement M
 not-spec =

@@ -3,6 +3,7 @@ use Prim.Native.Nat.{ℕ}
 use mathlib.Core.Path.{refl, sym, _∙_, ap}
 use mathlib.Core.Logic.{⊎-elim}
 use Rattle.run_values.specs.ValuesCode.{afterStep, intVal, pushOn, intOp, boolOp, clearOp}
+use Rattle.run_values.specs.declared.steps.StepResult.the-variants.{WentOn}
 use Rattle.run_ops.specs.OpsCode.{opFunctions, actOp}
 use Rattle.run_stretch.specs.StretchCode.{headWith, laid}
 use Rattle.run_stretch.proofs.Laid.{halts}
@@ -123,7 +124,7 @@ returns-2 c =
     let args = c .before .before .before .before .before .before .before .before .args in
     goes-in
     (by-op (args .p .now) (laid (args .w .now) (args .h) (args .c)) (headWith (args .h) (args .c)) (args .a) (c .before .before .before .before .before .match .keys2)
-    ∙ ap (λ (x : ℕ). afterStep 0 (pushOn (laid (args .w .now) (args .h) (args .c)) (headWith (args .h) (args .c)) (intVal x)))
+    ∙ ap (λ (x : ℕ). afterStep WentOn (pushOn (laid (args .w .now) (args .h) (args .c)) (headWith (args .h) (args .c)) (intVal x)))
     (sym (c .before .before .before .extend .ensures)))
     (steps-inside (c .before .before .before .before .before .before .before .before .pre .4) (c .before .before .before .before .before .before .before .before .pre .5) 1 (c .before .before .before .before .before .match .keys2) refl)
     (c .before .before .push .ensures)

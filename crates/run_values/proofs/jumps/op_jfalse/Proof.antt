@@ -1,5 +1,6 @@
 -- `op_jfalse` goes by whether the value is emptied, and whether it is false.
 use Rattle.run_values.specs.ValuesCode.{jfalseOp, afterStep, dropTo}
+use Rattle.run_values.specs.declared.steps.StepResult.the-variants.{WentOn}
 use Rattle.run_values.proofs.Returns.{empty-stops, full-goes, jfalse-jumps, jfalse-goes}
 use Rattle.run_store.specs.StoreCode.{valueAt}
 use mathlib.Core.Path.{_∙_, ap}
@@ -46,7 +47,7 @@ returns-2 c =
     full-goes _ _ _ (at-value .value .ensures ∙ ap (valueAt (args .w .now)) (at-top .top .ensures)) (at-if1 .if1 .left)
     (jfalse-jumps _ _ _ (at-value .value .ensures ∙ ap (valueAt (args .w .now)) (at-top .top .ensures))
     (at-if2 .if2 .taken)
-    (ap (afterStep 0)
+    (ap (afterStep WentOn)
     (at-discard-to .discard-to .ensures ∙ ap (dropTo (args .w .now) (args .h)) (at-target .target .ensures))))
 
 discard-requires : tie.Need-discard-requires
@@ -66,7 +67,7 @@ returns-3 c =
     let args = at-top .before .before .before .before .args in
     full-goes _ _ _ (at-value .value .ensures ∙ ap (valueAt (args .w .now)) (at-top .top .ensures)) (at-if1 .if1 .left)
     (jfalse-goes _ _ _ (at-value .value .ensures ∙ ap (valueAt (args .w .now)) (at-top .top .ensures))
-    (at-if2 .if2 .left) (ap (afterStep 0) (at-discard .discard .ensures)))
+    (at-if2 .if2 .left) (ap (afterStep WentOn) (at-discard .discard .ensures)))
 
 pub op-jfalse-spec : {M : Type 1} → statement M
 op-jfalse-spec =

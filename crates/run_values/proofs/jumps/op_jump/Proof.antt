@@ -1,5 +1,6 @@
 -- `op_jump` writes the new place alone.
 use Rattle.run_values.specs.ValuesCode.{jumpOp, afterStep}
+use Rattle.run_values.specs.declared.steps.StepResult.the-variants.{WentOn}
 use Rattle.run_store.specs.StoreCode.{putTop, movedTo}
 use mathlib.Core.Path.{_∙_, ap}
 use borrow.Author.Needs.{needs}
@@ -25,7 +26,7 @@ returns c =
     let at-to = at-put-top .before in
     let at-target = at-to .before in
     let args = at-target .before .before .before .before .args in
-    ap (afterStep 0)
+    ap (afterStep WentOn)
     (at-put-top .put-top .ensures
     ∙ ap (putTop (args .w .now)) (at-to .to .ensures ∙ ap (movedTo (args .h)) (at-target .target .ensures)))
 

@@ -1,5 +1,6 @@
 -- `op_bool` pushes the argument as a boolean.
 use Rattle.run_values.specs.ValuesCode.{boolOp, afterStep}
+use Rattle.run_values.specs.declared.steps.StepResult.the-variants.{WentOn}
 use mathlib.Core.Path.{ap}
 use borrow.Author.Needs.{needs}
 use Rattle.run_values.proofs.moves.op_bool.Statement.{statement}
@@ -13,7 +14,7 @@ same-length c = search needs
 
 returns : tie.Need-returns
 unfolding boolOp
-returns c = ap (afterStep 0) (c .before .before .push .ensures)
+returns c = ap (afterStep WentOn) (c .before .before .push .ensures)
 
 pub op-bool-spec : {M : Type 1} → statement M
 op-bool-spec = tie.close (tie.spec push-requires same-length returns)

@@ -1,5 +1,6 @@
 -- `op_clear` stores the empty value.
 use Rattle.run_values.specs.ValuesCode.{clearOp, afterStep, inSlot}
+use Rattle.run_values.specs.declared.steps.StepResult.the-variants.{WentOn}
 use mathlib.Core.Path.{_∙_, ap}
 use borrow.Author.Needs.{needs}
 use Rattle.run_values.proofs.moves.op_clear.Statement.{statement}
@@ -20,7 +21,7 @@ returns c =
     let at-store-slot = c .before .before in
     let at-empty = at-store-slot .before in
     let args = at-empty .before .before .before .before .args in
-    ap (afterStep 0)
+    ap (afterStep WentOn)
     (at-store-slot .store-slot .ensures ∙ ap (inSlot (args .w .now) (args .h) (args .a)) (at-empty .empty .ensures))
 
 pub op-clear-spec : {M : Type 1} → statement M

@@ -1,5 +1,6 @@
 -- `op_end` goes by whether the channel is emptied, and makes the end by its side.
 use Rattle.run_values.specs.ValuesCode.{endOp, afterStep, onTop}
+use Rattle.run_values.specs.declared.steps.StepResult.the-variants.{WentOn}
 use Prim.Native.Nat.{_+_}
 use Rattle.run_store.specs.declared.values.Val.{Val}
 use Rattle.run_values.proofs.Returns.{empty-stops, full-goes}
@@ -44,7 +45,7 @@ returns-2 c =
     let at-top = at-value .before in
     let args = at-top .before .before .before .args in
     full-goes _ _ _ (at-value .value .ensures ∙ ap (valueAt (args .w .now)) (at-top .top .ensures)) (at-if1 .if1 .left)
-    (ap (afterStep 0)
+    (ap (afterStep WentOn)
     (at-replace .replace .ensures
     ∙ ap (λ (v : Val). onTop (args .w .now) (args .h) (record { tag = 5 + args .a; number = v .number }))
     (at-value .value .ensures ∙ ap (valueAt (args .w .now)) (at-top .top .ensures))))

@@ -1,5 +1,6 @@
 -- `op_get` goes by whether the slot is emptied.
 use Rattle.run_values.specs.ValuesCode.{getOp, afterStep, pushOn}
+use Rattle.run_values.specs.declared.steps.StepResult.the-variants.{WentOn}
 use Rattle.run_values.proofs.Returns.{empty-stops, full-goes}
 use Rattle.run_store.specs.StoreCode.{valueAt}
 use mathlib.Core.Path.{_∙_, ap}
@@ -40,7 +41,7 @@ returns-2 c =
     let args = at-slot .before .before .before .args in
     full-goes _ _ _ (at-value .value .ensures ∙ ap (valueAt (args .w .now)) (at-slot .slot .ensures))
     (at-if1 .if1 .left)
-    (ap (afterStep 0)
+    (ap (afterStep WentOn)
     (at-push .push .ensures
     ∙ ap (pushOn (args .w .now) (args .h))
     (at-value .value .ensures ∙ ap (valueAt (args .w .now)) (at-slot .slot .ensures))))

@@ -1,5 +1,6 @@
 -- `op_int` pushes the extended argument.
 use Rattle.run_values.specs.ValuesCode.{intOp, afterStep, pushOn, intVal}
+use Rattle.run_values.specs.declared.steps.StepResult.the-variants.{WentOn}
 use mathlib.Core.Path.{_∙_, ap}
 use Prim.Native.Nat.{ℕ}
 use borrow.Author.Needs.{needs}
@@ -21,7 +22,7 @@ returns c =
     let at-push = c .before .before in
     let at-extend = at-push .before in
     let args = at-extend .before .before .before .before .args in
-    ap (afterStep 0)
+    ap (afterStep WentOn)
     (at-push .push .ensures ∙ ap (λ (n : ℕ). pushOn (args .w .now) (args .h) (intVal n)) (at-extend .extend .ensures))
 
 pub op-int-spec : {M : Type 1} → statement M

@@ -1,5 +1,6 @@
 -- `op_put` goes by whether the top value is emptied.
 use Rattle.run_values.specs.ValuesCode.{putOp, afterStep, inSlot}
+use Rattle.run_values.specs.declared.steps.StepResult.the-variants.{WentOn}
 use Rattle.run_values.proofs.Returns.{empty-stops, full-goes}
 use Rattle.run_store.specs.StoreCode.{valueAt}
 use mathlib.Core.Path.{_∙_, ap}
@@ -39,7 +40,7 @@ returns-2 c =
     let at-top = at-value .before in
     let args = at-top .before .before .before .args in
     full-goes _ _ _ (at-value .value .ensures ∙ ap (valueAt (args .w .now)) (at-top .top .ensures)) (at-if1 .if1 .left)
-    (ap (afterStep 0)
+    (ap (afterStep WentOn)
     (at-store-slot .store-slot .ensures
     ∙ ap (inSlot (args .w .now) (args .h) (args .a))
     (at-value .value .ensures ∙ ap (valueAt (args .w .now)) (at-top .top .ensures))))

@@ -1,5 +1,6 @@
 -- `op_less` goes by whether an operand is emptied, and compares what was moved up.
 use Rattle.run_values.specs.ValuesCode.{lessOp, afterStep, overTwo, boolVal, bit}
+use Rattle.run_values.specs.declared.steps.StepResult.the-variants.{WentOn}
 use Rattle.run_values.proofs.Returns.{two-stop, two-go}
 use Prim.Native.Nat.{ℕ}
 use mathlib.Core.Path.{_∙_, ap, ap₂}
@@ -56,7 +57,7 @@ returns-2 c =
     let args = at-two-empty .before .before .before .args in
     two-go (args .w .now) (args .h) _ (at-two-empty .two-empty .ensures) (at-if1 .if1 .left)
     (at-number .number .ensures) (at-number2 .number2 .ensures)
-    (ap (afterStep 0)
+    (ap (afterStep WentOn)
     (at-replace-two .replace-two .ensures
     ∙ ap (overTwo (args .w .now) (args .h))
     (at-flag .flag .ensures

@@ -2,6 +2,7 @@
 use Rattle.run_store.specs.declared.values.Val.{Val}
 use lib.Dec.{eqb}
 use Rattle.run_values.specs.ValuesCode.{notOp, afterStep, onTop, boolVal, bit}
+use Rattle.run_values.specs.declared.steps.StepResult.the-variants.{WentOn}
 use Rattle.run_values.proofs.Returns.{empty-stops, full-goes}
 use Rattle.run_store.specs.StoreCode.{valueAt}
 use mathlib.Core.Path.{_∙_, ap}
@@ -45,7 +46,7 @@ returns-2 c =
     let at-top = at-value .before in
     let args = at-top .before .before .before .args in
     full-goes _ _ _ (at-value .value .ensures ∙ ap (valueAt (args .w .now)) (at-top .top .ensures)) (at-if1 .if1 .left)
-    (ap (afterStep 0)
+    (ap (afterStep WentOn)
     (at-replace .replace .ensures
     ∙ ap (onTop (args .w .now) (args .h))
     (at-flag .flag .ensures

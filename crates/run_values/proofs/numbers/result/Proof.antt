@@ -1,5 +1,6 @@
 -- `result` goes by the range of the sum, and moves it back.
 use Rattle.run_values.specs.ValuesCode.{afterStep}
+use Rattle.run_values.specs.declared.steps.StepResult.the-variants.{WentOn}
 use mathlib.Core.Path.{_∙_, ap}
 use Rattle.run_values.proofs.Returns.{result-low, result-high, result-in}
 use borrow.Author.Needs.{needs}
@@ -32,7 +33,7 @@ returns-3 c =
     let at-if2 = at-replace-two .before .before in
     let at-if1 = at-if2 .before in
     let args = at-if1 .before .before .args in
-    ap (afterStep 0) (at-replace-two .replace-two .ensures)
+    ap (afterStep WentOn) (at-replace-two .replace-two .ensures)
     ∙ result-in (args .w .now) (args .h) (args .s) (at-if1 .if1 .left) (at-if2 .if2 .left)
 
 pub result-spec : {M : Type 1} → statement M
