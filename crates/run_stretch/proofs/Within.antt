@@ -97,3 +97,20 @@ module _ {p : List ℕ} (k : Kept p) {m i op a : ℕ} (t : At p m i op a) where
   pub slot-of-clear : op ≡ 6 → a < 16
   unfolding ops-opened
   slot-of-clear e = slot-of 6 e _ refl
+
+-- a method's two words, and the places between them
+module _ {p : List ℕ} (k : Kept p) {m : ℕ} (l : m < getD p 0 0) where
+  a-method : m < methods p
+  unfolding methods word
+  a-method = l
+
+  pub row-there : 3 + 2 * m < length p
+  row-there = omega (arith, a-method, k .sizes .words)
+
+  pub span-inside : (i : ℕ) → getD p (2 + 2 * m) 0 ≤ i → i < getD p (2 + 2 * m) 0 + getD p (2 + 2 * m + 1) 0
+      → (getD p (2 + 2 * m) 0 ≡ offsetOf p m) × Inside p m i
+  unfolding word offsetOf lengthOf endOf
+  span-inside i from end = (refl, record { method = a-method; from-offset = from; ahead = omega (arith, end, length-there) })
+    where
+      length-there : getD p (2 + 2 * m + 1) 0 ≡ getD p (3 + 2 * m) 0
+      length-there = ap (λ (j : ℕ). getD p j 0) {x = 2 + 2 * m + 1} {y = 3 + 2 * m} (omega arith)

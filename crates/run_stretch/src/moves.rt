@@ -11,7 +11,7 @@ use super::cursor::slot;
 use super::cursor::write;
 use run_store::head::Head;
 
-// A value pushed, where there is room.
+// A value pushed, where there is room. It is written as the top one, so that its address is computed like that of the others.
 pub fn push(w: &mut [u32], h: Head, c: Cursor, tag: u32, number: u32) -> Cursor
     requires { ⌜ Steady h (now w) c × (c .place < 65536) ⌝ }
     ensures { λ r. ⌜ Goes (afterStep WentOn (pushOn (laid (now (w .entry)) h c) (headWith h c) (record { tag = tag; number = number }))) (Only (c .place + 1)) h (now (w .entry)) c (now (w .exit)) r ⌝ }
@@ -19,12 +19,13 @@ pub fn push(w: &mut [u32], h: Head, c: Cursor, tag: u32, number: u32) -> Cursor
     if 8 <= c.pending {
         return c.halt();
     }
-    write(w, free(h, c), tag, number);
-    Cursor {
+    let up = Cursor {
         place: c.place + 1,
         pending: c.pending + 1,
         halted: false,
-    }
+    };
+    write(w, free(h, up) - 2, tag, number);
+    up
 }
 
 // The top value replaced.

@@ -12,7 +12,6 @@ use super::turn::step_on;
 use run_store::head::Head;
 use run_store::head::put_top;
 use run_store::head::read_head;
-use table::words::word_at;
 
 // The first entry that is not done, and where the top frame stands.
 pub struct Reached {
@@ -73,19 +72,17 @@ struct Span {
 }
 
 fn span_of(p: &[u16], m: u32) -> Span
-    ensures { λ r. ⌜ (r .first ≡ offsetOf (now (p .entry)) m) × (r .first < 65536) × ((i : ℕ) → r .first ≤ i → i < r .end → Inside (now (p .entry)) m i) ⌝ }
+    requires { ⌜ Kept (now p) ⌝ }
+    ensures { λ r. ⌜ (r .first < 65536) × ((i : ℕ) → r .first ≤ i → i < r .end → (r .first ≡ offsetOf (now (p .entry)) m) × Inside (now (p .entry)) m i) ⌝ }
 {
-    let first = word_at(p, 2 + 2 * (m as usize)) as u32;
-    if word_at(p, 0) <= m as usize {
-        return Span {
-            first: first,
-            end: 0,
-        };
+    if p[0] as u32 <= m {
+        return Span { first: 0, end: 0 };
     }
-    let length = word_at(p, 3 + 2 * (m as usize)) as u32;
+    let at = 2 + 2 * (m as usize);
+    let first = p[at] as u32;
     Span {
         first: first,
-        end: first + length,
+        end: first + p[at + 1] as u32,
     }
 }
 

@@ -1,5 +1,7 @@
--- `push` writes the next free value.
-use mathlib.Core.Path.{refl}
+-- `push` writes the new top value.
+use Prim.Native.Nat.{ℕ, _-_}
+use mathlib.Core.Path.{refl, _∙_, ap}
+use native.Mathlib.Omega.{arith}
 use Rattle.run_stretch.proofs.Laid.{halts}
 use Rattle.run_stretch.proofs.Shapes.{pushes}
 use borrow.Author.Needs.{needs}
@@ -12,23 +14,28 @@ halt-requires c κs = search needs
 returns : tie.Need-returns
 returns c = halts (c .before .before .before .before .pre .0) (c .halt .ensures) refl
 
+add-t8 : tie.Need-add-t8
+add-t8 c = search needs
+
+add-t9 : tie.Need-add-t9
+add-t9 c = search needs
+
 free-requires : tie.Need-free-requires
 free-requires c κs = search needs
 
+sub-write : tie.Need-sub-write
+sub-write c = search needs
+
 write-requires : tie.Need-write-requires
 write-requires c κs = search needs
-
-add-t11 : tie.Need-add-t11
-add-t11 c = search needs
-
-add-t12 : tie.Need-add-t12
-add-t12 c = search needs
 
 same-length : tie.Need-same-length
 same-length c = search needs
 
 returns-2 : tie.Need-returns-2
-returns-2 c = pushes (c .before .before .before .before .before .before .before .before .before .before .pre .0) (c .before .before .before .before .before .before .before .before .before .before .pre .1) (c .before .before .before .before .before .before .before .if1 .left) (record { tag = c .before .before .before .before .before .before .before .before .before .before .args .tag; number = c .before .before .before .before .before .before .before .before .before .before .args .number }) (c .before .before .before .before .before .free .ensures) (c .before .before .before .before .write .ensures)
+returns-2 c =
+    pushes (c .before .before .before .before .before .before .before .before .before .before .pre .0) (c .before .before .before .before .before .before .before .before .before .before .pre .1) (c .before .before .before .before .before .before .before .if1 .left) (record { tag = c .before .before .before .before .before .before .before .before .before .before .args .tag; number = c .before .before .before .before .before .before .before .before .before .before .args .number })
+    (ap (λ (i : ℕ). i - 2) (c .before .before .before .free .ensures) ∙ omega arith) (c .before .before .write .ensures)
 
 pub push-spec : {M : Type 1} → statement M
 push-spec =
@@ -36,9 +43,10 @@ push-spec =
     (tie.spec
     halt-requires
     returns
+    add-t8
+    add-t9
     free-requires
+    sub-write
     write-requires
-    add-t11
-    add-t12
     same-length
     returns-2)

@@ -35,14 +35,15 @@ run-frame-requires c κs =
     let pre = c .before .before .before .before .before .before .before .before .before .before .before .before .before .before .before .before .before .before .pre in
     let head = c .before .before .before .before .before .before .before .before .before .before .before .before .before .read-head .result in
     let fits = head-fits (head .frames) (head .pending) (c .before .before .before .before .before .before .before .if2 .left) in
-    let within = place-fits (head .place) (c .before .before .before .before .before .before .span-of .result .first) (c .before .before .before .before .before .before .span-of .result .end) (c .before .if3 .left) in (
+    let within = place-fits (head .place) (c .before .before .before .before .before .before .span-of .result .first) (c .before .before .before .before .before .before .span-of .result .end) (c .before .if3 .left) in
+    let inside = c .before .before .before .before .before .before .span-of .ensures .1 (head .place) (within .0) (within .1) in (
       steady-first (c .before .before .before .before .before .before .before .before .before .before .before .before .before .before .before .before .before .before .args .w .now) (c .before .before .before .before .before .before .before .before .before .before .before .before .before .read-head .ensures) (pre .3) (fits .0) (fits .1) (fits .2),
       c .before .before .before .before .before .before .before .before .before .before .before .if1 .left,
+      inside .0,
       c .before .before .before .before .before .before .span-of .ensures .0,
-      c .before .before .before .before .before .before .span-of .ensures .1,
       pre .0,
       pre .1,
-      c .before .before .before .before .before .before .span-of .ensures .2 (head .place) (within .0) (within .1),
+      inside .1,
       pre .2,
     )
 
