@@ -242,7 +242,8 @@ fn every_crate_is_listed() {
     let (_, members) = workspace.split_once("members = [").expect("the members");
     let (members, _) = members.split_once(']').expect("the members' end");
     let tested = members.split(", ").map(|name| name.trim_matches('"').to_string());
-    let heads = ["definitions and laws", "traces", "the check", "the run", "printing, and C", "crate"];
+    let heads =
+        ["definitions and laws", "traces", "the check", "the run", "printing, and C", "reading a LanQ text", "crate"];
     let expected: BTreeSet<String> = proved.chain(tested).chain(heads.map(str::to_string)).collect();
     assert_eq!(named, expected);
 }
