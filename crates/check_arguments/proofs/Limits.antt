@@ -101,7 +101,19 @@ module _ (p : List ℕ) (m a t : ℕ) (e : t ≡ slotType p m (a % 16)) (word : 
                             (
                               (
                                 (
-                                  ((((((((tt, no-argument), any-argument), at-most a 1 t), slot-argument), slot-argument), zero-only a t), slot-argument), zero-only a t),
+                                  (
+                                    (
+                                      (
+                                        (
+                                          ((((tt, no-argument), any-argument), at-most a 1 t), slot-argument),
+                                          slot-argument,
+                                        ),
+                                        zero-only a t,
+                                      ),
+                                      slot-argument,
+                                    ),
+                                    zero-only a t,
+                                  ),
                                   between a 3 t,
                                 ),
                                 at-most a 1 t,

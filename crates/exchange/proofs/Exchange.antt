@@ -87,7 +87,7 @@ module _ (p outcomes : List ℕ) where
     before xs = run p outcomes room xs .state
 
     -- what is known of the two entries, whether or not they stop or finish their processes
-    record Known (xs : List ℕ) (m n : ℕ) : Type 0 where
+    record Facts (xs : List ℕ) (m n : ℕ) : Type 0 where
       apart : m ≢ n
       first : Plain p outcomes m (processAt (before xs .config) m)
       second : Plain p outcomes n (processAt (before xs .config) n)
@@ -176,7 +176,7 @@ module _ (p outcomes : List ℕ) where
           (moved-other M (length xs) (before xs) (one .move) n (λ e. ne (sym e)))
           (omega (arith, ap (λ (r : Result). r .entries) step, total))
 
-      abbrev known : Known xs m n
+      abbrev known : Facts xs m n
       known = record {
         apart = ne;
         first = one;
@@ -193,7 +193,7 @@ module _ (p outcomes : List ℕ) where
           (running-gates (length xs) (before xs) m one r, running-gates (suc (length xs)) (between xs m) n later r′)
 
     -- one exchange
-    module _ (xs : List ℕ) (m n : ℕ) (ys : List ℕ) (c : Known xs m n) (P : ℕ → Type 0)
+    module _ (xs : List ℕ) (m n : ℕ) (ys : List ℕ) (c : Facts xs m n) (P : ℕ → Type 0)
         (kinds : All (λ e. P (e .kind)) (c .first .move .events) × All (λ e. P (e .kind)) (c .second .move .events))
       where
         abbrev k : ℕ

@@ -13,7 +13,7 @@ use Rattle.machine.proofs.Opened.{machine-opened}
 use Rattle.exchange.specs.Exchange.{leftOut, topOp, standsAt, movesAlone, movesOn, bothMoveOn, twoTaken, mayExchange}
 use Rattle.exchange.specs.Needed.{movesButAt, mayExchangeBut, left, twice, makingQubit, makingChannel, measuring, forking, joined, sending, receiving, bothReceiving, gating, Needed}
 
--- numbers to tell configurations apart by: of the value on top of process 0, of its place, of process 2's method
+-- numbers that set configurations apart: of the value on top of process 0, of its place, of process 2's method
 abbrev valueNo : Value → ℕ
 valueNo empty = 0
 valueNo (int (pos n)) = n
@@ -37,7 +37,8 @@ differ : (f : Config → ℕ) (i j : ℕ) (c d : Config) → f c ≡ i → f d �
 differ f i j c d a b ne e = ne (omega (arith, a, b, ap f e))
 
 pub needed : Needed
-unfolding machine-opened leftOut topOp standsAt movesAlone movesOn bothMoveOn twoTaken mayExchange movesButAt mayExchangeBut twice makingQubit makingChannel measuring forking joined sending receiving bothReceiving gating
+unfolding machine-opened leftOut topOp standsAt movesAlone movesOn bothMoveOn twoTaken mayExchange movesButAt
+    mayExchangeBut twice makingQubit makingChannel measuring forking joined sending receiving bothReceiving gating
 needed = record {
   gates = tt;
   gates-given = refl;

@@ -122,8 +122,8 @@ pub extern "C" fn lanq_holder(trace: &[u16], k: usize, qubit: u16) -> LanqHolder
     }
 }
 
-// The holder of a thing as a run has stored it in the work store: kind 3 a qubit, 5 and 6 the ends of a channel. 255 where the thing
-// is not made, 65535 where the store is too short or there is no such thing.
+// The holder of a thing as a run has stored it in the work store: kind 3 a qubit, 5 and 6 the ends of a channel. 255
+// where the thing is not made, 65535 where the store is too short or there is no such thing.
 #[no_mangle]
 pub extern "C" fn lanq_stored_holder(work: &[u32], kind: u64, number: u64) -> u16
     ensures { λ r. ⌜ r ≡ storedHolder (now (work .entry)) kind number ⌝ }

@@ -26,9 +26,11 @@ below-at zero i h = absurd (not-suc-le-zero h)
 below-at (suc n) i h = go (below-at n i) (ltb i n) refl
   where
     go : (i < n → getD (below n) i 0 ≡ i) → (b : Bool) → ltb i n ≡ b → getD (below n ++ (n ∷ [])) i 0 ≡ i
-    go lower true e = List·getD-append (below n) (n ∷ []) 0 i (omega (arith, below-length n, ltb-true i n e)) ∙ lower (ltb-true i n e)
+    go lower true e =
+        List·getD-append (below n) (n ∷ []) 0 i (omega (arith, below-length n, ltb-true i n e)) ∙ lower (ltb-true i n e)
     go lower false e =
-        ap (λ (j : ℕ). getD (below n ++ (n ∷ [])) j 0) {x = i} {y = length (below n) + 0} (omega (arith, h, below-length n, ltb-false i n e))
+        ap (λ (j : ℕ). getD (below n ++ (n ∷ [])) j 0) {x = i} {y = length (below n) + 0}
+        (omega (arith, h, below-length n, ltb-false i n e))
         ∙ getD-append-add (below n) (n ∷ []) 0 0
         ∙ omega (arith, h, ltb-false i n e)
 
@@ -53,13 +55,15 @@ same-list [] [] e h = refl
 same-list [] (y ∷ ys) e h = absurd (omega (arith, e))
 same-list (x ∷ xs) [] e h = absurd (omega (arith, e))
 same-list (x ∷ xs) (y ∷ ys) e h =
-    ap₂ (λ (z : ℕ) (zs : List ℕ). z ∷ zs) (h 0 (omega arith)) (same-list xs ys (omega (arith, e)) (λ i l. h (suc i) (omega (arith, l))))
+    ap₂ (λ (z : ℕ) (zs : List ℕ). z ∷ zs) (h 0 (omega arith))
+    (same-list xs ys (omega (arith, e)) (λ i l. h (suc i) (omega (arith, l))))
 
 -- these words are those of the lines
 pub words-are : (ws : List ℕ) (ls : List Line) → length ws ≡ 64
     → ((i : ℕ) → i < 64 → getD ws i 0 ≡ holderNo (holder ls (thingAt i))) → ws ≡ holderWords ls
 words-are ws ls e h =
-    same-list ws (holderWords ls) (e ∙ sym (words-length ls)) (λ i l. h i (omega (arith, e)) ∙ sym (words-at ls i (omega (arith, e))))
+    same-list ws (holderWords ls) (e ∙ sym (words-length ls))
+    (λ i l. h i (omega (arith, e)) ∙ sym (words-at ls i (omega (arith, e))))
 
 pub no-holder-words : replicate 64 255 ≡ holderWords []
 unfolding holderWords below holder holderNo
@@ -73,11 +77,18 @@ qubit-at q h = rw (lt-ltb q 32 h)
 
 pub end-at : (c : ℕ) (d : Bool) → c < 16 → thingAt (32 + 2 * c + sideNo d) ≡ end c d
 unfolding thingAt
-end-at c d h = ap (λ (b : Bool). cond b (qubit (32 + 2 * c + sideNo d)) (end ((32 + 2 * c + sideNo d - 32) / 2) (sideOf ((32 + 2 * c + sideNo d - 32) % 2)))) (le-ltb (32 + 2 * c + sideNo d) 32 (omega arith)) ∙ side d
+end-at c d h =
+    ap (λ (b : Bool). cond b (qubit (32 + 2 * c + sideNo d))
+    (end ((32 + 2 * c + sideNo d - 32) / 2) (sideOf ((32 + 2 * c + sideNo d - 32) % 2))))
+    (le-ltb (32 + 2 * c + sideNo d) 32 (omega arith)) ∙ side d
   where
     side : (d : Bool) → end ((32 + 2 * c + sideNo d - 32) / 2) (sideOf ((32 + 2 * c + sideNo d - 32) % 2)) ≡ end c d
-    side true = ap₂ (λ (i : ℕ) (j : ℕ). end i (sideOf j)) {x = (32 + 2 * c + 1 - 32) / 2} {y = c} {u = (32 + 2 * c + 1 - 32) % 2} {v = 1} (omega arith) (omega arith)
-    side false = ap₂ (λ (i : ℕ) (j : ℕ). end i (sideOf j)) {x = (32 + 2 * c + 0 - 32) / 2} {y = c} {u = (32 + 2 * c + 0 - 32) % 2} {v = 0} (omega arith) (omega arith)
+    side true =
+        ap₂ (λ (i : ℕ) (j : ℕ). end i (sideOf j)) {x = (32 + 2 * c + 1 - 32) / 2} {y = c}
+        {u = (32 + 2 * c + 1 - 32) % 2} {v = 1} (omega arith) (omega arith)
+    side false =
+        ap₂ (λ (i : ℕ) (j : ℕ). end i (sideOf j)) {x = (32 + 2 * c + 0 - 32) / 2} {y = c}
+        {u = (32 + 2 * c + 0 - 32) % 2} {v = 0} (omega arith) (omega arith)
 
 -- every index is that of a qubit or of an end
 pub data Place : ℕ → Type 0 where
@@ -89,7 +100,8 @@ place-of i h = go (ltb i 32) refl
   where
     at-end : 32 ≤ i → (d : Bool) → (i - 32) % 2 ≡ sideNo d → Place i
     at-end l d e =
-        subst Place {x = 32 + 2 * ((i - 32) / 2) + sideNo d} {y = i} (omega (arith, l, e)) (of-end ((i - 32) / 2) d (omega (arith, h, l)))
+        subst Place {x = 32 + 2 * ((i - 32) / 2) + sideNo d} {y = i} (omega (arith, l, e))
+        (of-end ((i - 32) / 2) d (omega (arith, h, l)))
 
     even : 32 ≤ i → (b : Bool) → eqb ((i - 32) % 2) 0 ≡ b → Place i
     even l true e = at-end l false (eqb-true ((i - 32) % 2) 0 e)

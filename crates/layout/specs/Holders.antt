@@ -1,6 +1,6 @@
--- Paper 7: "Store the holder of all 32 qubits and 32 ends in the configuration, on words beyond the present ones": the 64
--- words after those of the configuration, and the work store that a run leaves. The stored holder is the one that the lines
--- give; docs/LAYOUT.md has the same in words.
+-- Paper 7: "Store the holder of all 32 qubits and 32 ends in the configuration, on words beyond the present ones": the
+-- 64 words after those of the configuration, and the work store that a run leaves. The stored holder is the one that
+-- the lines give; docs/LAYOUT.md has the same in words.
 use Prim.Native.Nat.{ℕ, _-_, _/_, _%_}
 use mathlib.Core.Bool.{cond}
 use mathlib.Core.List.{List, _++_, map}

@@ -1,7 +1,7 @@
 -- Laws of tests: what a passed or failed test says, and case distinctions on one.
-use mathlib.Core.Path.{_≡_, refl, sym, subst}
+use mathlib.Core.Path.{_≡_, refl, sym, _∙_, subst}
 use mathlib.Core.Logic.{_⊎_, inl, inr}
-use mathlib.Core.Bool.{Bool, true, false, cond, _&&_, _||_}
+use mathlib.Core.Bool.{Bool, true, false, cond, not, _&&_, _||_, true≢false}
 use lib.Dec.{T}
 
 -- a test is passed or not, with the equation
@@ -57,3 +57,23 @@ pub cond-each : {A : Type 0} (P : A → Type 0) (b : Bool) {x y : A} → (b ≡ 
     → P (cond b x y)
 cond-each P true p q = p refl
 cond-each P false p q = q refl
+
+-- a test that passed, and one that failed, in front of an answer
+pub took : {A : Type 0} {b : Bool} (t : Bool) (x y : A) {z : A} → b ≡ t → b ≡ true → z ≡ x → z ≡ cond t x y
+took t x y e p q = rw (sym e ∙ p) q
+
+pub passed-by : {A : Type 0} {b : Bool} (t : Bool) (x y : A) {z : A} → b ≡ t → b ≡ false → z ≡ y → z ≡ cond t x y
+passed-by t x y e p q = rw (sym e ∙ p) q
+
+-- a test that was negated
+pub off : (b : Bool) → not b ≡ true → b ≡ false
+off true e = sym e
+off false e = refl
+
+pub on : (b : Bool) → not b ≡ false → b ≡ true
+on true e = refl
+on false e = sym e
+
+-- no test both fails and passes
+pub never : {A : Type 0} → false ≡ true → A
+never e = absurd (true≢false (sym e))

@@ -42,7 +42,8 @@ busy-ints : (a : At) (k : ℤ → ℤ → Act) → ((x y : ℤ) → Busy (k x y)
 busy-ints a k h = on-int Busy tt (operand a 1) _ (λ x. on-int Busy tt (operand a 0) _ (λ y. h x y))
 
 busy : All (λ (d : At → Act). (a : At) → Busy (d a)) doings
-unfolding doings doNothing doInt doBool doGet doPut doDrop doClear doNewQ doNewC doEnd doMeas doCall doRet doFork doSend doRecv doJump doJFalse doAdd doSub doEq doLess doNot
+unfolding doings doNothing doInt doBool doGet doPut doDrop doClear doNewQ doNewC doEnd doMeas doCall doRet doFork
+    doSend doRecv doJump doJFalse doAdd doSub doEq doLess doNot
 busy = (
   λ a. tt,
   (
@@ -87,7 +88,14 @@ busy = (
                                           λ a. busy-ints a _ (λ x y. cond-both Busy (inRange (x -ℤ y)) tt tt),
                                           (
                                             λ a. busy-ints a _ (λ x y. tt),
-                                            (λ a. busy-ints a _ (λ x y. tt), (λ a. on-bool Busy tt (operand a 0) _ (λ b. tt), tt)),
+                                            (
+                                              λ a. busy-ints a _ (λ x y. tt),
+                                              (
+                                                λ a. on-bool Busy tt (operand a 0) _
+                                                    (λ b. tt),
+                                                tt,
+                                              ),
+                                            ),
                                           ),
                                         ),
                                       ),

@@ -189,7 +189,11 @@ call-sound ks a r =
     let callee =
     started-typed p (r .kept) (λ t. tt) (a .argument) (reverse (a .operands)) (ltb-yes (r .argument)) args in
     cond-each (TypedAt ks a) (ltb (suc (length (a .callers))) 8)
-    (λ e. record { stack = (callee, gives-typed g (r .next refl) .stack); depth = ltb-true (suc (length (a .callers))) 8 e })
+    (λ e. record {
+      stack = (callee, gives-typed g (r .next refl) .stack);
+      depth = ltb-true (suc (length (a .callers)))
+          8 e;
+    })
     (λ e. omega arith)
 
 ret-sound : DoingSound opRet doRet
@@ -286,7 +290,8 @@ eq-sound ks a r = let (x, y, d, e, g) = two-ints r (2 ∷ []) (r .rule) in rw (d
 
 less-sound : DoingSound opCompare doLess
 unfolding opCompare doLess
-less-sound ks a r = let (x, y, d, e, g) = two-ints r (2 ∷ []) (r .rule) in rw (d, e) (pushes-typed g (r .next refl) refl)
+less-sound ks a r =
+    let (x, y, d, e, g) = two-ints r (2 ∷ []) (r .rule) in rw (d, e) (pushes-typed g (r .next refl) refl)
 
 not-sound : DoingSound opNot doNot
 unfolding opNot doNot

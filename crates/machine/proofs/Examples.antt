@@ -5,4 +5,17 @@ use Rattle.machine.proofs.Opened.{machine-opened}
 
 pub examples : Examples
 unfolding machine-opened
-examples = record { full = refl; measured = refl; measured-lines = refl; twice = refl; itself = refl; itself-lines = refl; stopped = refl; stopped-lines = refl; unreached = refl; twice-above = refl; twice-before = refl }
+examples =
+    record {
+      full = refl;
+      measured = refl;
+      measured-lines = refl;
+      twice = refl;
+      itself = refl;
+      itself-lines = refl;
+      stopped = refl;
+      stopped-lines = refl;
+      unreached = refl;
+      twice-above = refl;
+      twice-before = refl;
+    }

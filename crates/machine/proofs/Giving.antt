@@ -84,7 +84,8 @@ lost-common ts x (ref w) r c =
     (λ t u. ⊎-elim (or-left (covers t w) (covers w t)) (or-right (covers t w) (covers w t)) (covers-common t w x u r))
     ts c
 
-value-remains : (ys : List Value) (ts : List Thing) (x : Thing) (v : Value) → Within ys v → Remains ys ts x (without ts v)
+value-remains : (ys : List Value) (ts : List Thing) (x : Thing) (v : Value) → Within ys v
+    → Remains ys ts x (without ts v)
 unfolding without names
 value-remains ys ts x v w =
     cond-each (Remains ys ts x) (any (λ t. lostWith t v) ts) (λ e r. absurd r)
@@ -185,7 +186,8 @@ pub count-joined : (c : Config) (pr : Process) → length (joined c pr .processe
 unfolding joined
 count-joined c pr = omega (arith, length-append (c .processes) (pr ∷ []))
 
-pub joined-old : (c : Config) (pr : Process) (m : ℕ) → m < length (c .processes) → processAt (joined c pr) m ≡ processAt c m
+pub joined-old : (c : Config) (pr : Process) (m : ℕ) → m < length (c .processes)
+    → processAt (joined c pr) m ≡ processAt c m
 unfolding processAt joined
 joined-old c pr m h = List·getD-append (c .processes) (pr ∷ []) unmade m h
 

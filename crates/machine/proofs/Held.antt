@@ -16,5 +16,6 @@ module _ (p outcomes : List ℕ) (room : ℕ) (schedule : List ℕ) where
   pub made-held : (x : Thing) → Made (after .config) x → (q : ℕ) × Holds (after .lines) q x
   made-held = run-kept p outcomes room schedule .held
 
-  pub held-made : (x : Thing) (q : ℕ) → Holds (after .lines) q x → Made (after .config) x × (q < length (after .config .processes))
+  pub held-made : (x : Thing) (q : ℕ) → Holds (after .lines) q x
+      → Made (after .config) x × (q < length (after .config .processes))
   held-made = run-kept p outcomes room schedule .holding

@@ -100,7 +100,12 @@ pub lines-quiet : (ys : List Value) (above : List Line) (k n : ℕ) (es : List E
 lines-quiet ys above k n [] held a = tt
 lines-quiet ys above k n (e ∷ es) held a = (
   record {
-    gate = λ i. record { first = held (qubit (e .b)) (a .0 .gate i .0); second = λ j. held (qubit (e .c)) (a .0 .gate i .1 j) };
+    gate =
+        λ i. record {
+          first = held (qubit (e .b)) (a .0 .gate i .0);
+          second = λ j. held (qubit (e .c))
+              (a .0 .gate i .1 j);
+        };
     measurement = λ i. held (qubit (e .a)) (a .0 .measurement i);
     meeting = λ i. absurd (a .0 .notMet i);
     giving = λ i. absurd (a .0 .notGiven i);
@@ -163,7 +168,8 @@ lines-given above k n q [] g = tt
 lines-given above k n q (t ∷ ts) g = (
   line-gave above k n q t (λ x c. g x (or-left (covers t x) (covered ts x) c)),
   lines-given (above ++ (lineOf k n (gave q t) ∷ [])) k n q ts
-      (λ x c. givable-more above k n q (lineOf k n (gave q t)) x refl (after x) (g x (or-right (covers t x) (covered ts x) c))),
+      (λ x c. givable-more above k n q (lineOf k n (gave q t)) x refl (after x)
+      (g x (or-right (covers t x) (covered ts x) c))),
 )
   where
     after : (x : Thing) → (holderAfter x (holder above x) (lineOf k n (gave q t)) ≡ holder above x)

@@ -94,7 +94,8 @@ module _ (p outcomes : List ℕ) (h : NoTwo outcomes) where
 
   -- so the two machines are one
   one-machine : tableMachine p outcomes ≡ machineBefore p outcomes
-  one-machine = λ i. record { act = λ s n. acts-before s n i; starts = started p; loses = framesWithout; gets = pushTop }
+  one-machine =
+      λ i. record { act = λ s n. acts-before s n i; starts = started p; loses = framesWithout; gets = pushTop }
 
   pub ran-before : (room : ℕ) (schedule : List ℕ) → run p outcomes room schedule ≡ runBefore p outcomes room schedule
   ran-before room schedule = ap (λ (m : MachineOf Frame). runIn m room schedule) one-machine

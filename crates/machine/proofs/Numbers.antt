@@ -91,8 +91,15 @@ numbered-making c ls k n (qubit a) e h = record {
   qubits = ap suc (h .qubits) ∙ sym (one-more 1 ls l refl);
   channels = h .channels ∙ sym (none-more 2 ls l (omega arith));
   processes = h .processes ∙ ap suc (sym (none-more 5 ls l (omega arith)));
-  new = each-append LineNew [] ls (l ∷ []) (h .new)
-      (record { qubit = λ i. e ∙ h .qubits; channel = λ i. absurd (omega (arith, i)); child = λ i. absurd (omega (arith, i)) }, tt);
+  new = each-append LineNew [] ls (l ∷ []) (h .new) (
+    record {
+      qubit = λ i. e ∙ h .qubits;
+      channel = λ i. absurd (omega (arith, i));
+      child = λ i. absurd
+          (omega (arith, i));
+    },
+    tt,
+  );
 }
   where
     l : Line
@@ -101,8 +108,15 @@ numbered-making c ls k n (channel a) e h = record {
   qubits = h .qubits ∙ sym (none-more 1 ls l (omega arith));
   channels = ap suc (h .channels) ∙ sym (one-more 2 ls l refl);
   processes = h .processes ∙ ap suc (sym (none-more 5 ls l (omega arith)));
-  new = each-append LineNew [] ls (l ∷ []) (h .new)
-      (record { qubit = λ i. absurd (omega (arith, i)); channel = λ i. e ∙ h .channels; child = λ i. absurd (omega (arith, i)) }, tt);
+  new = each-append LineNew [] ls (l ∷ []) (h .new) (
+    record {
+      qubit = λ i. absurd (omega (arith, i));
+      channel = λ i. e ∙ h .channels;
+      child = λ i. absurd
+          (omega (arith, i));
+    },
+    tt,
+  );
 }
   where
     l : Line
@@ -116,8 +130,15 @@ numbered-fork c ls k n child m params pr e h = record {
   qubits = h .qubits ∙ sym (none-more 1 ls l (omega arith));
   channels = h .channels ∙ sym (none-more 2 ls l (omega arith));
   processes = omega (arith, length-append (c .processes) (pr ∷ []), h .processes, one-more 5 ls l refl);
-  new = each-append LineNew [] ls (l ∷ []) (h .new)
-      (record { qubit = λ i. absurd (omega (arith, i)); channel = λ i. absurd (omega (arith, i)); child = λ i. e ∙ h .processes }, tt);
+  new = each-append LineNew [] ls (l ∷ []) (h .new) (
+    record {
+      qubit = λ i. absurd (omega (arith, i));
+      channel = λ i. absurd (omega (arith, i));
+      child = λ i. e
+          ∙ h .processes;
+    },
+    tt,
+  );
 }
   where
     l : Line

@@ -11,5 +11,13 @@ use Rattle.machine.specs.Cases.{tableOf, workedTable, workedSchedule, wo
 use Rattle.machine.specs.Examples.{measuringOnce, givenTwice, sendToItself, receiveFrom, keptUnreached, stoppedChild}
 
 unfoldable pub machine-opened : Unit {0}
-unfolding table-opened covers thingKind thingNo inRange word32 signed16 eqZ valueWord processAt setProcess started startConfigWith startWith doInt doBool doGet doPut doDrop doClear doNewQ doNewC doEnd doGateOne doGateTwo doGate doMeas doCall doRet doFork doSend doRecv doJump doJFalse doAdd doSub doEq doLess doNot doNothing doings doingOf passedBy sceneOf atFrame atFrames byStatus actOf lostWith without frameWithout framesWithout thingsOf joins offered meetsWith meetingIn isGone gone judged counted making joined forkingIn pushTop handing meetIn meetIfIn appliedIn effectIn faulted faultIn isMeeting movesIn ableIn allOver noneAbleIn fits afterEffect runFromIn runIn names valuesOf reaches holderAfter holder resultAnswer unlessRefused answerOf lineWords traceWords traceAfter tableOf workedTable workedSchedule workedTrace makingQubits largestPlus twiceOneQubit givenDuringCall sendToGone silentLoop linesBefore countKind measuringOnce givenTwice sendToItself receiveFrom keptUnreached stoppedChild
+unfolding table-opened covers thingKind thingNo inRange word32 signed16 eqZ valueWord processAt setProcess started
+    startConfigWith startWith doInt doBool doGet doPut doDrop doClear doNewQ doNewC doEnd doGateOne doGateTwo doGate
+    doMeas doCall doRet doFork doSend doRecv doJump doJFalse doAdd doSub doEq doLess doNot doNothing doings doingOf
+    passedBy sceneOf atFrame atFrames byStatus actOf lostWith without frameWithout framesWithout thingsOf joins offered
+    meetsWith meetingIn isGone gone judged counted making joined forkingIn pushTop handing meetIn meetIfIn appliedIn
+    effectIn faulted faultIn isMeeting movesIn ableIn allOver noneAbleIn fits afterEffect runFromIn runIn names
+    valuesOf reaches holderAfter holder resultAnswer unlessRefused answerOf lineWords traceWords traceAfter tableOf
+    workedTable workedSchedule workedTrace makingQubits largestPlus twiceOneQubit givenDuringCall sendToGone silentLoop
+    linesBefore countKind measuringOnce givenTwice sendToItself receiveFrom keptUnreached stoppedChild
 machine-opened = tt

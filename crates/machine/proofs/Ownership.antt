@@ -1,7 +1,7 @@
 -- Demand 3 over the whole schedule. The invariant: whatever a process reaches, the lines so far name it as holder, and
 -- it was made; every line is lawful by the lines above it; and numbers are given out in order (Numbers.antt). One lemma
--- carries reach and holders over any entry: whatever the entry did, some things went to one process by its lines, and beyond
--- them nobody reaches more than before.
+-- carries reach and holders over any entry: whatever the entry did, some things went to one process by its lines, and
+-- beyond them nobody reaches more than before.
 use Prim.Native.Nat.{ℕ, zero, suc, _≤_, _<_}
 use mathlib.Core.Path.{_≡_, refl, sym, _∙_, ap, subst}
 use mathlib.Core.Logic.{_≢_, _⊎_, inl, inr, ⊎-elim}
@@ -87,8 +87,11 @@ transfer-keeps c c′ ls new q ts v h = record {
   where
     holds : (x : Thing) (n : ℕ) (b : Bool) → covered ts x ≡ b → cond b (some q) (holder ls x) ≡ some n
         → Made c′ x × (n < length (c′ .processes))
-    holds x n true i r =
-        (v .fresh x (passes i), subst (λ (m : ℕ). m < length (c′ .processes)) (Option·some-injective q n r) (v .taker x (passes i)))
+    holds x n true i r = (
+      v .fresh x (passes i),
+      subst (λ (m : ℕ). m < length (c′ .processes)) (Option·some-injective q n r)
+          (v .taker x (passes i)),
+    )
     holds x n false i r = let w = h .holding x n r in (v .still x (w .0), omega (arith, w .1, v .grown))
 
     given : (x : Thing) (n : ℕ) → (n ≡ q) × T (covered ts x) → cond (covered ts x) (some q) (holder ls x) ≡ some n
@@ -252,7 +255,8 @@ module _ (c : Config) (ls : List Line) (h : Kept c ls) (k n : ℕ) where
   line-making (end a s) =
       line-free ls (lineOf k n (making (end a s))) (omega arith) (omega arith) (omega arith) (omega arith)
 
-  moved-making : n < length (c .processes) → (t : Thing) (fs : List Frame) → Next (c .qubits) (c .channels) t → FramesWithin (ref t ∷ own) fs
+  moved-making : n < length (c .processes) → (t : Thing) (fs : List Frame) → Next (c .qubits) (c .channels) t
+      → FramesWithin (ref t ∷ own) fs
       → Transfer c (counted t (setProcess c n (runs fs))) ls (lineOf k n (making t) ∷ []) n (t ∷ [])
   unfolding reaches names
   moved-making made t fs e w = record {
@@ -357,7 +361,8 @@ module _ (c : Config) (ls : List Line) (h : Kept c ls) (k n : ℕ) where
           count-joined (setProcess c n (runs (framesWithout ts fs))) (runs (started p m args ∷ []))
           ∙ ap suc (count-set c n (runs (framesWithout ts fs)))
 
-      still : (x : Thing) → Made c x → Made (joined (setProcess c n (runs (framesWithout ts fs))) (runs (started p m args ∷ []))) x
+      still : (x : Thing) → Made c x
+          → Made (joined (setProcess c n (runs (framesWithout ts fs))) (runs (started p m args ∷ []))) x
       still x e =
           still-joined (setProcess c n (runs (framesWithout ts fs))) (runs (started p m args ∷ [])) x
           (still-set c n (runs (framesWithout ts fs)) x e)
@@ -379,7 +384,8 @@ module _ (c : Config) (ls : List Line) (h : Kept c ls) (k n : ℕ) where
 
   moved-meeting : Dated k ls → (q ch : ℕ) (d : Bool) (v : Value) (fs gs : List Frame) → n ≢ q
       → OfferWithin own (sends ch d v fs) → OfferWithin (valuesOf (processAt c q .frames)) (receives ch (not d) gs)
-      → Transfer c (setProcess (setProcess c n (runs (framesWithout (thingsOf (v ∷ [])) fs))) q (runs (pushTop v gs))) ls
+      → Transfer c (setProcess (setProcess c n (runs (framesWithout (thingsOf (v ∷ [])) fs))) q (runs (pushTop v gs)))
+      ls
       (map (lineOf k n) (met q ch d ∷ handing q v))
       q
       (thingsOf (v ∷ []))
@@ -407,7 +413,8 @@ module _ (c : Config) (ls : List Line) (h : Kept c ls) (k n : ℕ) where
     lines = (
       line-met q ch d ne (h .named (end ch d) n (hs .0)) (h .named (end ch (not d)) q (hr .0)),
       lines-handing (ls ++ (lineOf k n (met q ch d) ∷ [])) k n q v
-          (givable dated q ts (λ l. ne) (things-within own (v ∷ []) (hs .1, tt)) (met q ch d) (omega arith) (omega arith) (omega arith)),
+          (givable dated q ts (λ l. ne) (things-within own (v ∷ []) (hs .1, tt)) (met q ch d) (omega arith)
+          (omega arith) (omega arith)),
     );
   }
     where
@@ -558,7 +565,8 @@ moved-met p outcomes k s (some e) dated h j =
 makes≢idle : (t : Thing) (fs : List Frame) → _≢_ {A = Act} (makes t fs) idle
 makes≢idle t fs e = let z : _≡_ {A = ℕ} 0 1 = cc in omega arith
 
-applied-moved : (p outcomes : List ℕ) (k : ℕ) (s : State) (n : ℕ) → Dated k (s .lines) → Kept (s .config) (s .lines) → (act : Act)
+applied-moved : (p outcomes : List ℕ) (k : ℕ) (s : State) (n : ℕ) → Dated k (s .lines) → Kept (s .config) (s .lines)
+    → (act : Act)
     → (act ≢ idle → n < length (s .config .processes))
     → ActWithin (valuesOf (processAt (s .config) n .frames)) (s .config .qubits) (s .config .channels) act
     → SomeTransfer s (applied p outcomes k s n act)
@@ -568,7 +576,8 @@ applied-moved p outcomes k s n dated h stuck made w = (0, [], transfer-nothing (
 applied-moved p outcomes k s n dated h (faults f) made w = (
   n,
   [],
-  moved-within (s .config) (s .lines) h k n (record { status = stopped f; frames = processAt (s .config) n .frames }) (stops f ∷ [])
+  moved-within (s .config) (s .lines) h k n (record { status = stopped f; frames = processAt (s .config) n .frames })
+      (stops f ∷ [])
       (frames-own (processAt (s .config) n .frames) (valuesOf (processAt (s .config) n .frames)) (λ t u. u))
       (quiet-stops (valuesOf (processAt (s .config) n .frames)) f, tt),
 )
@@ -591,7 +600,8 @@ applied-moved p outcomes k s n dated h (offers o) made w =
     moved-met p outcomes k s (meetingOf p outcomes s n o) dated h (λ e i. meeting-joined p outcomes s n o e w i)
 
 -- whoever acts was made
-acting-made : (p outcomes : List ℕ) (s : State) (n : ℕ) → judged s n (actOf p outcomes s n) ≢ idle → n < length (s .config .processes)
+acting-made : (p outcomes : List ℕ) (s : State) (n : ℕ) → judged s n (actOf p outcomes s n) ≢ idle
+    → n < length (s .config .processes)
 unfolding judged
 acting-made p outcomes s n ne =
     ⊎-elim (ltb-true n (length (s .config .processes)))
@@ -604,7 +614,8 @@ unfolding effectIn
 entry-kept p outcomes k s n dated h =
     let w = applied-moved p outcomes k s n dated h (judged s n (actOf p outcomes s n)) (acting-made p outcomes s n)
     (judged-within p outcomes s n) in
-    transfer-keeps (s .config) (effectOf p outcomes k s n .config) (s .lines) (effectOf p outcomes k s n .lines) (w .0) (w .1) (w .2) h
+    transfer-keeps (s .config) (effectOf p outcomes k s n .config) (s .lines) (effectOf p outcomes k s n .lines) (w .0)
+    (w .1) (w .2) h
 
 -- the run
 

@@ -204,7 +204,8 @@ some-running [] n e = absurd (none e)
         Ended running = ⊥
         Ended finished = Unit {0}
         Ended (stopped f) = Unit {0}
-some-running (pr ∷ prs) zero e = ap (λ (st : Status). isOver (record { status = st; frames = pr .frames }) && every isOver prs) e
+some-running (pr ∷ prs) zero e =
+    ap (λ (st : Status). isOver (record { status = st; frames = pr .frames }) && every isOver prs) e
 some-running (pr ∷ prs) (suc n) e = ap (λ (b : Bool). isOver pr && b) (some-running prs n e) ∙ and-false (isOver pr)
   where
     and-false : (b : Bool) → (b && false) ≡ false

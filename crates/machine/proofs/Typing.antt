@@ -158,7 +158,10 @@ module _ (p : List ℕ) {R S : Value → ℕ → Type 0} where
       → Frames p R owed fs → Frames p S owed fs
   frames-implies g [] h = absurd (h .stack)
   frames-implies g (f ∷ fs) h =
-      record { stack = (frame-implies g (h .stack .0), callers-implies g (f .method) fs (h .stack .1)); depth = h .depth }
+      record {
+        stack = (frame-implies g (h .stack .0), callers-implies g (f .method) fs (h .stack .1));
+        depth = h .depth;
+      }
 
 -- Processes
 

@@ -35,8 +35,10 @@ status-running pr e = go (pr .status) refl
   where
     go : (st : Status) → pr .status ≡ st → st ≡ running
     go running i = refl
-    go finished i = absurd (true≢false (sym (ap (λ (x : Status). isOver (record { status = x; frames = pr .frames })) i) ∙ e))
-    go (stopped f) i = absurd (true≢false (sym (ap (λ (x : Status). isOver (record { status = x; frames = pr .frames })) i) ∙ e))
+    go finished i =
+        absurd (true≢false (sym (ap (λ (x : Status). isOver (record { status = x; frames = pr .frames })) i) ∙ e))
+    go (stopped f) i =
+        absurd (true≢false (sym (ap (λ (x : Status). isOver (record { status = x; frames = pr .frames })) i) ∙ e))
 
 or-false-left : (a b : Bool) → (a || b) ≡ false → a ≡ false
 or-false-left true b e = e

@@ -71,11 +71,27 @@ unfoldable pub joins : {F : Type 0} → ℕ → OfferOf F → ℕ → OfferOf F 
 joins n (sends c d v fs) q (sends c′ d′ w gs) = none
 joins n (sends c d v fs) q (receives c′ d′ gs) =
     cond (eqb c c′ && Bool·beq d (not d′))
-    (some (record { sender = n; receiver = q; channel = c; side = d; value = v; senderFrames = fs; receiverFrames = gs }))
+    (some (record {
+      sender = n;
+      receiver = q;
+      channel = c;
+      side = d;
+      value = v;
+      senderFrames = fs;
+      receiverFrames = gs;
+    }))
     none
 joins n (receives c d fs) q (sends c′ d′ w gs) =
     cond (eqb c c′ && Bool·beq d (not d′))
-    (some (record { sender = q; receiver = n; channel = c′; side = d′; value = w; senderFrames = gs; receiverFrames = fs }))
+    (some (record {
+      sender = q;
+      receiver = n;
+      channel = c′;
+      side = d′;
+      value = w;
+      senderFrames = gs;
+      receiverFrames = fs;
+    }))
     none
 joins n (receives c d fs) q (receives c′ d′ gs) = none
 

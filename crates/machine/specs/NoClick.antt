@@ -1,6 +1,6 @@
 -- Paper 3: "A run without any 2 gives what it gave before." Here is what stood before Paper 3 where the paper moved
 -- something, and document 01's own rule of MEAS, which knows the outcomes 0 and 1 alone. That a run without any 2
--- cannot tell the difference is proved in proofs/NoClick.antt.
+-- finds no difference is proved in proofs/NoClick.antt.
 use Prim.Native.Nat.{ℕ}
 use mathlib.Core.Bool.{cond}
 use mathlib.Core.List.{List, [], _∷_}

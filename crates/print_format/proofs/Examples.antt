@@ -48,5 +48,6 @@ pub record Examples : Type 0 where
       ≡ refusedText 1 0
 
 pub examples : Examples
-unfolding machine-opened workedFile workedText numberAt wellBuilt partOf wordsOf refusedWord endWord digits decimal spaced column columnsUsed lineText linesText refusedText answerText runText printed
+unfolding machine-opened workedFile workedText numberAt wellBuilt partOf wordsOf refusedWord endWord digits decimal
+    spaced column columnsUsed lineText linesText refusedText answerText runText printed
 examples = record { worked = refl; short = refl; long = refl; none = refl; no-program = refl }

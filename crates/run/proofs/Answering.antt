@@ -50,7 +50,8 @@ module _ (p schedule outcomes trace work : List ℕ) where
   refuses c {v} asked said ne = go verdict refl
     where
       go : (x : Verdict) → verdict ≡ x
-          → (refusal (v .number) (v .place) ≡ machine.unlessRefused x (run p outcomes (linesIn (length trace)) schedule))
+          → (refusal (v .number) (v .place) ≡ machine.unlessRefused x
+          (run p outcomes (linesIn (length trace)) schedule))
           ×
           (trace ≡ keptIfRefused x trace
           (traceAfter (run p outcomes (linesIn (length trace)) schedule .state .lines) trace))
@@ -72,8 +73,10 @@ module _ (p schedule outcomes trace work : List ℕ) where
         ∙ sym (ap (λ (x : Verdict). machine.unlessRefused x (run p outcomes (linesIn (length trace)) schedule)) ok),
     ap (λ (l : AfterRun). l .trace) e
         ∙ sym
-        (ap (λ (x : Verdict). keptIfRefused x trace (traceAfter (run p outcomes (linesIn (length trace)) schedule .state .lines) trace)) ok),
+        (ap (λ (x : Verdict). keptIfRefused x trace (traceAfter
+        (run p outcomes (linesIn (length trace)) schedule .state .lines) trace)) ok),
     ap (λ (l : AfterRun). l .work) e
         ∙ sym
-        (ap (λ (x : Verdict). keptIfRefused x work (storeAfter (run p outcomes (linesIn (length trace)) schedule .state) work)) ok),
+        (ap (λ (x : Verdict). keptIfRefused x work (storeAfter
+        (run p outcomes (linesIn (length trace)) schedule .state) work)) ok),
   )

@@ -12,7 +12,7 @@ use Rattle.machine.specs.State.{Line, State}
 use Rattle.machine.specs.Entry.{effectOf}
 use Rattle.machine.specs.Run.{Result, allOver, noneAble, fits, afterEffect, runFrom, run, runFromIn, runIn}
 use Rattle.machine.specs.Owner.{holder}
-use Rattle.machine.specs.Answer.{Answer, refusal, ran, resultAnswer, answerOf, linesIn, lineWords, traceWords, traceAfter}
+use Rattle.machine.specs.Answer.{Answer, refusal, ran, resultAnswer, answerOf, linesIn, traceWords, traceAfter}
 use Rattle.machine.specs.Answer as machine
 use Rattle.machine.specs.Sound.{ConfigSound}
 use Rattle.machine.proofs.Sound.{sound}
@@ -23,15 +23,10 @@ use Rattle.layout.specs.Places.{InStore}
 use Rattle.layout.proofs.RoundTrip.{encode-length, run-back}
 use Rattle.layout.proofs.Unused.{unused-zero}
 use Rattle.trace.specs.Trace.{linesOf}
+use Rattle.trace.proofs.LinesOf.{lines-back}
 use Rattle.trace_lines.proofs.LineWritten.{trace-length}
 use Rattle.run_schedule.proofs.Accepting.{table-kept, outcomes-small}
 use Rattle.run.specs.Answers.{keptIfRefused, traceLeft, storeLeft, linesNo, usedNo, configRead, linesRead, stateRead}
-
--- the words of lines are these lines
-lines-back : (ls : List Line) → linesOf (traceWords ls) ≡ ls
-unfolding linesOf traceWords lineWords
-lines-back [] = refl
-lines-back (l ∷ ls) = ap {B = List Line} (λ ms. l ∷ ms) (lines-back ls)
 
 -- a run from any state ends in one of four ways
 ends-from : (p outcomes : List ℕ) (room : ℕ) (s : State) (k : ℕ) (schedule : List ℕ)
@@ -140,9 +135,11 @@ module _ (p schedule outcomes trace work : List ℕ) where
 
     pub beyond-kept : drop 8256 (storeLeft p schedule outcomes trace work) ≡ drop 8256 work
     beyond-kept =
-        ap (drop 8256) (store-is ∙ sym (append-assoc (encode (result .state .config)) (holderWords lines) (drop 8256 work)))
+        ap (drop 8256) (store-is ∙ sym (append-assoc (encode (result .state .config)) (holderWords lines)
+        (drop 8256 work)))
         ∙ drop-at (encode (result .state .config) ++ holderWords lines) (drop 8256 work) 8256
-        (length-append (encode (result .state .config)) (holderWords lines) ∙ omega (arith, words-whole, words-length lines))
+        (length-append (encode (result .state .config)) (holderWords lines) ∙ omega
+        (arith, words-whole, words-length lines))
 
     pub holder-read : (i : ℕ) → i < 64
         → getD (storeLeft p schedule outcomes trace work) (8192 + i) 0 ≡ holderNo (holder lines (thingAt i))

@@ -75,7 +75,8 @@ module _ {p outcomes : List ℕ} {s : State} (reached : Reached p outcomes s) (r
   stand-process running [] h = absurd (omega (arith, h .status))
   stand-process running (f ∷ fs) h = stand-is outcomes s (busy-at reached (h .frames) (omega (arith, h .depth)))
   stand-process finished fs h =
-      ap (λ (gs : List Frame). readinessOp p (processWords (record { status = finished; frames = gs }))) (h .status) ∙ finished-stand p
+      ap (λ (gs : List Frame). readinessOp p (processWords (record { status = finished; frames = gs }))) (h .status)
+      ∙ finished-stand p
   stand-process (stopped n) fs h = stopped-stand p n fs
 
   unmade-sound : ProcessSound p config unmade
@@ -266,7 +267,8 @@ module _ {p outcomes : List ℕ} {s : State} (reached : Reached p outcomes s) (r
           (eqb (found o) n))))
           (decide (ltb (found o) (length (config .processes)))),
       λ i. true≢false
-          (sym met ∙ ap (λ (b : Bool). isMeeting (cond b none (meetsWith n o (found o) (offered (actOf p outcomes s (found o)))))) (eq-eqb (found o) n i)),
+          (sym met ∙ ap (λ (b : Bool). isMeeting (cond b none
+          (meetsWith n o (found o) (offered (actOf p outcomes s (found o)))))) (eq-eqb (found o) n i)),
     )
       where
         met :
@@ -317,7 +319,8 @@ module _ {p outcomes : List ℕ} {s : State} (reached : Reached p outcomes s) (r
         → abilityOf p work t n st ≡ rank n (offers o)
     unfolding abilityOf rank isMoving
     offer-rank n o st w h k =
-        ap₂ (λ (b : Bool) (q : Partner). cond b (aloneAbility (st .kind)) (cond (isMoving q) 1 2)) k (partner-law n o st w h)
+        ap₂ (λ (b : Bool) (q : Partner). cond b (aloneAbility (st .kind)) (cond (isMoving q) 1 2)) k
+        (partner-law n o st w h)
         ∙ ap (λ (b : Bool). cond {A = ℕ} b 1 2) (either (gone s n o) (isMeeting (meetingOf p outcomes s n o)))
       where
         either : (g m : Bool) → isMoving (comes g m (found o)) ≡ (g || m)
@@ -511,5 +514,7 @@ module _ {p outcomes : List ℕ} {s : State} (reached : Reached p outcomes s) (r
         second e false f = sym (ap (λ (x : Bool). cond {A = ℕ} x 1 (cond (noneAble p outcomes s) 2 0)) (over e f))
 
         first : (b : Bool) → someIs p work t 1 8 ≡ b → cond b 0 (cond (someIs p work t 2 8) 2 1) ≡ ending p outcomes s
-        first true e = let r = some-found 1 8 e in sym (able-goes p outcomes s (r .0) (able-is (r .0) (r .1) ∙ eq-eqb (abilityOp p work t (r .0)) 1 (r .2)))
+        first true e =
+            let r = some-found 1 8 e in sym (able-goes p outcomes s (r .0)
+            (able-is (r .0) (r .1) ∙ eq-eqb (abilityOp p work t (r .0)) 1 (r .2)))
         first false e = second e (someIs p work t 2 8) refl

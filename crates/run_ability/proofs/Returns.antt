@@ -11,7 +11,7 @@ use borrow.Author.Tests.{leb-false}
 use Rattle.table.specs.Table.{word, methods, argAt}
 use Rattle.run_store.specs.declared.head.Head.{Head}
 use Rattle.run_store.specs.StoreCode.{headOf}
-use Rattle.run_ops.proofs.Returns.{took, passed-by}
+use Rattle.lists.proofs.Tests.{took, passed-by}
 use Rattle.run_parts.specs.declared.readiness.Readiness.{Readiness}
 use Rattle.run_parts.specs.ReadinessCode.{overKind, offerKind, readinessOp, offerOf, meetsOp}
 use Rattle.run_parts.specs.PartsCode.{partOf}

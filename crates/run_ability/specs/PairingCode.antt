@@ -39,7 +39,8 @@ unfoldable pub pairWith : List ℕ → List ℕ → ℕ → Readiness → ℕ �
 pairWith p work n a q =
     cond (isNoOther n q) (unpaired PartnerGone)
     (cond (overKind (readinessOp p (partOf work q) .kind)) (unpaired PartnerGone)
-    (cond (meetsOp a (readinessOp p (partOf work q))) (pairedOf n a q (readinessOp p (partOf work q))) (unpaired Waits)))
+    (cond (meetsOp a (readinessOp p (partOf work q))) (pairedOf n a q (readinessOp p (partOf work q)))
+    (unpaired Waits)))
 
 unfoldable pub pairingOf : List ℕ → List ℕ → List (List ℕ) → ℕ → Readiness → Pairing
 pairingOf p work t n a =

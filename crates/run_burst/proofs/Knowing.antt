@@ -6,7 +6,7 @@ use mathlib.Core.List.{List}
 use lib.ListN.{replicate}
 use lib.Dec.{leb}
 use borrow.Author.Tests.{le-leb, lt-leb, leb-false}
-use Rattle.run_ops.proofs.Returns.{took, passed-by}
+use Rattle.lists.proofs.Tests.{took, passed-by, off, on}
 use Rattle.run_parts.specs.PartsCode.{partOf}
 use Rattle.run_parts.specs.ReadinessCode.{readinessOp, offersNothing}
 use Rattle.run_parts.proofs.Returns.{nothing-alone}
@@ -19,16 +19,6 @@ use Rattle.run_values.specs.declared.steps.StepResult.the-variants.{WentOn}
 use Rattle.run_parts.specs.declared.readiness.ReadinessKind.the-variants.{Moves}
 use Rattle.run_burst.specs.declared.knowledge.Knowledge.{Knowledge}
 use Rattle.run_burst.specs.KnowledgeCode.{nothingKnown, marked, withIdle, alone, knownAfterStep, knownAfterEntry, unlessChanged}
-
--- a test that was negated
-
-no-longer : (b : Bool) → not b ≡ true → b ≡ false
-no-longer true e = sym e
-no-longer false e = refl
-
-still : (b : Bool) → not b ≡ false → b ≡ true
-still true e = refl
-still false e = sym e
 
 -- the marks
 
@@ -54,14 +44,20 @@ module _ (known : Knowledge) (n : ℕ) where
 module _ (p work : List ℕ) (n : ℕ) (known : Knowledge) (step : StepResult) where
   pub knew-nothing : not (known .some) ≡ true → known ≡ knownAfterStep p work n known step
   unfolding knownAfterStep
-  knew-nothing e = λ i. record { some = passed-by (known .some) (cond (wentOn step) (alone p work n) true) false refl (no-longer (known .some) e) (no-longer (known .some) e) i; idle = known .idle }
+  knew-nothing e =
+      λ i. record {
+        some = passed-by (known .some) (cond (wentOn step) (alone p work n) true) false refl
+            (off (known .some) e) (off (known .some) e) i;
+        idle = known .idle;
+      }
 
-  pub no-step : not (known .some) ≡ false → {x : Bool} → x ≡ wentOn step → not x ≡ true → known ≡ knownAfterStep p work n known step
+  pub no-step : not (known .some) ≡ false → {x : Bool} → x ≡ wentOn step → not x ≡ true
+      → known ≡ knownAfterStep p work n known step
   unfolding knownAfterStep
   no-step e {x} w h = λ i. record {
     some =
-        took (known .some) (cond (wentOn step) (alone p work n) true) false refl (still (known .some) e)
-        (passed-by (wentOn step) (alone p work n) true w (no-longer x h) (still (known .some) e)) i;
+        took (known .some) (cond (wentOn step) (alone p work n) true) false refl (on (known .some) e)
+        (passed-by (wentOn step) (alone p work n) true w (off x h) (on (known .some) e)) i;
     idle = known .idle;
   }
 
@@ -71,8 +67,8 @@ module _ (p work : List ℕ) (n : ℕ) (known : Knowledge) (step : StepResult) w
   unfolding knownAfterStep
   looked-at e {x} w h {b} q = λ i. record {
     some =
-        took (known .some) (cond (wentOn step) (alone p work n) true) false refl (still (known .some) e)
-        (took (wentOn step) (alone p work n) true w (still x h) q) i;
+        took (known .some) (cond (wentOn step) (alone p work n) true) false refl (on (known .some) e)
+        (took (wentOn step) (alone p work n) true w (on x h) q) i;
     idle = known .idle;
   }
 
@@ -109,7 +105,8 @@ unfolding alone
 stand-alone p work n h e = passed-by _ _ _ refl (lt-leb 8 n h) e
 
 -- a process that moves by itself can be, and its readiness says so
-pub alone-so : (p work : List ℕ) (n : ℕ) → alone p work n ≡ true → (n < 8) × (readinessOp p (partOf work n) .kind ≡ Moves)
+pub alone-so : (p work : List ℕ) (n : ℕ) → alone p work n ≡ true
+    → (n < 8) × (readinessOp p (partOf work n) .kind ≡ Moves)
 unfolding alone
 alone-so p work n e = go (leb 8 n) refl e
   where

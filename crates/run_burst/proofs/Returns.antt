@@ -3,7 +3,7 @@ use Prim.Native.Nat.{ℕ, _≤_, _<_}
 use mathlib.Core.Path.{_≡_, refl, sym, _∙_, ap, ap₂}
 use mathlib.Core.List.{List}
 use borrow.Author.Tests.{le-leb, lt-leb}
-use Rattle.run_ops.proofs.Returns.{took, passed-by}
+use Rattle.lists.proofs.Tests.{took, passed-by}
 use Rattle.run_ability.specs.declared.pairing.Pairing.{Pairing}
 use Rattle.run_single.specs.declared.result.Count.{Count}
 use Rattle.run_single.specs.declared.result.Progress.{Progress}
@@ -30,7 +30,8 @@ module _ (p outcomes trace work : List ℕ) (room : ℕ) (g : Count) (n : ℕ) (
 
 -- what an entry that came to m means for the run; e is its end and q what is known after it
 
-module _ (p outcomes trace work : List ℕ) (room : ℕ) (t : List (List ℕ)) (g : Count) (n : ℕ) (step : StepResult) (offer : Pairing)
+module _ (p outcomes trace work : List ℕ) (room : ℕ) (t : List (List ℕ)) (g : Count) (n : ℕ) (step : StepResult)
+    (offer : Pairing)
     (known : Knowledge) {m : EntryResult}
     {ts ws : List ℕ} (changed : afterEntry m ts ws ≡ namedEntryOp p outcomes trace work room g n step offer) where
   pub turn-is : (x : Progress) {e : ℕ} {q : Knowledge} → m .progress ≡ x → e ≡ endAfter x p ws t

@@ -10,7 +10,7 @@ use lib.Dec.{eqb}
 use borrow.Author.Tests.{eq-eqb, ne-eqb, le-leb, lt-leb}
 use Rattle.run_values.specs.ValuesCode.{wentOn, notRunning, AfterStep, afterStep}
 use Rattle.run_ops.specs.OpsCode.{stepOp}
-use Rattle.run_ops.proofs.Returns.{took, passed-by}
+use Rattle.lists.proofs.Tests.{took, passed-by, off, on}
 use Rattle.run_parts.specs.PartsCode.{partOf, onPart}
 use Rattle.run_ability.specs.declared.pairing.Pairing.{Pairing}
 use Rattle.run_ability.specs.PairingCode.{waitKind, unpaired}
@@ -30,7 +30,8 @@ module _ (p work : List ℕ) (n : ℕ) (known : Knowledge) where
   unfolding namedOp
   named-none h = took _ _ _ refl (le-leb 8 n h) refl
 
-  pub named-idle : {b : Bool} → n < 8 → b ≡ isIdle known n → b ≡ true → afterStep NotRunning work ≡ namedOp p work n known
+  pub named-idle : {b : Bool} → n < 8 → b ≡ isIdle known n → b ≡ true
+      → afterStep NotRunning work ≡ namedOp p work n known
   unfolding namedOp
   named-idle h e i = passed-by _ _ _ refl (lt-leb 8 n h) (took _ _ _ e i refl)
 
@@ -39,16 +40,6 @@ module _ (p work : List ℕ) (n : ℕ) (known : Knowledge) where
       → d ≡ namedOp p work n known
   unfolding namedOp
   named-steps h e i q = passed-by _ _ _ refl (lt-leb 8 n h) (passed-by _ _ _ e i q)
-
--- a test that was negated
-
-off : (b : Bool) → not b ≡ true → b ≡ false
-off true e = sym e
-off false e = refl
-
-on : (b : Bool) → not b ≡ false → b ≡ true
-on true e = refl
-on false e = sym e
 
 -- what stands before the named process moves
 

@@ -53,7 +53,8 @@ turnBy p t n step known c =
     (c .trace)
     (c .work)
 
-unfoldable pub turnOp : List ℕ → List ℕ → List ℕ → List ℕ → ℕ → List (List ℕ) → Count → ℕ → StepResult → Pairing → Knowledge
+unfoldable pub turnOp : List ℕ → List ℕ → List ℕ → List ℕ → ℕ → List (List ℕ) → Count → ℕ → StepResult → Pairing
+    → Knowledge
     → AfterTurn
 turnOp p outcomes trace work room t g n step m known =
     turnBy p t n step known (namedEntryOp p outcomes trace work room g n step m)

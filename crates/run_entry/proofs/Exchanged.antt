@@ -76,8 +76,10 @@ module _ {p outcomes : List ℕ} {s : State} {t0 : List ℕ} {room : ℕ} (here 
   met-line : (a b i : ℕ) (d : Bool) → i < c .channels
       → metLine k a b (valOf (ref (end i d))) ≡ written.lineOf (lineOf k a (met b i d))
   unfolding metLine valOf tagOf numberOf valueWords
-  met-line a b i true h = ap (λ (j : ℕ). record { entry = k; process = a; kind = 7; a = b; b = j; c = 1 }) (channel-fits i h)
-  met-line a b i false h = ap (λ (j : ℕ). record { entry = k; process = a; kind = 7; a = b; b = j; c = 0 }) (channel-fits i h)
+  met-line a b i true h =
+      ap (λ (j : ℕ). record { entry = k; process = a; kind = 7; a = b; b = j; c = 1 }) (channel-fits i h)
+  met-line a b i false h =
+      ap (λ (j : ℕ). record { entry = k; process = a; kind = 7; a = b; b = j; c = 0 }) (channel-fits i h)
 
   -- the line of the value, after the lines ls
   handed-on : (a b : ℕ) (v : Value) (ls : List Line) → ValueSound c v → 6 * (length ls + 1) ≤ length t0
@@ -115,7 +117,8 @@ module _ {p outcomes : List ℕ} {s : State} {t0 : List ℕ} {room : ℕ} (here 
       (sending : atFrame p outcomes s f fs ≡ offers (sends i d v hs))
       (receiving : atFrame p outcomes s g gs ≡ offers (receives i′ d′ hs′)) where
     abbrev join : Meeting
-    join = record { sender = a; receiver = b; channel = i; side = d; value = v; senderFrames = hs; receiverFrames = hs′ }
+    join =
+        record { sender = a; receiver = b; channel = i; side = d; value = v; senderFrames = hs; receiverFrames = hs′ }
 
     abbrev effect : Effect
     effect = meetIn (tableMachine p outcomes) k s join

@@ -102,7 +102,8 @@ module _ {p outcomes : List ℕ} {s : State} {t0 : List ℕ} {room : ℕ} (here 
     unfolding forkingIn first
     new-lines =
         ap {B = List Line}
-        (λ (i : ℕ). lineOf k n (forked (length (c .processes)) m i) ∷ giftLines k n (length (c .processes)) (given args))
+        (λ (i : ℕ). lineOf k n (forked (length (c .processes)) m i) ∷ giftLines k n (length (c .processes))
+        (given args))
         given-count
 
     lines-long : length (effect .lines) ≡ suc (length (thingsOf (given args)))
@@ -214,7 +215,8 @@ module _ {p outcomes : List ℕ} {s : State} {t0 : List ℕ} {room : ℕ} (here 
   goes-sound e =
       let typed-after : Frames p (Fits (reached .kinds) (c .qubits)) [] (passedBy params f ∷ fs) =
       (rw e at (act-typed p (reached .kept) outcomes (reached .bytes) s (reached .kinds) (reached .typed) n)) .3 in (
-        frame-sound p (reached .kept) (reached .kinds) c (reached .typed) [] (passedBy params f) (typed-after .stack .0),
+        frame-sound p (reached .kept) (reached .kinds) c (reached .typed) [] (passedBy params f)
+            (typed-after .stack .0),
         callers-sound p (reached .kept) (reached .kinds) c (reached .typed) (passedBy params f .method) fs
             (typed-after .stack .1),
       )

@@ -251,7 +251,8 @@ module _ {p outcomes : List ℕ} {s : State} {t0 : List ℕ} {room : ℕ} (here 
           short : (vs : List Value) → f .pending ≡ vs → length vs < 2 → Offering (atFrame p outcomes s f fs)
           short vs q h =
               subst Offering
-              (sym (act-short outcomes s (live .busy) 15 2 e taken (subst (λ (l : List Value). length l < 2) (sym q) h)))
+              (sym (act-short outcomes s (live .busy) 15 2 e taken
+              (subst (λ (l : List Value). length l < 2) (sym q) h)))
               tt
 
           ended : (y x : Value) (us : List Value) → Offering (doSend (scene outcomes s (live .busy) 2 (y ∷ x ∷ us)))

@@ -10,7 +10,7 @@ use lib.Dec.{leb, ltb}
 use borrow.Author.Tests.{ltb-true, lt-ltb, le-ltb, le-leb, lt-leb}
 use Rattle.table.specs.Table.{paramsOf}
 use Rattle.run_store.specs.declared.values.Val.{Val}
-use Rattle.run_ops.proofs.Returns.{took, passed-by}
+use Rattle.lists.proofs.Tests.{took, passed-by}
 use Rattle.run_parts.specs.PartsCode.{partOf}
 use Rattle.run_transfer.specs.ForkLinesCode.{Gifts, gifts, thingsIn}
 use Rattle.run_transfer.specs.TransferCode.{forkedWords, metWords}

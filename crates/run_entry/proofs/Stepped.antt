@@ -9,7 +9,7 @@ use native.Mathlib.Omega.{arith}
 use lib.ListN.{length, length-append, replicate}
 use lib.Dec.{eqb, ltb}
 use borrow.Author.Tests.{eqb-true, eqb-false, ne-eqb, ltb-true, ltb-false, lt-ltb}
-use Rattle.lists.proofs.Tests.{decide}
+use Rattle.lists.proofs.Tests.{decide, never}
 use Rattle.lists.proofs.Numbers.{by-number, _▹_}
 use Rattle.lists.proofs.Each.{both-length}
 use Rattle.table.specs.Table.{argAt, opAt}
@@ -96,9 +96,6 @@ left-writes-line =
     (never ▹ never ▹ never ▹ never ▹ never ▹ never ▹ never ▹ line ▹ line ▹ never ▹ line ▹ line ▹ never ▹ never ▹
     (λ t a b c. absurd (a refl)) ▹ (λ t a b c. absurd (b refl)) ▹ (λ t a b c. absurd (c refl)) ▹ (λ k. never))
   where
-    never : {A : Type 0} → false ≡ true → A
-    never t = absurd (true≢false (sym t))
-
     line : {A B C D : Type 0} → A → B → C → D → true ≡ true
     line t a b c = refl
 
@@ -117,9 +114,6 @@ line-left =
     (λ t. record { stops = refl; rest = refl; small = omega arith }) ▹ never ▹
     (λ t. record { stops = refl; rest = refl; small = omega arith }) ▹
     (λ t. record { stops = refl; rest = refl; small = omega arith }) ▹ (λ k. never))
-  where
-    never : {A : Type 0} → false ≡ true → A
-    never t = absurd (true≢false (sym t))
 
 -- and a fault that a step answers leaves the fault's
 fault-left : (r : StepResult) (m : ℕ) → FaultIs m r → (wentOn r ≡ false) × (restOf r ≡ Line (Fault m))
@@ -276,7 +270,8 @@ module _ {p outcomes : List ℕ} {s : State} {t0 : List ℕ} {room : ℕ} (here 
     quiet stuck i ty g = absurd ty
     quiet (faults m) i ty g =
         let left = fault-left (stepOp p words .result) m (g .0) in
-        single-other (stepOp p words .result) (Fault m) (ap (afterStep (stepOp p words .result)) (g .1)) (left .0) (left .1)
+        single-other (stepOp p words .result) (Fault m) (ap (afterStep (stepOp p words .result)) (g .1)) (left .0)
+        (left .1)
         (fault-law here rest k n live m (inl ty)
         ∙ ap comes (sym (act-here ∙ i)))
     quiet (goes gs [] zero) i ty g =
@@ -389,7 +384,8 @@ module _ {p outcomes : List ℕ} {s : State} {t0 : List ℕ} {room : ℕ} (here 
 
         -- what the offer comes to was worked out
         paired : (step : StepResult)
-            → meetBy p outcomes lines store room counted n (cond (ltb n 8) (pairingOp p store t n step) (unpaired NoOffer))
+            → meetBy p outcomes lines store room counted n (cond (ltb n 8) (pairingOp p store t n step)
+            (unpaired NoOffer))
             ≡ meetBy p outcomes lines store room counted n (pairingOp p store t n step)
         paired step =
             ap
@@ -424,12 +420,15 @@ module _ {p outcomes : List ℕ} {s : State} {t0 : List ℕ} {room : ℕ} (here 
       → Law
   unfolding headOf processWords statusWords padded actOf byStatus
   by-process made running [] i h = absurd (omega (arith, h .status))
-  by-process made running (f ∷ fs) i h = at-work (record { made = made; busy = busy-at reached (h .frames) (omega (arith, h .depth)); stands = i })
+  by-process made running (f ∷ fs) i h =
+      at-work (record { made = made; busy = busy-at reached (h .frames) (omega (arith, h .depth)); stands = i })
   by-process made finished fs i h =
-      over (processWords (record { status = finished; frames = fs })) (part-is c (laid here rest k n) rest n made ∙ ap processWords i) refl
+      over (processWords (record { status = finished; frames = fs }))
+      (part-is c (laid here rest k n) rest n made ∙ ap processWords i) refl
       (ap (λ (pr : Process). byStatus (pr .status) (atFrames p outcomes s (pr .frames))) i)
   by-process made (stopped m) fs i h =
-      over (processWords (record { status = stopped m; frames = fs })) (part-is c (laid here rest k n) rest n made ∙ ap processWords i) refl
+      over (processWords (record { status = stopped m; frames = fs }))
+      (part-is c (laid here rest k n) rest n made ∙ ap processWords i) refl
       (ap (λ (pr : Process). byStatus (pr .status) (atFrames p outcomes s (pr .frames))) i)
 
   -- an entry that names process n

@@ -105,7 +105,8 @@ module _ {p : List ℕ} (outcomes : List ℕ) (s : State) {f : Frame} {fs : List
   made-line : (t : Thing) (tag kind fault n : ℕ) → valOf (ref t) ≡ record { tag = tag; number = n }
       → eventOf 0 (making t) ≡ lineEvent kind n 65535 65535 → (b : Bool)
       → Good (cond b (makes t (push (ref t) (passedBy 0 f) ∷ fs)) (faults fault))
-      (cond b (afterEvent (lineEvent kind n 65535 65535) (pushOn words top (record { tag = tag; number = n }))) (afterEvent (faultEvent fault) words))
+      (cond b (afterEvent (lineEvent kind n 65535 65535) (pushOn words top (record { tag = tag; number = n })))
+      (afterEvent (faultEvent fault) words))
   unfolding passedBy
   made-line t tag kind fault n v l true h =
       ap₂ afterEvent (sym l) (ap (pushOn words top) (sym v) ∙ push-words (busy .stack) (ref t) h)

@@ -98,7 +98,12 @@ module _ {p : List ℕ} (outcomes : List ℕ) (s : State) {f : Frame} {fs : List
 
   words-long : length words ≡ 512
   words-long =
-      process-length p (s .config) (runs (f ∷ fs)) (record { status = omega arith; depth = omega (arith, busy .stack .deep); frames = busy .stack .sound })
+      process-length p (s .config) (runs (f ∷ fs)) (record {
+        status = omega arith;
+        depth = omega
+            (arith, busy .stack .deep);
+        frames = busy .stack .sound;
+      })
 
   pub concluded-ends : (q c : ℕ) (os : List ℕ) (u : ℕ)
       → concludeOp p words LastRet q c os u ≡ afterEvent (lineEvent 9 65535 65535 65535)

@@ -11,7 +11,7 @@ use Rattle.table.specs.Table.{word, offsetOf}
 use Rattle.run_store.specs.declared.values.Val.{Val}
 use Rattle.run_store.specs.declared.head.Head.{Head}
 use Rattle.run_store.specs.StoreCode.{headOf, putTop, startedHead, putStatus, emptiedBy}
-use Rattle.run_ops.proofs.Returns.{took, passed-by}
+use Rattle.lists.proofs.Tests.{took, passed-by}
 use Rattle.run_giving.specs.GivingCode.{thingGiven, givenWords, startedWords, beganWords, poppedOnce, poppedBy}
 
 pub dropped-more : (w : List ℕ) (j : ℕ) {u u′ : List ℕ} → u ≡ poppedBy w j → u′ ≡ poppedOnce u → u′ ≡ poppedBy w (j + 1)

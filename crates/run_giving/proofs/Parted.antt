@@ -209,7 +209,8 @@ value-sent outcomes s {f} {fs} busy few v x us q after =
 
 -- a process that begins
 pub began-words : (p : List ℕ) (m : ℕ) → beganWords p (replicate 512 0) m ≡ processWords (runs (started p m [] ∷ []))
-unfolding beganWords startedWords startedHead putStatus putTop headAt processWords statusWords padded headWords frameValues started flatten valueWords
+unfolding beganWords startedWords startedHead putStatus putTop headAt processWords statusWords padded headWords
+    frameValues started flatten valueWords
 began-words p m = refl
 
 -- one more argument in the slots
@@ -251,7 +252,12 @@ module _ (p : List ℕ) (kept : Kept p) (c : Config) (m : ℕ) (xs : List Value)
   unfolding started slotAt
   slot-filled v h =
       slot-put (stacked kept sound (omega arith)) (length xs) v h
-      ∙ ap (λ (l : List Value). processWords (runs (record { method = m; place = offsetOf p m; slots = l; pending = [] } ∷ []))) (slots-with xs v h)
+      ∙ ap (λ (l : List Value). processWords (runs (record {
+        method = m;
+        place = offsetOf p m;
+        slots = l;
+        pending = [];
+      } ∷ []))) (slots-with xs v h)
 
   pub slot-found : (j : ℕ) → j < length xs → length xs ≤ 16
       → valueAt (processWords (runs (started p m xs ∷ []))) (64 + 2 * j) ≡ valOf (getD xs j empty)

@@ -15,11 +15,11 @@ use Rattle.lists.proofs.Tests.{decide}
 use Rattle.machine.specs.Value.{end, covers, sideNo}
 use Rattle.machine.specs.State.{Line}
 use Rattle.machine.specs.Owner.{holder, holderAfter, noLine}
-use Rattle.machine.specs.Answer.{lineWords, traceWords, traceAfter}
+use Rattle.machine.specs.Answer.{traceWords, traceAfter}
 use Rattle.machine.proofs.Holder.{holder-append}
 use Rattle.trace.specs.Trace.{linesOf}
 use Rattle.trace.specs.ReadCode.{lineFrom}
-use Rattle.trace.proofs.LinesOf.{linesOf-at}
+use Rattle.trace.proofs.LinesOf.{linesOf-at, linesOf-words}
 use Rattle.run_holders.specs.HoldersCode.{nobody, holderIn, endGiven, channelGiven, holdersAfter, holdersAfterLines}
 use Rattle.run_holders.proofs.Rows.{Shape, Two, holder-read, row-length, end-shape, noted-shape}
 
@@ -104,7 +104,7 @@ says-channel {t} s {c} d {h} w x n p =
 
 -- the holder of an end after a line, test by test as the table is changed: no line is of two kinds, nothing of two
 -- things
-holderAfter-end : (c : ℕ) (d : Bool) (h : Option ℕ) (l : Line)
+pub holderAfter-end : (c : ℕ) (d : Bool) (h : Option ℕ) (l : Line)
     → holderAfter (end c d) h l
     ≡ cond (eqb (l .kind) 2) (cond (eqb (l .a) c) (some (l .process)) h)
     (cond (eqb (l .kind) 6)
@@ -181,14 +181,9 @@ pub holding-more : (t : List (List ℕ)) (ls : List Line) (l : Line) → Holding
 holding-more t ls l h = record {
   shape = noted-shape l (h .shape);
   says = λ c d q w e.
-      says-noted (h .shape) d w (record { so = λ p. h .says c d p w }) l .so q (sym (holder-append ls (l ∷ []) (end c d)) ∙ e);
+      says-noted (h .shape) d w (record { so = λ p. h .says c d p w }) l .so q
+      (sym (holder-append ls (l ∷ []) (end c d)) ∙ e);
 }
-
--- the words of lines are those lines
-linesOf-words : (ls : List Line) (rest : List ℕ) → linesOf (traceWords ls ++ rest) ≡ ls ++ linesOf rest
-unfolding linesOf traceWords lineWords
-linesOf-words [] rest = refl
-linesOf-words (l ∷ ls) rest = ap (λ (ms : List Line). l ∷ ms) (linesOf-words ls rest)
 
 pub trace-line : (ls : List Line) (trace0 : List ℕ) (i : ℕ) → i < length ls
     → lineFrom (traceAfter ls trace0) (6 * i) ≡ getD ls i noLine

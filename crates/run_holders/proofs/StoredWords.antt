@@ -1,4 +1,5 @@
--- The stored words say what the lines say: after each line, every one of the 64 words is the holder that the lines give.
+-- The stored words say what the lines say: after each line, every one of the 64 words is the holder that the lines
+-- give.
 use Prim.Native.Nat.{ℕ, zero, suc, _+_, _*_, _≤_, _<_}
 use mathlib.Core.Path.{_≡_, refl, sym, _∙_, ap, ap₂, subst}
 use mathlib.Core.Bool.{Bool, true, false, cond, _&&_, Bool·beq, true≢false}
@@ -20,7 +21,7 @@ use Rattle.trace.specs.ReadCode.{lineFrom}
 use Rattle.layout.specs.Holders.{thingAt, holderNo, holderWords}
 use Rattle.layout.proofs.HolderWords.{words-length, words-at, words-are, qubit-at, end-at, Place, of-qubit, of-end, place-of}
 use Rattle.run_holders.specs.StoredCode.{qubitStored, endStored, channelStored, giftStored, storedAfter, storedAfterLines}
-use Rattle.run_holders.proofs.Holding.{trace-line}
+use Rattle.run_holders.proofs.Holding.{holderAfter-end, trace-line}
 
 -- a cond of lists keeps a length
 
@@ -46,7 +47,8 @@ module _ (base : ℕ) where
   gift-long w l =
       cond-long (eqb (l .b) 3) _ _ (qubit-long w (l .c) (l .a))
       (cond-long (eqb (l .b) 4) _ _ (channel-long w (l .c) (l .a))
-      (cond-long (eqb (l .b) 5) _ _ (end-long w (l .c) 0 (l .a)) (cond-long (eqb (l .b) 6) _ _ (end-long w (l .c) 1 (l .a)) refl)))
+      (cond-long (eqb (l .b) 5) _ _ (end-long w (l .c) 0 (l .a))
+      (cond-long (eqb (l .b) 6) _ _ (end-long w (l .c) 1 (l .a)) refl)))
 
   pub stored-long : (w : List ℕ) (l : Line) → length (storedAfter base w l) ≡ length w
   unfolding storedAfter
@@ -78,15 +80,19 @@ module _ (xs hs rest : List ℕ) (base : ℕ) (front : length xs ≡ base) where
   cond-around true ws vs e f = e refl
   cond-around false ws vs e f = f
 
-  qubit-around : (ws : List ℕ) → length ws ≡ 64 → (n q : ℕ) → qubitStored base (around ws) n q ≡ around (qubitStored 0 ws n q)
+  qubit-around : (ws : List ℕ) → length ws ≡ 64 → (n q : ℕ)
+      → qubitStored base (around ws) n q ≡ around (qubitStored 0 ws n q)
   unfolding qubitStored
   qubit-around ws e n q = cond-around (ltb n 32) _ _ (λ t. set-around ws n q (omega (arith, e, ltb-true n 32 t))) refl
 
-  end-around : (ws : List ℕ) → length ws ≡ 64 → (c d q : ℕ) → d < 2 → endStored base (around ws) c d q ≡ around (endStored 0 ws c d q)
+  end-around : (ws : List ℕ) → length ws ≡ 64 → (c d q : ℕ) → d < 2
+      → endStored base (around ws) c d q ≡ around (endStored 0 ws c d q)
   unfolding endStored
-  end-around ws e c d q h = cond-around (ltb c 16) _ _ (λ t. set-around ws (32 + 2 * c + d) q (omega (arith, e, h, ltb-true c 16 t))) refl
+  end-around ws e c d q h =
+      cond-around (ltb c 16) _ _ (λ t. set-around ws (32 + 2 * c + d) q (omega (arith, e, h, ltb-true c 16 t))) refl
 
-  channel-around : (ws : List ℕ) → length ws ≡ 64 → (c q : ℕ) → channelStored base (around ws) c q ≡ around (channelStored 0 ws c q)
+  channel-around : (ws : List ℕ) → length ws ≡ 64 → (c q : ℕ)
+      → channelStored base (around ws) c q ≡ around (channelStored 0 ws c q)
   unfolding channelStored
   channel-around ws e c q =
       ap (λ (w : List ℕ). endStored base w c 1 q) (end-around ws e c 0 q (omega arith))
@@ -111,7 +117,8 @@ module _ (xs hs rest : List ℕ) (base : ℕ) (front : length xs ≡ base) where
 record Says (ws : List ℕ) (i : ℕ) (h : Option ℕ) : Type 0 where
   so : getD ws i 0 ≡ holderNo h
 
-says-cond : {ws vs : List ℕ} {i : ℕ} {g h : Option ℕ} (b : Bool) → Says ws i g → Says vs i h → Says (cond b ws vs) i (cond b g h)
+says-cond : {ws vs : List ℕ} {i : ℕ} {g h : Option ℕ} (b : Bool) → Says ws i g → Says vs i h
+    → Says (cond b ws vs) i (cond b g h)
 says-cond true x y = x
 says-cond false x y = y
 
@@ -131,7 +138,8 @@ module _ (ws : List ℕ) (long : length ws ≡ 64) where
   set-other i j q ne x = record { so = getD-set-other ws i j q 0 ne ∙ x .so }
 
   -- a qubit's word after a qubit and after an end was stored
-  qubit-qubit : {h : Option ℕ} (i n q : ℕ) → i < 32 → Says ws i h → Says (qubitStored 0 ws n q) i (cond (eqb n i) (some q) h)
+  qubit-qubit : {h : Option ℕ} (i n q : ℕ) → i < 32 → Says ws i h
+      → Says (qubitStored 0 ws n q) i (cond (eqb n i) (some q) h)
   unfolding qubitStored
   qubit-qubit {h} i n q l x = ⊎-elim here elsewhere (decide (eqb n i))
     where
@@ -145,7 +153,8 @@ module _ (ws : List ℕ) (long : length ws ≡ 64) where
 
   qubit-end : {h : Option ℕ} (i c d q : ℕ) → i < 32 → Says ws i h → Says (endStored 0 ws c d q) i h
   unfolding endStored
-  qubit-end i c d q l x = says-still (ltb c 16) (set-other (0 + (32 + 2 * c + d)) i q (λ e. absurd (omega (arith, e, l))) x) x
+  qubit-end i c d q l x =
+      says-still (ltb c 16) (set-other (0 + (32 + 2 * c + d)) i q (λ e. absurd (omega (arith, e, l))) x) x
 
   -- an end's word after a qubit and after an end was stored
   end-qubit : {h : Option ℕ} (j n q : ℕ) → 32 ≤ j → Says ws j h → Says (qubitStored 0 ws n q) j h
@@ -170,7 +179,9 @@ module _ (ws : List ℕ) (long : length ws ≡ 64) where
       by-side false true x = set-other (0 + (32 + 2 * c + 1)) (32 + 2 * c + 0) q (λ i. absurd (omega (arith, i))) x
       by-side false false x = set-same (0 + (32 + 2 * c + 0)) (32 + 2 * c + 0) q (omega arith) (omega (arith, l))
 
-      here : eqb n c ≡ true → Says (cond (ltb n 16) (set ws (0 + (32 + 2 * n + sideNo e)) q) ws) (32 + 2 * c + sideNo d) (cond (eqb n c && Bool·beq e d) (some q) h)
+      here : eqb n c ≡ true
+          → Says (cond (ltb n 16) (set ws (0 + (32 + 2 * n + sideNo e)) q) ws) (32 + 2 * c + sideNo d)
+          (cond (eqb n c && Bool·beq e d) (some q) h)
       here t = rw (t, eqb-true n c t, lt-ltb c 16 l) (by-side d e x)
 
       apart : (n ≡ c → ⊥) → (d e : Bool) → 32 + 2 * c + sideNo d ≡ 0 + (32 + 2 * n + sideNo e) → ⊥
@@ -179,25 +190,31 @@ module _ (ws : List ℕ) (long : length ws ≡ 64) where
       apart ne false true i = omega (arith, i)
       apart ne false false i = ne (omega (arith, i))
 
-      elsewhere : eqb n c ≡ false → Says (cond (ltb n 16) (set ws (0 + (32 + 2 * n + sideNo e)) q) ws) (32 + 2 * c + sideNo d) (cond (eqb n c && Bool·beq e d) (some q) h)
+      elsewhere : eqb n c ≡ false
+          → Says (cond (ltb n 16) (set ws (0 + (32 + 2 * n + sideNo e)) q) ws) (32 + 2 * c + sideNo d)
+          (cond (eqb n c && Bool·beq e d) (some q) h)
       elsewhere f =
-          rw f (says-still (ltb n 16) (set-other (0 + (32 + 2 * n + sideNo e)) (32 + 2 * c + sideNo d) q (apart (eqb-false n c f) d e) x) x)
+          rw f (says-still (ltb n 16) (set-other (0 + (32 + 2 * n + sideNo e)) (32 + 2 * c + sideNo d) q
+          (apart (eqb-false n c f) d e) x) x)
 
 -- both ends of a channel
 
-qubit-channel : (ws : List ℕ) → length ws ≡ 64 → {h : Option ℕ} (i c q : ℕ) → i < 32 → Says ws i h → Says (channelStored 0 ws c q) i h
+qubit-channel : (ws : List ℕ) → length ws ≡ 64 → {h : Option ℕ} (i c q : ℕ) → i < 32 → Says ws i h
+    → Says (channelStored 0 ws c q) i h
 unfolding channelStored
 qubit-channel ws long i c q l x =
     qubit-end (endStored 0 ws c 0 q) (end-long 0 ws c 0 q ∙ long) i c 1 q l (qubit-end ws long i c 0 q l x)
 
-end-channel : (ws : List ℕ) → length ws ≡ 64 → {h : Option ℕ} (c : ℕ) (d : Bool) (n q : ℕ) → c < 16 → Says ws (32 + 2 * c + sideNo d) h
+end-channel : (ws : List ℕ) → length ws ≡ 64 → {h : Option ℕ} (c : ℕ) (d : Bool) (n q : ℕ) → c < 16
+    → Says ws (32 + 2 * c + sideNo d) h
     → Says (channelStored 0 ws n q) (32 + 2 * c + sideNo d) (cond (eqb n c) (some q) h)
 unfolding channelStored
 end-channel ws long {h} c d n q l x =
     subst (Says (endStored 0 (endStored 0 ws n 0 q) n 1 q) (32 + 2 * c + sideNo d)) (both (eqb n c) d)
     (end-end (endStored 0 ws n 0 q) (end-long 0 ws n 0 q ∙ long) c d n true q l (end-end ws long c d n false q l x))
   where
-    both : (b f : Bool) → cond (b && Bool·beq true f) (some q) (cond (b && Bool·beq false f) (some q) h) ≡ cond b (some q) h
+    both : (b f : Bool)
+        → cond (b && Bool·beq true f) (some q) (cond (b && Bool·beq false f) (some q) h) ≡ cond b (some q) h
     both true true = refl
     both true false = refl
     both false f = refl
@@ -213,13 +230,17 @@ holderAfter-qubit : (i : ℕ) (h : Option ℕ) (l : Line)
     (cond (eqb (l .kind) 2) h (cond (eqb (l .kind) 1) (cond (eqb (l .a) i) (some (l .process)) h) h))
 unfolding holderAfter covers
 holderAfter-qubit i h l =
-    kinds (eqb (l .kind) 1) (eqb (l .kind) 2) (eqb (l .kind) 6) (eqb (l .b) 3) (eqb (l .b) 4) (eqb (l .b) 5) (eqb (l .b) 6)
-    (one-kind l 1 6 (λ e. omega (arith, e))) (one-kind l 2 6 (λ e. omega (arith, e))) (one-kind l 2 1 (λ e. omega (arith, e)))
+    kinds (eqb (l .kind) 1) (eqb (l .kind) 2) (eqb (l .kind) 6) (eqb (l .b) 3) (eqb (l .b) 4) (eqb (l .b) 5)
+    (eqb (l .b) 6)
+    (one-kind l 1 6 (λ e. omega (arith, e))) (one-kind l 2 6 (λ e. omega (arith, e)))
+    (one-kind l 2 1 (λ e. omega (arith, e)))
   where
-    kinds : (k1 k2 k6 b3 b4 b5 b6 : Bool) → (k1 ≡ true → k6 ≡ false) → (k2 ≡ true → k6 ≡ false) → (k2 ≡ true → k1 ≡ false)
+    kinds : (k1 k2 k6 b3 b4 b5 b6 : Bool) → (k1 ≡ true → k6 ≡ false) → (k2 ≡ true → k6 ≡ false)
+        → (k2 ≡ true → k1 ≡ false)
         → cond k1 (cond (eqb (l .a) i) (some (l .process)) h)
         (cond k2 h
-        (cond k6 (cond (cond b3 (eqb (l .c) i) (cond b4 false (cond b5 false (cond b6 false false)))) (some (l .a)) h) h))
+        (cond k6 (cond (cond b3 (eqb (l .c) i) (cond b4 false (cond b5 false (cond b6 false false)))) (some (l .a)) h)
+        h))
         ≡ cond k6 (cond b3 (cond (eqb (l .c) i) (some (l .a)) h) h)
         (cond k2 h (cond k1 (cond (eqb (l .a) i) (some (l .process)) h) h))
     kinds true k2 true b3 b4 b5 b6 x y z = absurd (true≢false (x refl))
@@ -242,35 +263,24 @@ holderAfter-side : (c : ℕ) (d : Bool) (h : Option ℕ) (l : Line)
     (cond (eqb (l .b) 5) (cond (eqb (l .c) c && Bool·beq false d) (some (l .a)) h)
     (cond (eqb (l .b) 6) (cond (eqb (l .c) c && Bool·beq true d) (some (l .a)) h) h))))
     (cond (eqb (l .kind) 2) (cond (eqb (l .a) c) (some (l .process)) h) h)
-unfolding holderAfter covers
 holderAfter-side c d h l =
-    kinds (eqb (l .kind) 1) (eqb (l .kind) 2) (eqb (l .kind) 6) (eqb (l .b) 3) (eqb (l .b) 4) (eqb (l .b) 5) (eqb (l .b) 6)
-    (one-kind l 1 6 (λ e. omega (arith, e))) (one-kind l 1 2 (λ e. omega (arith, e))) (one-kind l 2 6 (λ e. omega (arith, e)))
+    holderAfter-end c d h l
+    ∙ turned (eqb (l .kind) 2) (eqb (l .kind) 6) (eqb (l .b) 3) (cond (eqb (l .a) c) (some (l .process)) h)
+    (given (l .b)) (one-kind l 2 6 (λ e. omega (arith, e))) (λ e. ap given (eqb-true (l .b) 3 e))
   where
-    kinds : (k1 k2 k6 b3 b4 b5 b6 : Bool) → (k1 ≡ true → k6 ≡ false) → (k1 ≡ true → k2 ≡ false) → (k2 ≡ true → k6 ≡ false)
-        → cond k1 h
-        (cond k2 (cond (eqb (l .a) c) (some (l .process)) h)
-        (cond k6
-        (cond (cond b3 false (cond b4 (eqb (l .c) c)
-        (cond b5 (eqb (l .c) c && Bool·beq false d) (cond b6 (eqb (l .c) c && Bool·beq true d) false)))) (some (l .a)) h)
-        h))
-        ≡ cond k6
-        (cond b3 h
-        (cond b4 (cond (eqb (l .c) c) (some (l .a)) h)
-        (cond b5 (cond (eqb (l .c) c && Bool·beq false d) (some (l .a)) h)
-        (cond b6 (cond (eqb (l .c) c && Bool·beq true d) (some (l .a)) h) h))))
-        (cond k2 (cond (eqb (l .a) c) (some (l .process)) h) h)
-    kinds true k2 true b3 b4 b5 b6 x y z = absurd (true≢false (x refl))
-    kinds true true false b3 b4 b5 b6 x y z = absurd (true≢false (y refl))
-    kinds true false false b3 b4 b5 b6 x y z = refl
-    kinds false true true b3 b4 b5 b6 x y z = absurd (true≢false (z refl))
-    kinds false true false b3 b4 b5 b6 x y z = refl
-    kinds false false true true b4 b5 b6 x y z = refl
-    kinds false false true false true b5 b6 x y z = refl
-    kinds false false true false false true b6 x y z = refl
-    kinds false false true false false false true x y z = refl
-    kinds false false true false false false false x y z = refl
-    kinds false false false b3 b4 b5 b6 x y z = refl
+    given : ℕ → Option ℕ
+    given b =
+        cond (eqb b 4) (cond (eqb (l .c) c) (some (l .a)) h)
+        (cond (eqb b 5) (cond (eqb (l .c) c && Bool·beq false d) (some (l .a)) h)
+        (cond (eqb b 6) (cond (eqb (l .c) c && Bool·beq true d) (some (l .a)) h) h))
+
+    turned : (k2 k6 b3 : Bool) (x y : Option ℕ) → (k2 ≡ true → k6 ≡ false) → (b3 ≡ true → y ≡ h)
+        → cond k2 x (cond k6 y h) ≡ cond k6 (cond b3 h y) (cond k2 x h)
+    turned true true b3 x y p q = absurd (true≢false (p refl))
+    turned true false b3 x y p q = refl
+    turned false true true x y p q = q refl
+    turned false true false x y p q = refl
+    turned false false b3 x y p q = refl
 
 -- one more line
 
@@ -306,7 +316,8 @@ words-more ls l =
     words-are (storedAfter 0 (holderWords ls) l) (ls ++ (l ∷ [])) (stored-long 0 (holderWords ls) l ∙ words-length ls)
     (λ i h. at-place i (place-of i h))
   where
-    at-place : (i : ℕ) → Place i → getD (storedAfter 0 (holderWords ls) l) i 0 ≡ holderNo (holder (ls ++ (l ∷ [])) (thingAt i))
+    at-place : (i : ℕ) → Place i
+        → getD (storedAfter 0 (holderWords ls) l) i 0 ≡ holderNo (holder (ls ++ (l ∷ [])) (thingAt i))
     at-place i (of-qubit q h) =
         stored-qubit (holderWords ls) (words-length ls) l q h
         (record { so = words-at ls q (omega (arith, h)) ∙ ap (λ t. holderNo (holder ls t)) (qubit-at q h) }) .so
@@ -314,7 +325,10 @@ words-more ls l =
         ∙ ap (λ t. holderNo (holder (ls ++ (l ∷ [])) t)) (sym (qubit-at q h))
     at-place i (of-end c d h) =
         stored-end (holderWords ls) (words-length ls) l c d h
-        (record { so = words-at ls (32 + 2 * c + sideNo d) (below-all d) ∙ ap (λ t. holderNo (holder ls t)) (end-at c d h) }) .so
+        (record {
+          so = words-at ls (32 + 2 * c + sideNo d) (below-all d) ∙ ap (λ t. holderNo (holder ls t))
+              (end-at c d h);
+        }) .so
         ∙ ap holderNo (sym (holder-append ls (l ∷ []) (end c d)))
         ∙ ap (λ t. holderNo (holder (ls ++ (l ∷ [])) t)) (sym (end-at c d h))
       where
@@ -328,14 +342,16 @@ pub stored-lines : (xs rest : List ℕ) (ls ms : List Line) (trace0 : List ℕ) 
     ≡ xs ++ (holderWords (ls ++ ms) ++ rest)
 unfolding storedAfterLines
 stored-lines xs rest ls ms trace0 front =
-    go (length ms) (omega arith) ∙ ap (λ (ns : List Line). xs ++ (holderWords (ls ++ ns) ++ rest)) (take-all (length ms) ms (omega arith))
+    go (length ms) (omega arith) ∙ ap (λ (ns : List Line). xs ++ (holderWords (ls ++ ns) ++ rest))
+    (take-all (length ms) ms (omega arith))
   where
     trace : List ℕ
     trace = traceAfter (ls ++ ms) trace0
 
     line : (j : ℕ) → j < length ms → lineFrom trace (6 * (length ls + j)) ≡ getD ms j noLine
     line j k =
-        trace-line (ls ++ ms) trace0 (length ls + j) (omega (arith, length-append ls ms)) ∙ getD-append-add ls ms j noLine
+        trace-line (ls ++ ms) trace0 (length ls + j) (omega (arith, length-append ls ms)) ∙ getD-append-add ls ms j
+        noLine
 
     joined : (j : ℕ) → j < length ms → (ls ++ take j ms) ++ (getD ms j noLine ∷ []) ≡ ls ++ take (suc j) ms
     joined j k =
@@ -343,10 +359,12 @@ stored-lines xs rest ls ms trace0 front =
         ∙ ap (λ (ns : List Line). ls ++ ns) (sym (take-suc ms j noLine k))
 
     go : (j : ℕ) → j ≤ length ms
-        → storedAfterLines (xs ++ (holderWords ls ++ rest)) trace (length ls) j ≡ xs ++ (holderWords (ls ++ take j ms) ++ rest)
+        → storedAfterLines (xs ++ (holderWords ls ++ rest)) trace (length ls) j ≡ xs
+        ++ (holderWords (ls ++ take j ms) ++ rest)
     go zero k = ap (λ (ns : List Line). xs ++ (holderWords ns ++ rest)) (sym (append-nil ls))
     go (suc j) k =
         ap₂ (storedAfter 8192) (go j (omega (arith, k))) (line j k)
-        ∙ stored-around xs (holderWords (ls ++ take j ms)) rest 8192 front (words-length (ls ++ take j ms)) (getD ms j noLine)
+        ∙ stored-around xs (holderWords (ls ++ take j ms)) rest 8192 front (words-length (ls ++ take j ms))
+        (getD ms j noLine)
         ∙ ap (λ (ws : List ℕ). xs ++ (ws ++ rest)) (words-more (ls ++ take j ms) (getD ms j noLine))
         ∙ ap (λ (ns : List Line). xs ++ (holderWords ns ++ rest)) (joined j k)

@@ -1,18 +1,11 @@
 -- The stored words after some lines: by the tests of each function, and by the index of the next line.
 use Prim.Native.Nat.{ℕ, suc, _+_, _-_, _*_, _≤_}
-use mathlib.Core.Path.{_≡_, refl, _∙_, ap, ap₂}
-use mathlib.Core.Bool.{Bool, true, false, cond}
+use mathlib.Core.Path.{_≡_, _∙_, ap, ap₂}
 use mathlib.Core.List.{List}
 use native.Mathlib.Omega.{arith}
 use Rattle.machine.specs.State.{Line}
 use Rattle.trace.specs.ReadCode.{lineFrom}
 use Rattle.run_holders.specs.StoredCode.{storedAfter, storedAfterLines}
-
-pub so : {b : Bool} (x y : List ℕ) {z : List ℕ} → b ≡ true → z ≡ x → z ≡ cond b x y
-so x y e q = rw e q
-
-pub otherwise : {b : Bool} (x y : List ℕ) {z : List ℕ} → b ≡ false → z ≡ y → z ≡ cond b x y
-otherwise x y e q = rw e q
 
 pub stored-begins : (w trace : List ℕ) (from : ℕ) → w ≡ storedAfterLines w trace from (from - from)
 unfolding storedAfterLines
@@ -23,5 +16,6 @@ pub stored-next : (w trace : List ℕ) (from i : ℕ) {u v : List ℕ} {l : Line
     → v ≡ storedAfterLines w trace from (i + 1 - from)
 unfolding storedAfterLines
 stored-next w trace from i h e p q =
-    q ∙ ap₂ (storedAfter 8192) e (p ∙ ap (λ (k : ℕ). lineFrom trace (6 * k)) {x = i} {y = from + (i - from)} (omega arith))
+    q ∙ ap₂ (storedAfter 8192) e (p ∙ ap (λ (k : ℕ). lineFrom trace (6 * k)) {x = i} {y = from + (i - from)}
+    (omega arith))
     ∙ ap (storedAfterLines w trace from) {x = suc (i - from)} {y = i + 1 - from} (omega arith)

@@ -1,5 +1,5 @@
--- The holders stored in the work store. These definitions follow the code; that the words say what the lines say is proved in
--- proofs/StoredWords.antt. `base` is where the 64 words begin: 8,192 in the store, 0 where they stand alone.
+-- The holders stored in the work store. These definitions follow the code; that the words say what the lines say is
+-- proved in proofs/StoredWords.antt. `base` is where the 64 words begin: 8,192 in the store, 0 where they stand alone.
 use Prim.Native.Nat.{ℕ, zero, suc, _+_, _*_}
 use mathlib.Core.Bool.{cond}
 use mathlib.Core.List.{List}
@@ -35,4 +35,5 @@ storedAfter base w l =
 -- after j more lines of a trace, from line number `from` on
 unfoldable pub storedAfterLines : List ℕ → List ℕ → ℕ → ℕ → List ℕ
 storedAfterLines w trace from zero = w
-storedAfterLines w trace from (suc j) = storedAfter 8192 (storedAfterLines w trace from j) (lineFrom trace (6 * (from + j)))
+storedAfterLines w trace from (suc j) =
+    storedAfter 8192 (storedAfterLines w trace from j) (lineFrom trace (6 * (from + j)))

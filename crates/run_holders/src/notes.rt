@@ -1,11 +1,8 @@
-// The table brought up to date: the lines that were written since are read back from the trace.
+// The table of ends brought up to date with one line.
 ghost use mathlib.Core.Path.{_≡_};
-ghost use Prim.Native.Nat.{_-_, _*_, _≤_, _<_};
-ghost use lib.ListN.{length};
 ghost use Rattle.trace.specs.ReadCode.{asLine};
-ghost use Rattle.run_holders.specs.HoldersCode.{holdersAfter, changesHolder, holdersAfterLines, changedFrom};
+ghost use Rattle.run_holders.specs.HoldersCode.{holdersAfter, changesHolder};
 use super::ends::note;
-use trace::read::line_at;
 use trace_lines::TraceLine;
 
 // A line of kind 6. A qubit is in no place of the table.
@@ -22,7 +19,7 @@ fn note_gift(t: &mut [[u16; 2]; 16], l: TraceLine) -> bool
 }
 
 // The table brought up to date with one line, and whether it changes a holder.
-fn note_line(t: &mut [[u16; 2]; 16], l: TraceLine) -> bool
+pub fn note_line(t: &mut [[u16; 2]; 16], l: TraceLine) -> bool
     ensures { λ r. ⌜ (now (t .exit) ≡ holdersAfter (now (t .entry)) (asLine l)) × (r ≡ changesHolder (asLine l)) ⌝ }
 {
     if l.kind == 6 {
@@ -34,23 +31,4 @@ fn note_line(t: &mut [[u16; 2]; 16], l: TraceLine) -> bool
     let u = note(*t, l);
     *t = u;
     true
-}
-
-// The table after the lines number `from` up to `to` of the trace, line `to` itself left out. The answer is whether one
-// of them changes a holder.
-pub fn note_lines(t: &mut [[u16; 2]; 16], trace: &[u16], from: u32, to: u32) -> bool
-    requires { ⌜ (from ≤ to) × (to < 16777216) × (6 * to ≤ length (now trace)) ⌝ }
-    ensures { λ r. ⌜ (now (t .exit) ≡ holdersAfterLines (now (t .entry)) (now (trace .entry)) from (to - from))
-        × (r ≡ changedFrom (now (trace .entry)) from (to - from)) ⌝ }
-{
-    let mut changed = false;
-    let mut i = from;
-    while i < to {
-        let l = line_at(trace, i as usize);
-        if note_line(t, l) {
-            changed = true;
-        }
-        i += 1;
-    }
-    changed
 }

@@ -1,16 +1,14 @@
-// The holders of all qubits and ends in the 64 words of the work store from word 8,192 on: qubit q at 8,192 + q, end s of
-// channel c at 8,224 + 2 c + s. Each line that names a holder changes its words; they are never worked out from the trace.
+// The holders of all qubits and ends in the 64 words of the work store from word 8,192 on: qubit q at 8,192 + q, end s
+// of channel c at 8,224 + 2 c + s. Each line that names a holder changes its words; they are never worked out from the
+// trace.
 ghost use mathlib.Core.Path.{_≡_};
-ghost use Prim.Native.Nat.{_-_, _*_, _≤_, _<_};
-ghost use lib.ListN.{length};
 ghost use Rattle.trace.specs.ReadCode.{asLine};
-ghost use Rattle.run_holders.specs.StoredCode.{qubitStored, endStored, channelStored, giftStored, storedAfter, storedAfterLines};
+ghost use Rattle.run_holders.specs.StoredCode.{qubitStored, endStored, channelStored, giftStored, storedAfter};
 use run_store::references::ChannelNo;
 use run_store::references::EndNo;
 use run_store::references::ProcessNo;
 use run_store::references::QubitNo;
 use run_store::values::put;
-use trace::read::line_at;
 use trace_lines::TraceLine;
 
 fn store_qubit(work: &mut [u32], n: QubitNo, q: ProcessNo)
@@ -61,7 +59,7 @@ fn store_gift(work: &mut [u32], l: TraceLine)
     }
 }
 
-fn store_line(work: &mut [u32], l: TraceLine)
+pub fn store_line(work: &mut [u32], l: TraceLine)
     ensures { λ r. ⌜ now (work .exit) ≡ storedAfter 8192 (now (work .entry)) (asLine l) ⌝ }
 {
     if l.kind == 6 {
@@ -74,18 +72,5 @@ fn store_line(work: &mut [u32], l: TraceLine)
     }
     if l.kind == 1 {
         store_qubit(work, QubitNo(l.a), ProcessNo(l.process));
-    }
-}
-
-// The words after the lines number `from` up to `to` of the trace, line `to` itself left out.
-pub fn store_lines(work: &mut [u32], trace: &[u16], from: u32, to: u32)
-    requires { ⌜ (from ≤ to) × (to < 16777216) × (6 * to ≤ length (now trace)) ⌝ }
-    ensures { λ r. ⌜ now (work .exit) ≡ storedAfterLines (now (work .entry)) (now (trace .entry)) from (to - from) ⌝ }
-{
-    let mut i = from;
-    while i < to {
-        let l = line_at(trace, i as usize);
-        store_line(work, l);
-        i += 1;
     }
 }

@@ -470,7 +470,9 @@ module _ {p : List ℕ} {c : Config} {f : Frame} {fs : List Frame} (stack : Stac
   -- the slots of the frame called
   called-values : frameValues (callee n) ≡ frameValues called
   unfolding callee started
-  called-values = ap (λ (l : List Value). frameValues (record { method = m; place = offsetOf p m; slots = l; pending = [] })) (args-started (f .pending) n small enough)
+  called-values =
+      ap (λ (l : List Value). frameValues (record { method = m; place = offsetOf p m; slots = l; pending = [] }))
+      (args-started (f .pending) n small enough)
 
   pub opened-words :
       opened p (processWords (runs (f ∷ fs))) (headIn f fs) m n ≡ processWords (runs (called ∷ callerAfter ∷ fs))

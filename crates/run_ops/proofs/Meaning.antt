@@ -1,5 +1,5 @@
--- The ops' functions do what document 01's ops do: the answer and the words that each leaves agree with what the process
--- at that op would do.
+-- The ops' functions do what document 01's ops do: the answer and the words that each leaves agree with what the
+-- process at that op would do.
 use Prim.Native.Nat.{ℕ, zero, suc, _+_, _*_, _-_, _%_, _≤_, _<_}
 use mathlib.Core.Path.{_≡_, refl, sym, _∙_, ap, ap₂, subst, subst₂}
 use mathlib.Core.Logic.{⊎-elim}
@@ -12,7 +12,7 @@ use lib.ListN.{getD, take, drop, length}
 use lib.Dec.{T, eqb, leb, ltb, ltb→lt, leb→le, leb·zero}
 use borrow.Author.Tests.{ne-eqb, le-leb, lt-leb, leb-true, leb-false, ltb-true, ltb-false, eqb-true}
 use Rattle.lists.specs.Lists.{any, All}
-use Rattle.lists.proofs.Tests.{and-left, decide}
+use Rattle.lists.proofs.Tests.{and-left, decide, never}
 use Rattle.lists.proofs.Numbers.{by-number, _▹_}
 use Rattle.table.specs.Table.{methods, offsetOf, returnOf, paramsOf, opAt, argAt, ownerOf, slotType}
 use Rattle.table.specs.Ops.{opOf, ops, opInt, opBool, opGet, opPut, opDrop, opClear, opEnd, opJump, opJFalse, opArith, opCompare, opNot, opCall, opRet, returned, unlisted}
@@ -101,7 +101,8 @@ tag-test (ref (end n false)) = refl
 unless-read : (u : Val) (v : Value) (w : List ℕ) (d : AfterStep) → u ≡ valOf v
     → unlessEmpty u w d ≡ cond (isEmpty v) (afterStep Empty w) d
 unfolding unlessEmpty
-unless-read u v w d e = ap (λ (b : Bool). cond b (afterStep Empty w) d) (ap (λ (x : Val). eqb (x .tag) 0) e ∙ tag-test v)
+unless-read u v w d e =
+    ap (λ (b : Bool). cond b (afterStep Empty w) d) (ap (λ (x : Val). eqb (x .tag) 0) e ∙ tag-test v)
 
 -- the value that INT pushes, and the one that BOOL pushes
 int-value : (a : ℕ) → a < 65536 → intVal (signExtended a) ≡ valOf (int (signed16 a))
@@ -213,7 +214,12 @@ module _ {p : List ℕ} (outcomes : List ℕ) (s : State) {f : Frame} {fs : List
   pub argument-kept : (k : ℕ) → opAt p (f .place) ≡ k → T (opOf k .argument p (ownerOf p (f .place)) a)
   argument-kept k e =
       subst (λ (o : ℕ). T (opOf o .argument p (ownerOf p (f .place)) a)) e
-      (busy .stack .kept .argument (f .place) (inside-bound p (busy .stack .kept) (record { method = busy .stack .sound .0 .method; from-offset = busy .stack .sound .0 .from-offset; ahead = busy .stack .sound .0 .inside })))
+      (busy .stack .kept .argument (f .place) (inside-bound p (busy .stack .kept)
+      (record {
+        method = busy .stack .sound .0 .method;
+        from-offset = busy .stack .sound .0 .from-offset;
+        ahead = busy .stack .sound .0 .inside;
+      })))
 
   -- agreement, carried along what the act and the function's answer are
   abbrev pub Good : Act → AfterStep → Type 0
@@ -317,7 +323,8 @@ module _ {p : List ℕ} (outcomes : List ℕ) (s : State) {f : Frame} {fs : List
       by (act-zero 3 e (taken-by 3 e))
       (unless-read (valueAt w (slotAt hd a)) (getD (f .slots) a empty) w
       (afterStep WentOn (pushOn w hd (valueAt w (slotAt hd a)))) read
-      ∙ ap (λ (v : Val). cond (isEmpty (getD (f .slots) a empty)) (afterStep Empty w) (afterStep WentOn (pushOn w hd v))) read)
+      ∙ ap (λ (v : Val). cond (isEmpty (getD (f .slots) a empty)) (afterStep Empty w)
+      (afterStep WentOn (pushOn w hd v))) read)
       (get-value (getD (f .slots) a empty))
     where
       read : valueAt w (slotAt hd a) ≡ valOf (getD (f .slots) a empty)
@@ -352,13 +359,15 @@ module _ {p : List ℕ} (outcomes : List ℕ) (s : State) {f : Frame} {fs : List
   pub clear-agrees : opAt p (f .place) ≡ 6 → Good act (afterStep WentOn (inSlot w hd a emptyVal))
   unfolding doingOf doings doClear opOf ops opClear passedBy valOf tagOf numberOf valueWords
   clear-agrees e =
-      by (act-zero 6 e (taken-by 6 e)) refl (λ h. ap (afterStep WentOn) (slot-words (busy .stack) a empty (clear-slot e)))
+      by (act-zero 6 e (taken-by 6 e)) refl (λ h. ap (afterStep WentOn)
+      (slot-words (busy .stack) a empty (clear-slot e)))
 
   -- END
 
   pub end-agrees : opAt p (f .place) ≡ 9 → Good act (endOp w hd a)
   unfolding endOp doingOf doings doEnd opOf ops opEnd valOf numberOf valueWords
-  end-agrees e = top-op 9 (λ v. afterStep WentOn (onTop w hd (record { tag = 5 + a; number = v .number }))) e (taken-by 9 e) found
+  end-agrees e =
+      top-op 9 (λ v. afterStep WentOn (onTop w hd (record { tag = 5 + a; number = v .number }))) e (taken-by 9 e) found
     where
       side : a ≤ 1
       side = leb→le a 1 (argument-kept 9 e)
@@ -406,7 +415,8 @@ module _ {p : List ℕ} (outcomes : List ℕ) (s : State) {f : Frame} {fs : List
 
   pub not-agrees : opAt p (f .place) ≡ 23 → Good act (notOp w hd)
   unfolding notOp doingOf doings doNot opOf ops opNot valOf tagOf numberOf valueWords
-  not-agrees e = top-op 23 (λ v. afterStep WentOn (onTop w hd (boolVal (bit (eqb (v .number) 0))))) e (taken-by 23 e) found
+  not-agrees e =
+      top-op 23 (λ v. afterStep WentOn (onTop w hd (boolVal (bit (eqb (v .number) 0))))) e (taken-by 23 e) found
     where
       found : (u : Value) (us : List Value) → f .pending ≡ u ∷ us → isEmpty u ≡ false
           → Good (doNot (scene 1 (u ∷ us))) (afterStep WentOn (onTop w hd (boolVal (bit (eqb (valOf u .number) 0)))))
@@ -476,11 +486,13 @@ module _ {p : List ℕ} (outcomes : List ℕ) (s : State) {f : Frame} {fs : List
       ⊎-elim
       (λ t. subst (λ (b : Bool). Agrees (result (scene 2 (y ∷ x ∷ us)) z) w
       (cond b (afterStep OutOfRange w)
-      (cond (leb 6442450944 n) (afterStep OutOfRange w) (afterStep WentOn (overTwo w hd (intVal (n % 4294967296))))))) (sym t)
+      (cond (leb 6442450944 n) (afterStep OutOfRange w) (afterStep WentOn (overTwo w hd (intVal (n % 4294967296)))))))
+      (sym t)
       (out (sh .low (ltb-true n 2147483648 t))))
       (λ t. subst (λ (b : Bool). Agrees (result (scene 2 (y ∷ x ∷ us)) z) w
       (cond b (afterStep OutOfRange w)
-      (cond (leb 6442450944 n) (afterStep OutOfRange w) (afterStep WentOn (overTwo w hd (intVal (n % 4294967296))))))) (sym t)
+      (cond (leb 6442450944 n) (afterStep OutOfRange w) (afterStep WentOn (overTwo w hd (intVal (n % 4294967296)))))))
+      (sym t)
       (⊎-elim
       (λ u. subst (λ (b : Bool). Agrees (result (scene 2 (y ∷ x ∷ us)) z) w
       (cond b (afterStep OutOfRange w) (afterStep WentOn (overTwo w hd (intVal (n % 4294967296)))))) (sym u)
@@ -493,7 +505,8 @@ module _ {p : List ℕ} (outcomes : List ℕ) (s : State) {f : Frame} {fs : List
     where
       out : inRange z ≡ false → Agrees (result (scene 2 (y ∷ x ∷ us)) z) w (afterStep OutOfRange w)
       out e =
-          subst (λ (b : Bool). Agrees (cond b (pushes (scene 2 (y ∷ x ∷ us)) (int z)) (faults 26)) w (afterStep OutOfRange w))
+          subst (λ (b : Bool). Agrees (cond b (pushes (scene 2 (y ∷ x ∷ us)) (int z)) (faults 26)) w
+          (afterStep OutOfRange w))
           (sym e) (refl, refl)
 
       within : (inRange z ≡ true) × (word32 z ≡ n % 4294967296)
@@ -534,7 +547,8 @@ module _ {p : List ℕ} (outcomes : List ℕ) (s : State) {f : Frame} {fs : List
   pub eq-agrees : opAt p (f .place) ≡ 21 → Good act (eqOp w hd)
   unfolding eqOp doingOf doings doEq opOf ops opCompare
   eq-agrees e =
-      ints-op 21 (λ b x y. pushes b (bool (eqZ x y))) (λ x y. afterStep WentOn (overTwo w hd (boolVal (bit (eqb x y))))) e
+      ints-op 21 (λ b x y. pushes b (bool (eqZ x y))) (λ x y. afterStep WentOn
+      (overTwo w hd (boolVal (bit (eqb x y))))) e
       (taken-by 21 e) (λ b. refl)
       (λ x y us q hx hy. test-good (eqb (word32 x) (word32 y)) (eqZ x y) (int y) (int x) us (words-same x y hx hy) q)
 
@@ -550,7 +564,13 @@ module _ {p : List ℕ} (outcomes : List ℕ) (s : State) {f : Frame} {fs : List
 
   -- the method that instruction place belongs to is the frame's
   pub owner-is : ownerOf p (f .place) ≡ f .method
-  owner-is = inside-owner p (busy .stack .kept) (record { method = busy .stack .sound .0 .method; from-offset = busy .stack .sound .0 .from-offset; ahead = busy .stack .sound .0 .inside })
+  owner-is =
+      inside-owner p (busy .stack .kept) (record {
+        method = busy .stack .sound .0 .method;
+        from-offset =
+            busy .stack .sound .0 .from-offset;
+        ahead = busy .stack .sound .0 .inside;
+      })
 
   any-taken : (vs : List Value) (j : ℕ) → j < length vs
       → any isEmpty (take (suc j) vs) ≡ (any isEmpty (take j vs) || isEmpty (getD vs j empty))
@@ -613,7 +633,8 @@ module _ {p : List ℕ} (outcomes : List ℕ) (s : State) {f : Frame} {fs : List
 
       full-test : (b : Bool) → any isEmpty (take n (f .pending)) ≡ b → n ≤ length (f .pending)
           → Good (cond b (faults 20) (cond (ltb (suc (length fs)) 8) starts (faults 25)))
-          (cond b (afterStep Empty w) (cond (leb 8 (suc (length fs))) (afterStep FrameBeyond8 w) (afterStep WentOn (opened p w hd a n))))
+          (cond b (afterStep Empty w) (cond (leb 8 (suc (length fs))) (afterStep FrameBeyond8 w)
+          (afterStep WentOn (opened p w hd a n))))
       full-test true t l h = (refl, refl)
       full-test false t l h = room-test (ltb (suc (length fs)) 8) refl l h
 
@@ -626,7 +647,8 @@ module _ {p : List ℕ} (outcomes : List ℕ) (s : State) {f : Frame} {fs : List
           stuck) (le-leb n (length (f .pending)) l))
           (ap
           (λ (b : Bool). cond b (afterStep Empty w)
-          (cond (leb 8 (suc (length fs))) (afterStep FrameBeyond8 w) (afterStep WentOn (opened p w hd a n)))) (empty-args n l))
+          (cond (leb 8 (suc (length fs))) (afterStep FrameBeyond8 w) (afterStep WentOn (opened p w hd a n))))
+          (empty-args n l))
           (full-test (any isEmpty (take n (f .pending))) refl l)
 
 -- RET, by whether the frame has a caller
@@ -699,7 +721,8 @@ module _ {p : List ℕ} (outcomes : List ℕ) (s : State) {f : Frame} where
           by outcomes s busy
           (act-zero outcomes s busy 13 e (none-taken z))
           (ap
-          (λ (b : Bool). cond b (cond (eqb (suc (length fs)) 1) (afterStep AtLastRet w) (afterStep WentOn (closed w hd)))
+          (λ (b : Bool). cond b (cond (eqb (suc (length fs)) 1) (afterStep AtLastRet w)
+          (afterStep WentOn (closed w hd)))
           (unlessEmpty (valueAt w (topAt hd 1)) w
           (cond (eqb (suc (length fs)) 1) (afterStep AtLastRet w)
           (afterStep WentOn (handed (closed w hd) (valueAt w (topAt hd 1))))))) t)
@@ -709,12 +732,14 @@ module _ {p : List ℕ} (outcomes : List ℕ) (s : State) {f : Frame} where
       valued t =
           answer-as outcomes s busy (atFrame p outcomes s f fs)
           (ap
-          (λ (b : Bool). cond b (cond (eqb (suc (length fs)) 1) (afterStep AtLastRet w) (afterStep WentOn (closed w hd)))
+          (λ (b : Bool). cond b (cond (eqb (suc (length fs)) 1) (afterStep AtLastRet w)
+          (afterStep WentOn (closed w hd)))
           (unlessEmpty (valueAt w (topAt hd 1)) w
           (cond (eqb (suc (length fs)) 1) (afterStep AtLastRet w)
           (afterStep WentOn (handed (closed w hd) (valueAt w (topAt hd 1))))))) t)
           (top-op outcomes s busy 13
-          (λ v. cond (eqb (suc (length fs)) 1) (afterStep AtLastRet w) (afterStep WentOn (handed (closed w hd) v))) e (one-taken t)
+          (λ v. cond (eqb (suc (length fs)) 1) (afterStep AtLastRet w) (afterStep WentOn (handed (closed w hd) v))) e
+          (one-taken t)
           (λ u us q n. value-return u fs (busy .stack)))
 
 -- one step
@@ -736,9 +761,6 @@ leftAt op =
     NotRunning ∷ AtGate ∷ AtMeas ∷ NotRunning ∷ NotRunning ∷ AtFork ∷ AtSend ∷ AtRecv ∷ [])
     op
     NotRunning
-
-never : {A : Type 0} → false ≡ true → A
-never t = absurd (true≢false (sym t))
 
 left-answers : (p w : List ℕ) (h : Head) (op a : ℕ) → isLeft op ≡ true → actOp p w h op a ≡ afterStep (leftAt op) w
 unfolding actOp opFunctions

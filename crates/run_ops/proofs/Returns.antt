@@ -5,18 +5,12 @@ use mathlib.Core.Bool.{Bool, true, false, cond}
 use mathlib.Core.List.{List}
 use borrow.Author.Tests.{eq-eqb}
 use native.Mathlib.Omega.{arith}
+use Rattle.lists.proofs.Tests.{took}
 use Rattle.table.specs.Table.{word, methods, opAt, argAt}
 use Rattle.run_store.specs.declared.head.Head.{Head}
 use Rattle.run_store.specs.StoreCode.{headOf}
 use Rattle.run_values.specs.ValuesCode.{AfterStep}
 use Rattle.run_ops.specs.OpsCode.{actOp, stepOp}
-
--- a test that passed, and one that failed, in front of an answer
-pub took : {A : Type 0} {b : Bool} (t : Bool) (x y : A) {z : A} → b ≡ t → b ≡ true → z ≡ x → z ≡ cond t x y
-took t x y e p q = rw (sym e ∙ p) q
-
-pub passed-by : {A : Type 0} {b : Bool} (t : Bool) (x y : A) {z : A} → b ≡ t → b ≡ false → z ≡ y → z ≡ cond t x y
-passed-by t x y e p q = rw (sym e ∙ p) q
 
 -- a running process acts by the instruction at its place
 pub step-acts : (p w : List ℕ) (start : ℕ) {h : Head} {op a : ℕ} {d : AfterStep} → h ≡ headOf w → h .status ≡ 1

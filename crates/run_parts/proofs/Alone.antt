@@ -105,7 +105,8 @@ abbrev others : List (At → Act)
 others = set (set doings 15 doNothing) 16 doNothing
 
 others-alone : Each others
-unfolding doings doNothing doInt doBool doGet doPut doDrop doClear doNewQ doNewC doEnd doGate doGateOne doGateTwo doMeas doCall doRet doFork doJump doJFalse doAdd doSub doEq doLess doNot
+unfolding doings doNothing doInt doBool doGet doPut doDrop doClear doNewQ doNewC doEnd doGate doGateOne doGateTwo
+    doMeas doCall doRet doFork doJump doJFalse doAdd doSub doEq doLess doNot
 others-alone =
     cons (λ a. tt)
     (cons (λ a. quietly) (cons (λ a. quietly)

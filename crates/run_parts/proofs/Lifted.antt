@@ -33,7 +33,8 @@ pub lifted-words : (work : List ℕ) (n : ℕ) {from : ℕ} → from ≡ partAt 
 lifted-words work n at ys g e =
     part-returned work n at ys ∙ ap (withPart work n) (e ∙ ap g (part-lent work n at))
 
-pub lifted : (work : List ℕ) (n : ℕ) {from : ℕ} → from ≡ partAt n → (r : StepResult) (ys : List ℕ) (g : List ℕ → AfterStep)
+pub lifted : (work : List ℕ) (n : ℕ) {from : ℕ} → from ≡ partAt n
+    → (r : StepResult) (ys : List ℕ) (g : List ℕ → AfterStep)
     → afterStep r ys ≡ g (lent work from) → afterStep r (returned work from ys) ≡ onPart work n (g (partOf work n))
 unfolding onPart
 lifted work n at r ys g e =

@@ -10,7 +10,7 @@ use borrow.Author.Tests.{eqb-true, eq-eqb, ne-eqb}
 use Rattle.table.specs.Table.{word, methods, opAt}
 use Rattle.run_store.specs.declared.head.Head.{Head}
 use Rattle.run_store.specs.StoreCode.{headAt, headOf, topAt}
-use Rattle.run_ops.proofs.Returns.{took, passed-by}
+use Rattle.lists.proofs.Tests.{took, passed-by, off, on}
 use Rattle.run_values.specs.ValuesCode.{isSend, emptyTwo}
 use Rattle.run_values.specs.declared.steps.StepResult.the-variants.{AtSend, AtRecv}
 use Rattle.run_parts.specs.declared.readiness.ReadinessKind.{ReadinessKind}
@@ -48,7 +48,8 @@ place-read w {frames} e q = q ∙ ap (λ (i : ℕ). getD w i 0) next ∙ ap (λ 
 
 module _ (p w : List ℕ) (runs : headOf w .status ≡ 1) where
   at-op : (op : ℕ) → opAt p (headOf w .place) ≡ op
-      → readinessOp p w ≡ cond (eqb op 15) (sendOf w (headOf w)) (cond (eqb op 16) (receiveOf w (headOf w)) (noOffer Moves))
+      → readinessOp p w ≡ cond (eqb op 15) (sendOf w (headOf w))
+      (cond (eqb op 16) (receiveOf w (headOf w)) (noOffer Moves))
   unfolding readinessOp
   at-op op e =
       ap
@@ -56,7 +57,8 @@ module _ (p w : List ℕ) (runs : headOf w .status ≡ 1) where
       (cond (eqb (opAt p (headOf w .place)) 15) (sendOf w (headOf w))
       (cond (eqb (opAt p (headOf w .place)) 16) (receiveOf w (headOf w)) (noOffer Moves))) (noOffer Over))
       (eq-eqb (headOf w .status) 1 runs)
-      ∙ ap (λ (n : ℕ). cond (eqb n 15) (sendOf w (headOf w)) (cond (eqb n 16) (receiveOf w (headOf w)) (noOffer Moves))) e
+      ∙ ap (λ (n : ℕ). cond (eqb n 15) (sendOf w (headOf w))
+      (cond (eqb n 16) (receiveOf w (headOf w)) (noOffer Moves))) e
 
   pub offers-send : opAt p (headOf w .place) ≡ 15 → offerOf w AtSend ≡ readinessOp p w
   unfolding offerOf isSend
@@ -73,7 +75,8 @@ nothing-alone p w h =
     go (eqb (headOf w .status) 1) (eqb (opAt p (headOf w .place)) 15) (eqb (opAt p (headOf w .place)) 16) h
   where
     go : (a b c : Bool) → cond a (not b && not c) false ≡ true
-        → cond a (cond b (sendOf w (headOf w)) (cond c (receiveOf w (headOf w)) (noOffer Moves))) (noOffer Over) .kind ≡ Moves
+        → cond a (cond b (sendOf w (headOf w)) (cond c (receiveOf w (headOf w)) (noOffer Moves))) (noOffer Over) .kind
+        ≡ Moves
     go true true c e = absurd (true≢false (sym e))
     go true false true e = absurd (true≢false (sym e))
     go true false false e = refl
@@ -137,16 +140,8 @@ module _ (a b : Readiness) where
     pub meets-kinds : not kinds ≡ true → false ≡ meetsOp a b
     unfolding meetsOp
     meets-kinds h = ap (λ (k : Bool). (k && sides) && numbers) (sym (off kinds h) ∙ e)
-      where
-        off : (k : Bool) → not k ≡ true → k ≡ false
-        off true i = sym i
-        off false i = refl
 
     module _ (h : not kinds ≡ false) where
-      on : (k : Bool) → not k ≡ false → k ≡ true
-      on true i = refl
-      on false i = sym i
-
       both : meetsOp a b ≡ (sides && numbers)
       unfolding meetsOp
       both = ap (λ (k : Bool). (k && sides) && numbers) (sym e ∙ on kinds h)

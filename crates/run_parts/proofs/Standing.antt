@@ -44,7 +44,8 @@ Stands ends st = st ≡ noOffer Moves
 Stands (makes t fs) st = st ≡ noOffer Moves
 Stands (forks m args fs) st = st ≡ noOffer Moves
 Stands (offers (sends c d v gs)) st = st ≡ record { kind = Sends; end = valOf (ref (end c d)); value = valOf v }
-Stands (offers (receives c d gs)) st = st ≡ record { kind = Receives; end = valOf (ref (end c d)); value = valuesCode.emptyVal }
+Stands (offers (receives c d gs)) st =
+    st ≡ record { kind = Receives; end = valOf (ref (end c d)); value = valuesCode.emptyVal }
 
 alone-stands : (x : Act) → Alone x → Stands x (noOffer Moves)
 alone-stands idle h = absurd h
@@ -173,10 +174,12 @@ module _ {p : List ℕ} (outcomes : List ℕ) (s : State) {f : Frame} {fs : List
       (record { kind = Sends; end = valOf x; value = valOf y })
   unfolding sendOf emptyTwo
   read-send y x us q =
-      ap₂ (λ (u v : Val). cond (eqb (u .tag) 0 || eqb (v .tag) 0) (noOffer Moves) (record { kind = Sends; end = u; value = v }))
+      ap₂ (λ (u v : Val). cond (eqb (u .tag) 0 || eqb (v .tag) 0) (noOffer Moves)
+      (record { kind = Sends; end = u; value = v }))
       (read-second outcomes s busy y x us q)
       (read-top outcomes s busy y (x ∷ us) q)
-      ∙ ap₂ (λ (b c : Bool). cond (b || c) (noOffer Moves) (record { kind = Sends; end = valOf x; value = valOf y })) (tag-test x) (tag-test y)
+      ∙ ap₂ (λ (b c : Bool). cond (b || c) (noOffer Moves) (record { kind = Sends; end = valOf x; value = valOf y }))
+      (tag-test x) (tag-test y)
 
   at-send : opAt p (f .place) ≡ 15 → Good does (sendOf words top)
   unfolding doingOf doings opOf ops opSend
@@ -205,12 +208,18 @@ module _ {p : List ℕ} (outcomes : List ℕ) (s : State) {f : Frame} {fs : List
   received (ref (end n r)) us q = (refl, (us, q, refl))
 
   read-receive : (u : Value) (us : List Value) → f .pending ≡ u ∷ us
-      → receiveOf words top ≡ cond (isEmpty u) (noOffer Moves) (record { kind = Receives; end = valOf u; value = valuesCode.emptyVal })
+      → receiveOf words top ≡ cond (isEmpty u) (noOffer Moves)
+      (record { kind = Receives; end = valOf u; value = valuesCode.emptyVal })
   unfolding receiveOf
   read-receive u us q =
-      ap (λ (v : Val). cond (eqb (v .tag) 0) (noOffer Moves) (record { kind = Receives; end = v; value = valuesCode.emptyVal }))
+      ap (λ (v : Val). cond (eqb (v .tag) 0) (noOffer Moves)
+      (record { kind = Receives; end = v; value = valuesCode.emptyVal }))
       (read-top outcomes s busy u us q)
-      ∙ ap (λ (b : Bool). cond b (noOffer Moves) (record { kind = Receives; end = valOf u; value = valuesCode.emptyVal })) (tag-test u)
+      ∙ ap (λ (b : Bool). cond b (noOffer Moves) (record {
+        kind = Receives;
+        end = valOf u;
+        value = valuesCode.emptyVal;
+      })) (tag-test u)
 
   at-receive : opAt p (f .place) ≡ 16 → Good does (receiveOf words top)
   unfolding doingOf doings opOf ops opRecv
@@ -282,10 +291,26 @@ unfolding meetsOp oppositeKinds sendKind receiveKind eitherWay joins isMeeting
 meets-is n q (sends c d v gs) (sends c′ d′ v′ gs′) st st′ h h′ = ap₂ meetsOp h h′
 meets-is n q (sends c d v gs) (receives c′ d′ gs′) st st′ h h′ =
     ap₂ meetsOp h h′
-    ∙ ends-meet c c′ d d′ (record { sender = n; receiver = q; channel = c; side = d; value = v; senderFrames = gs; receiverFrames = gs′ })
+    ∙ ends-meet c c′ d d′ (record {
+      sender = n;
+      receiver = q;
+      channel = c;
+      side = d;
+      value = v;
+      senderFrames = gs;
+      receiverFrames = gs′;
+    })
 meets-is n q (receives c d gs) (sends c′ d′ v′ gs′) st st′ h h′ =
     ap₂ meetsOp h h′
-    ∙ ends-meet c c′ d d′ (record { sender = q; receiver = n; channel = c′; side = d′; value = v′; senderFrames = gs′; receiverFrames = gs })
+    ∙ ends-meet c c′ d d′ (record {
+      sender = q;
+      receiver = n;
+      channel = c′;
+      side = d′;
+      value = v′;
+      senderFrames = gs′;
+      receiverFrames = gs;
+    })
 meets-is n q (receives c d gs) (receives c′ d′ gs′) st st′ h h′ = ap₂ meetsOp h h′
 
 -- a readiness that is no offer's meets none

@@ -15,8 +15,8 @@ use run_values::steps::StepResult;
 use run_values::steps::is_send;
 use table::words::word_at;
 
-// What a process can do: it is over or not made; it moves by itself, by a step or a fault; it offers to send; it offers to
-// receive.
+// What a process can do: it is over or not made; it moves by itself, by a step or a fault; it offers to send; it offers
+// to receive.
 pub enum ReadinessKind {
     Over,
     Moves,

@@ -63,7 +63,8 @@ module _ (p schedule outcomes : List ℕ) (words : ℕ) (ok : questions p schedu
       omega (
         arith,
         leb-true (getD outcomes i 0) 2
-            (none-first 6 (λ j. leb (getD outcomes j 0) 2) (length outcomes) (and-first (question6 outcomes) _ inputs) i l),
+            (none-first 6 (λ j. leb (getD outcomes j 0) 2) (length outcomes) (and-first (question6 outcomes) _ inputs)
+            i l),
       ))
 
   pub schedule-short : length schedule ≤ 65535

@@ -124,5 +124,11 @@ module _ (p : List ℕ) (kept : Kept p) (work : List ℕ) (h : 8256 ≤ length w
   pub leaves-same : (r : Result) (trace : List ℕ) → runLeaves r trace begun ≡ runLeaves r trace work
   unfolding runLeaves storeAfter
   leaves-same r trace =
-      ap (λ (w : List ℕ). afterRun (record { end = r .end; entries = r .entries; lines = length (r .state .lines); used = r .state .used }) (traceAfter (r .state .lines) trace)
+      ap (λ (w : List ℕ). afterRun (record {
+        end = r .end;
+        entries = r .entries;
+        lines = length (r .state .lines);
+        used
+            = r .state .used;
+      }) (traceAfter (r .state .lines) trace)
       (encode (r .state .config) ++ (holderWords (r .state .lines) ++ w))) rest-same

@@ -96,7 +96,8 @@ module _ {p schedule outcomes t0 rest : List ℕ} {room : ℕ} (given : Inputs p
 
     module _ {t : List (List ℕ)} {known : Knowledge} (r : Stands given k t known)
         (l : k < length schedule) where
-      pass-idle : (d : AfterStep) → wentOn (d .result) ≡ false → notRunning (d .result) ≡ true → d .words ≡ work₀ given k → known .some ≡ true
+      pass-idle : (d : AfterStep) → wentOn (d .result) ≡ false → notRunning (d .result) ≡ true
+          → d .words ≡ work₀ given k → known .some ≡ true
           → able p outcomes (at given k) (named given k) ≡ false → Done t known d
       unfolding knownAfterStep isDone
       pass-idle d c o w i a = record {
@@ -117,7 +118,8 @@ module _ {p schedule outcomes t0 rest : List ℕ} {room : ℕ} (given : Inputs p
             ready-plain given k r l (x .can) (x .lines) (x .used) (d .words) (x .words)
             (knownAfterStep p (d .words) (named given k) known (d .result))
             (λ i. stepped-goes r d x low ws refl (by-itself i))
-            (λ i. stepped-idle r d x low ws refl (by-itself i) (still-some p (d .words) (named given k) known (d .result) i) free);
+            (λ i. stepped-idle r d x low ws refl (by-itself i)
+            (still-some p (d .words) (named given k) known (d .result) i) free);
       }
         where
           d : AfterStep
@@ -192,7 +194,8 @@ module _ {p schedule outcomes t0 rest : List ℕ} {room : ℕ} (given : Inputs p
           steps = onPart (work₀ given k) (named given k) (stepOp p (partOf (work₀ given k) (named given k)))
 
           go : (a b : Bool) → leb 8 (named given k) ≡ a → isIdle known (named given k) ≡ b
-              → Passes t known (cond a (afterStep NotRunning (work₀ given k)) (cond b (afterStep NotRunning (work₀ given k)) steps))
+              → Passes t known (cond a (afterStep NotRunning (work₀ given k))
+              (cond b (afterStep NotRunning (work₀ given k)) steps))
           go true b i j = hold (afterStep NotRunning (work₀ given k)) (far-law given k r (leb-true 8 (named given k) i))
           go false true i j =
               let known-so = known-idle given k r (leb-false 8 (named given k) i) j in
@@ -215,7 +218,8 @@ module _ {p schedule outcomes t0 rest : List ℕ} {room : ℕ} (given : Inputs p
       → left ≡ length schedule - k → Ready given k work trace t lines used known
       → Burst-good trace t lines used (burstOp p t schedule work k known left)
   unfolding burstOp unpaired
-  burst-law zero k e r = record { ready = r; near = (omega arith, omega arith); entered = λ l. absurd (omega (arith, l, e)) }
+  burst-law zero k e r =
+      record { ready = r; near = (omega arith, omega arith); entered = λ l. absurd (omega (arith, l, e)) }
   burst-law (suc left) k {work} {trace} {t} {lines} {used} {known} e r =
       subst (λ (w : List ℕ). Burst-good trace t lines used (burstOp p t schedule w k known (suc left))) (sym (r .store))
       (⊎-elim (λ x. done x (burst-law left (suc k) less (goes-there (x .ready))))

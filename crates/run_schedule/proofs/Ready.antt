@@ -164,8 +164,12 @@ module _ {p schedule outcomes t0 rest : List ℕ} {room : ℕ} (given : Inputs p
       sure = kn;
       idle = id;
       fit =
-          omega
-          (arith, leb-true (length (at k .lines) + length (effect .lines)) room f, length-append (at k .lines) (effect .lines));
+          omega (
+            arith,
+            leb-true (length (at k .lines) + length (effect .lines)) room f,
+            length-append (at k .lines)
+                (effect .lines),
+          );
       fewLines = omega (arith, r .fewLines, small-effect .1, length-append (at k .lines) (effect .lines));
       fewUsed = omega (arith, r .fewUsed, small-effect .0);
     }
@@ -288,12 +292,14 @@ module _ {p schedule outcomes t0 rest : List ℕ} {room : ℕ} (given : Inputs p
         entered =
             ap
             (λ (b : Bool). cond b (afterEntry (idleAt count₀) trace₀ work₀)
-            (entryOp p outcomes trace₀ work₀ room count₀ named NotRunning (offerAt p work₀ t named NotRunning))) (le-leb 8 named h)
+            (entryOp p outcomes trace₀ work₀ room count₀ named NotRunning (offerAt p work₀ t named NotRunning)))
+            (le-leb 8 named h)
             ∙ sym (ap (λ (b : Bool). comes b (fits room (at k) effect)) (unmade h));
       }
 
       here : Here p outcomes (at k) t0 room
-      here = record { reached = reached; holds = given .holds; small = omega (arith, r .fewUsed, r .inside, given .short) }
+      here =
+          record { reached = reached; holds = given .holds; small = omega (arith, r .fewUsed, r .inside, given .short) }
 
       abbrev step₀ : AfterStep
       step₀ = stepOp p (partOf work₀ named)
@@ -349,7 +355,8 @@ module _ {p schedule outcomes t0 rest : List ℕ} {room : ℕ} (given : Inputs p
         → namedEntryOp p outcomes trace work room (record { entry = k; lines = lines; used = used }) named step m
         ≡ comesTo
     entry-as r step m e =
-        (λ i. namedEntryOp p outcomes (r .written i) (r .store i) room (record { entry = k; lines = r .counted i; used = r .drawn i }) named step m) ∙ e
+        (λ i. namedEntryOp p outcomes (r .written i) (r .store i) room
+        (record { entry = k; lines = r .counted i; used = r .drawn i }) named step m) ∙ e
 
     -- an entry whose offer comes to waiting is idle
     pub idle-unable : (t : List (List ℕ)) (step : StepResult) → offerAt p work₀ t named step .kind ≡ Waits

@@ -55,7 +55,8 @@ module _ {p schedule outcomes t0 rest : List ℕ} {room : ℕ} (given : Inputs p
         → Turns t lines
         (turnOp p outcomes trace work room t (record { entry = k; lines = lines; used = used }) (named given k) step m
         known)
-    unfolding turnOp turnBy endAfter knownAfter namedEntryOp holdersAfterLines changedFrom nothingKnown alone knownAfterStep knownAfterEntry unlessChanged
+    unfolding turnOp turnBy endAfter knownAfter namedEntryOp holdersAfterLines changedFrom nothingKnown alone
+        knownAfterStep knownAfterEntry unlessChanged
     turn-law {work} {trace} {t} {lines} {used} {known} r l step m e =
         subst (λ (c : AfterEntry). Turns t lines (turnBy p t (named given k) step known c)) (sym e)
         (go (able p outcomes (at given k) (named given k)) (fits room (at given k) (effect given k)) refl refl)
@@ -93,8 +94,7 @@ module _ {p schedule outcomes t0 rest : List ℕ} {room : ℕ} (given : Inputs p
               end = endingOp p (work₀ given k) t 8;
               lines = length (at given k .lines);
               used = at given k .used;
-              known =
-                  withIdle known (named given k);
+              known = withIdle known (named given k);
             })
             (trace₀ given k) (work₀ given k))
         stay a = ends (endingOp p (work₀ given k) t 8) refl
@@ -116,7 +116,13 @@ module _ {p schedule outcomes t0 rest : List ℕ} {room : ℕ} (given : Inputs p
             ends zero j = idles a (sym is ∙ j)
             ends (suc x) j = inr (
               λ z. absurd (omega (arith, z)),
-              record { ends = r .runs ∙ ends-here p outcomes room (at given k) k x (drop k schedule) (sym is ∙ j); store = refl; written = refl; counted = refl; drawn = refl },
+              record {
+                ends = r .runs ∙ ends-here p outcomes room (at given k) k x (drop k schedule) (sym is ∙ j);
+                store = refl;
+                written = refl;
+                counted = refl;
+                drawn = refl;
+              },
             )
 
         go : (a f : Bool) → able p outcomes (at given k) (named given k) ≡ a
@@ -197,7 +203,8 @@ module _ {p schedule outcomes t0 rest : List ℕ} {room : ℕ} (given : Inputs p
                 .work)
                 (lt-leb 8 (named given k) low))
                 ∙ ap (λ (c : AfterEntry). c .work)
-                ((λ x. namedEntryOp p outcomes (sym (r .written) x) (sym (r .store) x) room (record { entry = k; lines = sym (r .counted) x; used = sym (r .drawn) x }) (named given k) step m)
+                ((λ x. namedEntryOp p outcomes (sym (r .written) x) (sym (r .store) x) room
+                (record { entry = k; lines = sym (r .counted) x; used = sym (r .drawn) x }) (named given k) step m)
                 ∙ e)
                 ∙ ap₂ (λ (a f : Bool). comes given k a f .work) i j
 

@@ -35,24 +35,28 @@ use Rattle.run_burst.specs.KnowledgeCode.{nothingKnown, withIdle, knownAfterSte
 use Rattle.run_burst.specs.BurstCode.{Stop, stopsAt, namedOp, isDone, stopsHere, burstOp, SameBurst}
 use Rattle.run_burst.specs.TurnCode.{afterTurn, turnAt}
 use Rattle.run_burst.proofs.AtOnce.{none-taken}
+use Rattle.run_schedule.specs.declared.entries.RunSummary.{RunSummary}
 use Rattle.run_schedule.specs.SummaryCode.{afterRun, runLeaves}
 use Rattle.run_schedule.proofs.Ready.{Inputs, Ready, AtEnd, ready-start, ready-last, state-sound}
 use Rattle.run_schedule.proofs.Resting.{linesTo, lines-to, other-rest, ready-rest}
 use Rattle.run_schedule.proofs.Taking.{Turns, turn-law}
 use Rattle.run_schedule.proofs.Bursting.{Burst-good, burst-law}
 
--- the words beyond the configuration's: the stored holders, by the lines that the trace holds, and what the caller keeps
+-- the words beyond the configuration's: the stored holders, by the lines that the trace holds, and what the caller
+-- keeps
 abbrev pub restOf : List ℕ → ℕ → List ℕ → List ℕ
 restOf trace lines beyond = holderWords (linesTo trace lines) ++ beyond
 
 -- the state before the entry at which a burst has stopped, or at the schedule's end
-pub record Going (p schedule outcomes : List ℕ) (room : ℕ) (beyond t0 work trace : List ℕ) (t : List (List ℕ)) (lines used : ℕ) (b : Burst) :
+pub record Going (p schedule outcomes : List ℕ) (room : ℕ) (beyond t0 work trace : List ℕ) (t : List (List ℕ))
+    (lines used : ℕ) (b : Burst) :
     Type 0 where
   pub given : Inputs p schedule outcomes t0 (restOf trace lines beyond) room
   pub stands : Burst-good given trace t lines used (stopsAt b work)
 
 -- the state before a burst that starts at entry k, where the entries from `from` on have been taken already
-pub record Before (p schedule outcomes : List ℕ) (room : ℕ) (beyond t0 work trace : List ℕ) (t : List (List ℕ)) (lines used k : ℕ) (known : Knowledge) :
+pub record Before (p schedule outcomes : List ℕ) (room : ℕ) (beyond t0 work trace : List ℕ) (t : List (List ℕ))
+    (lines used k : ℕ) (known : Knowledge) :
     Type 0 where
   pub given : Inputs p schedule outcomes t0 (restOf trace lines beyond) room
   pub from : ℕ
@@ -127,7 +131,8 @@ module _ {p schedule outcomes : List ℕ} {room : ℕ} {t0 : List ℕ} where
     }
 
     pub not-back : k ≤ b .at
-    not-back = subst (λ (y : Stop). k ≤ y .burst .at) (sym stops) (burst-past p t schedule work k known (length schedule - k))
+    not-back =
+        subst (λ (y : Stop). k ≤ y .burst .at) (sym stops) (burst-past p t schedule work k known (length schedule - k))
 
   module _ {work trace : List ℕ} {t : List (List ℕ)} {lines used : ℕ} {b : Burst} {beyond : List ℕ}
       (g : Going p schedule outcomes room beyond t0 work trace t lines used b) where
@@ -153,16 +158,18 @@ module _ {p schedule outcomes : List ℕ} {room : ℕ} {t0 : List ℕ} where
     over-leaves w0 same {end} o =
         (λ i. afterRun (record { end = end; entries = b .at; lines = o .counted i; used = o .drawn i }) (o .written i)
         ((o .store
-        ∙ ap₂ (λ (ls : List Line) (l : List ℕ). encode (stateAt p outcomes schedule (b .at) .config) ++ (holderWords ls ++ l)) lines-there same) i))
+        ∙ ap₂ (λ (ls : List Line) (l : List ℕ). encode (stateAt p outcomes schedule (b .at) .config)
+        ++ (holderWords ls ++ l)) lines-there same) i))
         ∙ ap (λ (r : Result). runLeaves r t0 w0) (sym (o .ends))
 
     -- the schedule is used up
     pub going-ends : (w0 : List ℕ) → beyond ≡ drop 8256 w0 → length schedule ≤ b .at → {end : ℕ}
-        → end ≡ endingOp p work t 8
-        → afterRun (record { end = end; entries = b .at; lines = lines; used = used }) trace work ≡ runLeaves
-        (run p outcomes room schedule) t0 w0
-    going-ends w0 same h {end} e =
-        ap (λ (x : ℕ). afterRun (record { end = x; entries = b .at; lines = lines; used = used }) trace work) e
+        → end ≡ endingOp p work t 8 → {o : RunSummary}
+        → o ≡ record { end = end; entries = b .at; lines = lines; used = used }
+        → afterRun o trace work ≡ runLeaves (run p outcomes room schedule) t0 w0
+    going-ends w0 same h e q =
+        ap (λ (o : RunSummary). afterRun o trace work) q
+        ∙ ap (λ (x : ℕ). afterRun (record { end = x; entries = b .at; lines = lines; used = used }) trace work) e
         ∙ over-leaves w0 same (ready-last (g .given) (b .at) there h)
 
     module _ (more : b .at < length schedule) {r : Turn} {trace′ work′ : List ℕ}
@@ -174,10 +181,12 @@ module _ {p schedule outcomes : List ℕ} {room : ℕ} {t0 : List ℕ} where
           (turn-law (g .given) (b .at) there more (b .step) (b .offer) (g .stands .entered more))
 
       -- the run is over
-      pub going-over : (w0 : List ℕ) → beyond ≡ drop 8256 w0 → r .end ≢ 0
-          → afterRun (record { end = r .end; entries = b .at; lines = r .lines; used = r .used }) trace′ work′
-          ≡ runLeaves (run p outcomes room schedule) t0 w0
-      going-over w0 same h = ⊎-elim (λ x. absurd (h (x .0))) (λ x. over-leaves w0 same (x .1)) turn
+      pub going-over : (w0 : List ℕ) → beyond ≡ drop 8256 w0 → r .end ≢ 0 → {o : RunSummary}
+          → o ≡ record { end = r .end; entries = b .at; lines = r .lines; used = r .used }
+          → afterRun o trace′ work′ ≡ runLeaves (run p outcomes room schedule) t0 w0
+      going-over w0 same h q =
+          ap (λ (o : RunSummary). afterRun o trace′ work′) q
+          ∙ ⊎-elim (λ x. absurd (h (x .0))) (λ x. over-leaves w0 same (x .1)) turn
 
       module _ (goes : r .end ≡ 0) where
         next :
@@ -212,14 +221,18 @@ module _ {p schedule outcomes : List ℕ} {room : ℕ} {t0 : List ℕ} where
               arith,
               next .1 .counted,
               there .counted,
-              ap (λ (ls : List Line). length ls) after-lines ∙ length-append (stateAt p outcomes schedule (b .at) .lines) new,
+              ap (λ (ls : List Line). length ls) after-lines ∙ length-append
+                  (stateAt p outcomes schedule (b .at) .lines) new,
             )
 
-        stored-next : storedAfterLines work′ trace′ lines (r .lines - lines) ≡ encode (after .config) ++ restOf trace′ (r .lines) beyond
+        stored-next : storedAfterLines work′ trace′ lines (r .lines - lines) ≡ encode (after .config) ++ restOf trace′
+            (r .lines) beyond
         stored-next =
             (λ i. storedAfterLines
-            ((next .1 .store ∙ ap (λ (ls : List Line). encode (after .config) ++ (holderWords ls ++ beyond)) lines-there) i)
-            ((next .1 .written ∙ ap (λ (ls : List Line). traceAfter ls t0) after-lines) i) (there .counted i) (more-lines i))
+            ((next .1 .store ∙ ap (λ (ls : List Line). encode (after .config) ++ (holderWords ls ++ beyond))
+            lines-there) i)
+            ((next .1 .written ∙ ap (λ (ls : List Line). traceAfter ls t0) after-lines) i) (there .counted i)
+            (more-lines i))
             ∙ stored-lines (encode (after .config)) beyond (stateAt p outcomes schedule (b .at) .lines) new t0
             (encode-length p (after .config) (state-sound (g .given) (suc (b .at))))
             ∙ ap (λ (ls : List Line). encode (after .config) ++ (holderWords ls ++ beyond))
@@ -234,7 +247,8 @@ module _ {p schedule outcomes : List ℕ} {room : ℕ} {t0 : List ℕ} where
             newly = other-rest (g .given) (restOf trace′ (r .lines) beyond)
 
             -- it goes on
-            pub before-next : Before p schedule outcomes room beyond t0 work″ trace′ u (r .lines) (r .used) (b .at + 1) known
+            pub before-next : Before p schedule outcomes room beyond t0 work″ trace′ u (r .lines) (r .used) (b .at + 1)
+                known
             before-next = record {
               given = newly;
               from = b .at + 1;

@@ -17,8 +17,7 @@ use run_burst::consecutive::take_first;
 use run_burst::knowledge::nothing_known;
 use run_burst::turn::turn_at;
 use run_holders::ends::no_holders;
-use run_holders::notes::note_lines;
-use run_holders::stored::store_lines;
+use run_holders::update::update_holders;
 
 // The end, the entries used, the lines written and the outcomes used.
 pub struct RunSummary {
@@ -26,6 +25,17 @@ pub struct RunSummary {
     pub entries: usize,
     pub lines: u32,
     pub used: u32,
+}
+
+fn summary(end: u32, entries: usize, lines: u32, used: u32) -> RunSummary
+    ensures { λ r. ⌜ r ≡ record { end = end; entries = entries; lines = lines; used = used } ⌝ }
+{
+    RunSummary {
+        end: end,
+        entries: entries,
+        lines: lines,
+        used: used,
+    }
 }
 
 // From the start of a run to its end: a burst of entries that write no line, then the entry at which it stops, again
@@ -52,12 +62,8 @@ pub fn run_entries(
     loop {
         let b = next_burst(p, start, work, &t, schedule, k, known);
         if schedule.len() <= b.at {
-            return RunSummary {
-                end: ending(p, start, work, &t),
-                entries: b.at,
-                lines: lines,
-                used: used,
-            };
+            let end = ending(p, start, work, &t);
+            return summary(end, b.at, lines, used);
         }
         let r = turn_at(
             p,
@@ -73,15 +79,9 @@ pub fn run_entries(
             b,
         );
         if r.end != 0 {
-            return RunSummary {
-                end: r.end,
-                entries: b.at,
-                lines: r.lines,
-                used: r.used,
-            };
+            return summary(r.end, b.at, r.lines, r.used);
         }
-        let changed = note_lines(&mut t, trace, lines, r.lines);
-        store_lines(work, trace, lines, r.lines);
+        let changed = update_holders(&mut t, work, trace, lines, r.lines);
         lines = r.lines;
         used = r.used;
         let left = r.known;

@@ -107,7 +107,8 @@ module _ {p outcomes : List ℕ} {s : State} {t0 : List ℕ} {room : ℕ} (here 
             (inPart work n (concludeOp p (partOf work n) what q c outcomes (s .used)))) (qubits-word config rest)
             (channels-word config rest)
             ∙ ap (λ (l : AfterEvent). recorded trace count n (inPart work n l)) conc
-            ∙ ap (λ (w : List ℕ). recorded trace count n (afterEvent answer w)) (part-put config laid rest n pr made long)
+            ∙ ap (λ (w : List ℕ). recorded trace count n (afterEvent answer w))
+            (part-put config laid rest n pr made long)
 
         lines-count : length (s .lines) + 1 ≡ length (s .lines ++ e .lines)
         lines-count =
@@ -130,7 +131,8 @@ module _ {p outcomes : List ℕ} {s : State} {t0 : List ℕ} {room : ℕ} (here 
             used-same : (s .used + answer .used) % 4294967296 ≡ s .used + e .used
             used-same = mod-eq-of-lt (omega (arith, here .small, one)) ∙ ap (λ (u : ℕ). s .used + u) (sym us)
 
-            trace-same : withLine trace (length (s .lines)) (eventLine k n answer) ≡ traceAfter (s .lines ++ e .lines) t0
+            trace-same : withLine trace (length (s .lines)) (eventLine k n answer) ≡ traceAfter (s .lines ++ e .lines)
+                t0
             trace-same =
                 ap (withLine trace (length (s .lines))) line
                 ∙ written.line-written (s .lines) t0 (lineOf k n ev)
@@ -156,7 +158,8 @@ module _ {p outcomes : List ℕ} {s : State} {t0 : List ℕ} {room : ℕ} (here 
         single-law (live .made) what (faultEvent m) halted (stops m) (applied p outcomes k s n (faults m))
         (ap (λ (w : List ℕ). concludeOp p w what (config .qubits) (config .channels) outcomes (s .used)) part-now
         ∙ conc
-        ∙ ap (λ (gs : List Frame). afterEvent (faultEvent m) (processWords (record { status = stopped m; frames = gs }))) (sym frames-are))
+        ∙ ap (λ (gs : List Frame). afterEvent (faultEvent m)
+        (processWords (record { status = stopped m; frames = gs }))) (sym frames-are))
         (process-length p config halted (record { status = (listed, some); depth = deep-now; frames = fine-now }))
         refl refl refl (omega arith) refl
       where

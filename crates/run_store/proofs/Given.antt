@@ -178,7 +178,8 @@ module _ (t : Thing) where
         (run-of (set us j (without (t ∷ []) (getD us j empty))) ++ ys)
     unfolding emptiedOne without
     row-emptied us j h =
-        ap (λ (b : Bool). cond b (putValue (xs ++ (run-of us ++ ys)) (64 + 2 * j) (record { tag = 0; number = 0 })) (xs ++ (run-of us ++ ys)))
+        ap (λ (b : Bool). cond b (putValue (xs ++ (run-of us ++ ys)) (64 + 2 * j) (record { tag = 0; number = 0 }))
+        (xs ++ (run-of us ++ ys)))
         (ap (lostVal (valOf (ref t))) (row-value us j h) ∙ lost-test t (getD us j empty))
         ∙ chosen (lostWith t (getD us j empty))
       where

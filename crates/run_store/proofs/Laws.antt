@@ -129,12 +129,16 @@ pub one-emptied : (w : List ℕ) (t : Val) (i : ℕ) {v u : Val} {b : Bool} {w�
     → b ≡ lostVal t v → b ≡ true
     → u ≡ record { tag = 0; number = 0 } → w′ ≡ putValue w i u → w′ ≡ emptiedOne w t i
 unfolding emptiedOne
-one-emptied w t i e l p q r = r ∙ ap (putValue w i) q ∙ sym (ap (λ (b : Bool). cond b (putValue w i (record { tag = 0; number = 0 })) w) (ap (lostVal t) (sym e) ∙ sym l ∙ p))
+one-emptied w t i e l p q r =
+    r ∙ ap (putValue w i) q ∙ sym (ap (λ (b : Bool). cond b (putValue w i (record { tag = 0; number = 0 })) w)
+    (ap (lostVal t) (sym e) ∙ sym l ∙ p))
 
 pub one-kept : (w : List ℕ) (t : Val) (i : ℕ) {v : Val} {b : Bool} → v ≡ valueAt w i → b ≡ lostVal t v → b ≡ false
     → w ≡ emptiedOne w t i
 unfolding emptiedOne
-one-kept w t i e l p = sym (ap (λ (b : Bool). cond b (putValue w i (record { tag = 0; number = 0 })) w) (ap (lostVal t) (sym e) ∙ sym l ∙ p))
+one-kept w t i e l p =
+    sym (ap (λ (b : Bool). cond b (putValue w i (record { tag = 0; number = 0 })) w)
+    (ap (lostVal t) (sym e) ∙ sym l ∙ p))
 
 -- a value is lost with a qubit where it is that qubit
 
@@ -155,7 +159,10 @@ module _ (w : List ℕ) (q i : ℕ) where
 
   pub other-tag : (getD w i 0 ≡ 3 → ⊥) → w ≡ emptiedOne w (record { tag = 3; number = q }) i
   unfolding valueAt
-  other-tag n = one-kept w (record { tag = 3; number = q }) i refl (lost-by-tag (record { tag = 3; number = q }) (valueAt w i) (sym (tags-qubit (getD w i 0))) (ne-eqb 3 (getD w i 0) (λ e. n (sym e)))) refl
+  other-tag n =
+      one-kept w (record { tag = 3; number = q }) i refl
+      (lost-by-tag (record { tag = 3; number = q }) (valueAt w i) (sym (tags-qubit (getD w i 0)))
+      (ne-eqb 3 (getD w i 0) (λ e. n (sym e)))) refl
 
   pub other-number : (getD w (i + 1) 0 ≡ q → ⊥) → w ≡ emptiedOne w (record { tag = 3; number = q }) i
   unfolding emptiedOne lostVal valueAt

@@ -9,7 +9,7 @@ use lib.Dec.{eqb, leb}
 use Rattle.run_store.specs.declared.values.Val.{Val}
 use Rattle.trace_lines.specs.declared.TraceLine.{TraceLine}
 use Rattle.trace_lines.specs.WrittenCode.{withLine}
-use Rattle.run_ops.proofs.Returns.{took, passed-by}
+use Rattle.lists.proofs.Tests.{took, passed-by}
 use Rattle.run_transfer.specs.TransferCode.{operandOf, argHanded, argsHanded, argGiven, argsGiven}
 use Rattle.run_transfer.specs.ForkLinesCode.{Gifts, gifts, thingsIn, giftLine, giftAdded, giftsAdded, forkLine, forkWritten}
 use Rattle.run_transfer.specs.MeetingLinesCode.{metLine, passedLine, valueLine, metWritten}
@@ -79,7 +79,14 @@ pub met-line : (entry n q : ℕ) (e : Val) {side : ℕ} → side ≡ cond (eqb (
     → record { entry = entry; process = n; kind = 7; a = q; b = e .number % 65536; c = side } ≡ metLine entry n q e
 unfolding metLine
 met-line entry n q e s =
-    ap {B = TraceLine} (λ (x : ℕ). record { entry = entry; process = n; kind = 7; a = q; b = e .number % 65536; c = x }) s
+    ap {B = TraceLine} (λ (x : ℕ). record {
+      entry = entry;
+      process = n;
+      kind = 7;
+      a = q;
+      b = e .number % 65536;
+      c = x;
+    }) s
 
 module _ (entry n q : ℕ) where
   pub passes : (v : Val) {l : TraceLine} → v .tag < 3 → l ≡ passedLine entry n v → l ≡ valueLine entry n q v

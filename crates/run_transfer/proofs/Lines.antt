@@ -45,7 +45,8 @@ module _ (c : Config) (fewQ : c .qubits ≤ 32) (fewC : c .channels ≤ 16) wher
       (record { entry = k; process = n; kind = 6; a = to; b = thingKind t; c = thingNo t % 65536 })
       ≡ traceAfter (ls ++ (lineOf k n (gave to t) ∷ [])) t0
   one-gift t ls t0 k n to h room =
-      ap (λ (i : ℕ). withLine (traceAfter ls t0) (length ls) (record { entry = k; process = n; kind = 6; a = to; b = thingKind t; c = i })) (small t h)
+      ap (λ (i : ℕ). withLine (traceAfter ls t0) (length ls)
+      (record { entry = k; process = n; kind = 6; a = to; b = thingKind t; c = i })) (small t h)
       ∙ line-written ls t0 (lineOf k n (gave to t)) (omega arith)
 
   -- one value's lines

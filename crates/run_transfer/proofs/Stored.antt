@@ -150,17 +150,21 @@ part-kept w n x = ap (take 512) (drop-set-lt (partAt n) w 0 x (omega arith))
 joined-last : (c : Config) (pr pr′ : Process) → setProcess (joined c pr) (length (c .processes)) pr′ ≡ joined c pr′
 unfolding setProcess joined
 joined-last c pr pr′ =
-    ap {B = Config} (λ l. record { processes = l; qubits = c .qubits; channels = c .channels }) (set-append-seam (c .processes) pr [] pr′)
+    ap {B = Config} (λ l. record { processes = l; qubits = c .qubits; channels = c .channels })
+    (set-append-seam (c .processes) pr [] pr′)
 
 joined-other : (c : Config) (pr : Process) (n : ℕ) (pr′ : Process) → n < length (c .processes)
     → setProcess (joined c pr) n pr′ ≡ joined (setProcess c n pr′) pr
 unfolding setProcess joined
 joined-other c pr n pr′ l =
-    ap {B = Config} (λ l. record { processes = l; qubits = c .qubits; channels = c .channels }) (set-append-left (c .processes) (pr ∷ []) n pr′ l)
+    ap {B = Config} (λ l. record { processes = l; qubits = c .qubits; channels = c .channels })
+    (set-append-left (c .processes) (pr ∷ []) n pr′ l)
 
 set-twice : (c : Config) (n : ℕ) (pr pr′ : Process) → setProcess (setProcess c n pr) n pr′ ≡ setProcess c n pr′
 unfolding setProcess
-set-twice c n pr pr′ = ap {B = Config} (λ l. record { processes = l; qubits = c .qubits; channels = c .channels }) (set-set (c .processes) n pr pr′)
+set-twice c n pr pr′ =
+    ap {B = Config} (λ l. record { processes = l; qubits = c .qubits; channels = c .channels })
+    (set-set (c .processes) n pr pr′)
 
 module _ {p : List ℕ} {c : Config} (laid : Laid c) (rest : List ℕ) {n : ℕ} {f : Frame} {fs : List Frame}
     (live : Running p c n f fs) (free : length (c .processes) < 8)
@@ -197,7 +201,8 @@ module _ {p : List ℕ} {c : Config} (laid : Laid c) (rest : List ℕ) {n : ℕ}
       height = omega arith;
       slots =
           All-take (ValueSound c) 16 (take j given ++ replicate 16 empty)
-          (All-append (ValueSound c) (take j given) (replicate 16 empty) (All-take (ValueSound c) j given given-sound) (All-replicate (ValueSound c) 16 empty tt));
+          (All-append (ValueSound c) (take j given) (replicate 16 empty) (All-take (ValueSound c) j given given-sound)
+          (All-replicate (ValueSound c) 16 empty tt));
       pending = tt;
     },
     tt,
@@ -280,7 +285,8 @@ module _ {p : List ℕ} {c : Config} (laid : Laid c) (rest : List ℕ) {n : ℕ}
   parent-long j =
       running-long p c (frameWithout (thingsOf (take j given)) (passedBy args f))
       (framesWithout (thingsOf (take j given)) fs) (parent-frame j)
-      (subst (λ (k : ℕ). k < 8) (sym (length-map fs (frameWithout (thingsOf (take j given))))) (live .busy .stack .deep))
+      (subst (λ (k : ℕ). k < 8) (sym (length-map fs (frameWithout (thingsOf (take j given)))))
+      (live .busy .stack .deep))
 
   abbrev with-both : ℕ → Config
   with-both j = setProcess (with-child args) n (parent j)

@@ -41,8 +41,11 @@ shifted-pos n s e = record {
   low = λ h. absurd (omega arith);
   high = λ h. le-ltb n 2147483648 (omega arith);
   inside =
-      λ h k.
-      (lt-ltb n 2147483648 (omega arith), sym (ap (λ (x : ℕ). x % 4294967296) e ∙ add-mod-right n 4294967296 ∙ mod-eq-of-lt (omega arith)));
+      λ h k. (
+        lt-ltb n 2147483648 (omega arith),
+        sym (ap (λ (x : ℕ). x % 4294967296) e ∙ add-mod-right n 4294967296
+            ∙ mod-eq-of-lt (omega arith)),
+      );
 }
 
 shifted-neg : (n s : ℕ) → s + n ≡ 4294967295 → Shifted (negsuc n) s

@@ -40,7 +40,8 @@ pub result-low : (w : List ℕ) (h : Head) (s : ℕ) → s < 2147483648 → afte
 unfolding resultOp
 result-low w h s t = rw (lt-ltb s 2147483648 t)
 
-pub result-high : (w : List ℕ) (h : Head) (s : ℕ) → 2147483648 ≤ s → 6442450944 ≤ s → afterStep OutOfRange w ≡ resultOp w h s
+pub result-high : (w : List ℕ) (h : Head) (s : ℕ) → 2147483648 ≤ s → 6442450944 ≤ s
+    → afterStep OutOfRange w ≡ resultOp w h s
 unfolding resultOp
 result-high w h s t u = rw (le-ltb s 2147483648 t, le-leb 6442450944 s u)
 

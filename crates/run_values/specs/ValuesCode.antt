@@ -174,7 +174,8 @@ unfoldable pub emptyTwo : List ℕ → Head → Bool
 emptyTwo w h = eqb (valueAt w (topAt h 2) .tag) 0 || eqb (valueAt w (topAt h 1) .tag) 0
 
 unfoldable pub twoOp : List ℕ → Head → (ℕ → ℕ → AfterStep) → AfterStep
-twoOp w h k = cond (emptyTwo w h) (afterStep Empty w) (k (valueAt w (topAt h 2) .number) (valueAt w (topAt h 1) .number))
+twoOp w h k =
+    cond (emptyTwo w h) (afterStep Empty w) (k (valueAt w (topAt h 2) .number) (valueAt w (topAt h 1) .number))
 
 unfoldable pub addOp : List ℕ → Head → AfterStep
 addOp w h = twoOp w h (λ x y. resultOp w h (biased x + biased y))

@@ -1,6 +1,6 @@
-// What is read from a work store that a run has left: the holder of a thing, from the word where it is stored, in constant time.
-// `stored_holder` answers for any words, of any length; that after a run it is the holder that the lines give is proved in the
-// crate run (proofs/Holders.antt).
+// What is read from a work store that a run has left: the holder of a thing, from the word where it is stored, in
+// constant time. `stored_holder` answers for any words, of any length; that after a run it is the holder that the lines
+// give is proved in the crate run (proofs/Holders.antt).
 ghost use mathlib.Core.Path.{_≡_};
 ghost use Rattle.store_read.specs.Stored.{wordOf, storedHolder};
 use run_store::values::get;

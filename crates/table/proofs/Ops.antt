@@ -15,7 +15,8 @@ use Rattle.table.specs.Table.{lengthOf}
 use Rattle.table.specs.Ops.{Op, opInt, opBool, opGet, opPut, opDrop, opClear, opNewQ, opNewC, opEnd, opGate, opMeas, opCall, opRet, opFork, opSend, opRecv, opJump, opJFalse, opArith, opCompare, opNot, unlisted, ops, opOf}
 
 unfoldable pub ops-opened : Unit {0}
-unfolding opInt opBool opGet opPut opDrop opClear opNewQ opNewC opEnd opGate opMeas opCall opRet opFork opSend opRecv opJump opJFalse opArith opCompare opNot unlisted ops opOf
+unfolding opInt opBool opGet opPut opDrop opClear opNewQ opNewC opEnd opGate opMeas opCall opRet opFork opSend opRecv
+    opJump opJFalse opArith opCompare opNot unlisted ops opOf
 ops-opened = tt
 
 -- A number that is none of the ops 1 to 23

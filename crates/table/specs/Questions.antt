@@ -91,8 +91,8 @@ question6 outcomes = firstOf 6 (λ i. isOutcome (getD outcomes i 0)) (length out
 unfoldable pub question7 : List ℕ → Verdict
 question7 schedule = whole 7 (leb (length schedule) 65535) 0
 
--- "Has the work store at least 8,192 words of 32 bits? 8 (0)"; Paper 7: "the work store grows to 8,256 words and question 8 says
--- so"
+-- "Has the work store at least 8,192 words of 32 bits? 8 (0)"; Paper 7: "the work store grows to 8,256 words and
+-- question 8 says so"
 unfoldable pub question8 : ℕ → Verdict
 question8 words = whole 8 (leb 8256 words) 0
 

@@ -46,7 +46,8 @@ pub record Examples : Type 0 where
   pub not-even-untimed : sameUntimed (at 3 (at 5 [])) (at 5 []) ≡ false
 
 pub examples : Examples
-unfolding machine-opened made-and-given linesOf lookUp decides readBack countRead sameLine sameAll gap gaps sameGaps sameTimed sameLines sameUntimed
+unfolding machine-opened made-and-given linesOf lookUp decides readBack countRead sameLine sameAll gap gaps sameGaps
+    sameTimed sameLines sameUntimed
 examples = record {
   nobody = refl;
   maker = refl;

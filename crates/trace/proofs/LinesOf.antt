@@ -1,11 +1,13 @@
 -- The lines of any words, by index.
 use Prim.Native.Nat.{ℕ, zero, suc, _+_, _*_, _/_, _<_}
 use mathlib.Core.Path.{_≡_, refl, _∙_, ap}
-use mathlib.Core.List.{List, [], _∷_}
+use mathlib.Core.List.{List, [], _∷_, _++_}
 use native.Mathlib.Nat.{not-suc-le-zero}
 use native.Mathlib.Omega.{arith}
 use lib.ListN.{getD, length}
+use Rattle.machine.specs.State.{Line}
 use Rattle.machine.specs.Owner.{noLine}
+use Rattle.machine.specs.Answer.{lineWords, traceWords}
 use Rattle.trace.specs.Trace.{linesOf}
 use Rattle.trace.specs.ReadCode.{lineFrom}
 
@@ -43,3 +45,14 @@ linesOf-at (e ∷ n ∷ k ∷ a ∷ b ∷ c ∷ ws) (suc i) h = linesOf-at ws i 
     word i j p =
         ap (λ (m : ℕ). getD (e ∷ n ∷ k ∷ a ∷ b ∷ c ∷ ws) m 0) {x = suc (suc (suc (suc (suc (suc i)))))} {y = j}
         (omega arith)
+
+-- the words of lines give the lines back, alone and with other words after them
+pub lines-back : (ls : List Line) → linesOf (traceWords ls) ≡ ls
+unfolding linesOf traceWords lineWords
+lines-back [] = refl
+lines-back (l ∷ ls) = ap (λ (ms : List Line). l ∷ ms) (lines-back ls)
+
+pub linesOf-words : (ls : List Line) (rest : List ℕ) → linesOf (traceWords ls ++ rest) ≡ ls ++ linesOf rest
+unfolding linesOf traceWords lineWords
+linesOf-words [] rest = refl
+linesOf-words (l ∷ ls) rest = ap (λ (ms : List Line). l ∷ ms) (linesOf-words ls rest)

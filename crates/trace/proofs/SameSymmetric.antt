@@ -16,4 +16,5 @@ symmetric ls ms e =
 pub same-symmetric : (xs ys : List ℕ) → sameLines xs ys ≡ sameLines ys xs
 unfolding sameLines
 same-symmetric xs ys =
-    both-ways (sameLines xs ys) (sameLines ys xs) (symmetric (linesOf xs) (linesOf ys)) (symmetric (linesOf ys) (linesOf xs))
+    both-ways (sameLines xs ys) (sameLines ys xs) (symmetric (linesOf xs) (linesOf ys))
+    (symmetric (linesOf ys) (linesOf xs))

@@ -49,7 +49,8 @@ returns c =
     let at-run = at-answer .before .before .before .before .before .before in
     let args = at-run .before .before .before .before .before .before .before .before .args in (
       ran (at-run .run .result) (Refused _ _)
-          (answerOf (args .program .now) (args .schedule .now) (args .outcomes .now) (linesIn (length (args .trace .now)))
+          (answerOf (args .program .now) (args .schedule .now) (args .outcomes .now)
+          (linesIn (length (args .trace .now)))
           (length (args .work .now))) (at-answer .answer .given .1) (at-run .run .ensures .0) (c .refusal .ensures),
       at-run
           .run .ensures .1,
@@ -69,7 +70,8 @@ returns-2 c =
     let at-run = at-answer2 .before .before .before .before .before .before in
     let args = at-run .before .before .before .before .before .before .before .before .args in (
       ran (at-run .run .result) (Ran _ _ _ _)
-          (answerOf (args .program .now) (args .schedule .now) (args .outcomes .now) (linesIn (length (args .trace .now)))
+          (answerOf (args .program .now) (args .schedule .now) (args .outcomes .now)
+          (linesIn (length (args .trace .now)))
           (length (args .work .now))) (at-answer2 .answer2 .given .1) (at-run .run .ensures .0) (c .ended .ensures),
       at-run
           .run .ensures .1,

@@ -243,7 +243,8 @@ returns-16 c =
     let at-match = c .before in
     let at-pre = at-match .before .before in
     let pre = at-pre .pre in (
-      rw (at-match .match .keys16) (c .recv .ensures .0 ∙ top-changes (at-pre .args .q) (pre .few) isEnd carriedBy refl),
+      rw (at-match .match .keys16) (c .recv .ensures .0 ∙ top-changes (at-pre .args .q) (pre .few) isEnd carriedBy
+          refl),
       c .recv .ensures .1,
     )
 
@@ -264,7 +265,8 @@ returns-18 c =
     let at-match = c .before in
     let at-pre = at-match .before .before in
     let pre = at-pre .pre in (
-      rw (at-match .match .keys18) (c .jump-on-false .ensures .0 ∙ leaves-nothing (at-pre .args .q) (pre .few) (2 ∷ [])),
+      rw (at-match .match .keys18) (c .jump-on-false .ensures .0 ∙ leaves-nothing (at-pre .args .q) (pre .few)
+          (2 ∷ [])),
       c .jump-on-false .ensures .1,
     )
 

@@ -54,7 +54,8 @@ loop-again c =
     let text = linesText (take (loop .i) ls) in (
       search needs,
       put-same out (args .at)
-          (ap (λ (l : Line). text ++ lineText l) (at-line-at .line-at .ensures) ∙ linesText-next ls (loop .i) (omega arith))
+          (ap (λ (l : Line). text ++ lineText l) (at-line-at .line-at .ensures) ∙ linesText-next ls (loop .i)
+          (omega arith))
           (put-then out (args .at) text _ (loop .inv .1) (at-put-line .put-line .ensures)),
     )
 

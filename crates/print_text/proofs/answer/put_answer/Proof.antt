@@ -62,7 +62,8 @@ returns-2 c =
     let args = at-a2 .before .before .before .before .args in
     let ls = linesOf (args .trace .now) in
     prints-same (args .out .now)
-    (ap (λ (a : Answer). answerText (take (linesNo (answerNumbers a)) ls) (answerNumbers a)) (sym (at-a2 .a2 .given .1)))
+    (ap (λ (a : Answer). answerText (take (linesNo (answerNumbers a)) ls) (answerNumbers a))
+    (sym (at-a2 .a2 .given .1)))
     (at-put-ended .put-ended .ensures)
 
 pub put-answer-spec : {M : Type 1} → statement M

@@ -1,6 +1,6 @@
 -- `alone_ability` goes by whether the process is over.
 use mathlib.Core.Path.{refl}
-use Rattle.run_ops.proofs.Returns.{took, passed-by}
+use Rattle.lists.proofs.Tests.{took, passed-by}
 use Rattle.run_ability.specs.EndingCode.{aloneAbility}
 use borrow.Author.Needs.{needs}
 use Rattle.run_ability.proofs.ending.alone_ability.Statement.{statement}

@@ -13,8 +13,13 @@ empty-requires-2 c κs = search needs
 returns : tie.Need-returns
 unfolding unpaired
 returns c =
-    λ i. record
-    { kind = c .before .before .args .kind; sender = record { 0 = 0 }; receiver = record { 0 = 0 }; end = c .before .empty .ensures i; value = c .empty2 .ensures i }
+    λ i. record {
+      kind = c .before .before .args .kind;
+      sender = record { 0 = 0 };
+      receiver = record { 0 = 0 };
+      end = c .before .empty .ensures i;
+      value = c .empty2 .ensures i;
+    }
 
 pub no-meeting-spec : {M : Type 1} → statement M
 no-meeting-spec = tie.close (tie.spec empty-requires empty-requires-2 returns)

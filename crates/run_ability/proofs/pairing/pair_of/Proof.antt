@@ -1,5 +1,5 @@
 -- `pair_of` goes by which of the two sends.
-use Rattle.run_ops.proofs.Returns.{took, passed-by}
+use Rattle.lists.proofs.Tests.{took, passed-by}
 use Rattle.run_ability.specs.PairingCode.{pairedOf}
 use borrow.Author.Needs.{needs}
 use Rattle.run_ability.proofs.pairing.pair_of.Statement.{statement}

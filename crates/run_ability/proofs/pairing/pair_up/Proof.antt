@@ -20,7 +20,8 @@ returns c =
     let at-offer-of = at-is-offering .before in
     let args = at-offer-of .before .before .before .args in
     pairs-none (args .p .now) (args .work .now) (args .t .now) (args .n .0) (args .step)
-    (at-offer-of .offer-of .ensures) (at-is-offering .is-offering .ensures) (at-if1 .if1 .taken) (c .no-meeting .ensures)
+    (at-offer-of .offer-of .ensures) (at-is-offering .is-offering .ensures) (at-if1 .if1 .taken)
+    (c .no-meeting .ensures)
 
 opposite-requires : tie.Need-opposite-requires
 opposite-requires c κs = search needs
@@ -40,7 +41,8 @@ returns-2 c =
     let at-offer-of = at-is-offering .before in
     let args = at-offer-of .before .before .before .args in
     pairs-asked (args .p .now) (args .work .now) (args .t .now) (args .n .0) (args .step)
-    (at-offer-of .offer-of .ensures) (at-is-offering .is-offering .ensures) (at-if1 .if1 .left) (at-opposite .opposite .ensures .0)
+    (at-offer-of .offer-of .ensures) (at-is-offering .is-offering .ensures) (at-if1 .if1 .left)
+    (at-opposite .opposite .ensures .0)
     (at-opposite .opposite .ensures .1) (at-holder-of .holder-of .ensures) (c .pair-with .ensures)
 
 pub pair-up-spec : {M : Type 1} → statement M

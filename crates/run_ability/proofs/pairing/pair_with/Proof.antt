@@ -21,8 +21,12 @@ returns c =
 readiness-of-requires : tie.Need-readiness-of-requires
 readiness-of-requires c κs =
     let at-is-no-other = c .before in
-    let at-pre = at-is-no-other .before .before .before in
-    (at-pre .pre .0, at-pre .pre .1, other-low (at-pre .args .n .0) (at-pre .args .q .0) (at-is-no-other .is-no-other .ensures) (c .if1 .left))
+    let at-pre = at-is-no-other .before .before .before in (
+      at-pre .pre .0,
+      at-pre .pre .1,
+      other-low (at-pre .args .n .0) (at-pre .args .q .0)
+          (at-is-no-other .is-no-other .ensures) (c .if1 .left),
+    )
 
 is-over-requires : tie.Need-is-over-requires
 is-over-requires c κs = search needs
@@ -60,7 +64,8 @@ returns-3 c =
     let args = at-is-no-other .before .before .before .args in
     pairs-with (args .p .now) (args .work .now) (args .n .0) (args .a) (args .q .0)
     (at-is-no-other .is-no-other .ensures) (at-if1 .if1 .left) (at-readiness-of .readiness-of .ensures)
-    (at-is-over .is-over .ensures) (at-if2 .if2 .left) (at-meets .meets .ensures) (at-if3 .if3 .taken) (c .pair-of .ensures)
+    (at-is-over .is-over .ensures) (at-if2 .if2 .left) (at-meets .meets .ensures) (at-if3 .if3 .taken)
+    (c .pair-of .ensures)
 
 no-meeting-requires-3 : tie.Need-no-meeting-requires-3
 no-meeting-requires-3 c κs = search needs
@@ -77,7 +82,8 @@ returns-4 c =
     let args = at-is-no-other .before .before .before .args in
     pairs-not (args .p .now) (args .work .now) (args .n .0) (args .a) (args .q .0)
     (at-is-no-other .is-no-other .ensures) (at-if1 .if1 .left) (at-readiness-of .readiness-of .ensures)
-    (at-is-over .is-over .ensures) (at-if2 .if2 .left) (at-meets .meets .ensures) (at-if3 .if3 .left) (c .no-meeting3 .ensures)
+    (at-is-over .is-over .ensures) (at-if2 .if2 .left) (at-meets .meets .ensures) (at-if3 .if3 .left)
+    (c .no-meeting3 .ensures)
 
 pub pair-with-spec : {M : Type 1} → statement M
 pair-with-spec =

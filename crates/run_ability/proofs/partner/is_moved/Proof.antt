@@ -27,8 +27,12 @@ readiness-of-requires : tie.Need-readiness-of-requires
 readiness-of-requires c κs =
     let at-is-no-other = c .before in
     let at-holder-of = at-is-no-other .before in
-    let at-pre = at-holder-of .before .before .before .before in
-    (at-pre .pre .0, at-pre .pre .1, other-low (at-pre .args .n .0) (at-holder-of .holder-of .result .0) (at-is-no-other .is-no-other .ensures) (c .if1 .left))
+    let at-pre = at-holder-of .before .before .before .before in (
+      at-pre .pre .0,
+      at-pre .pre .1,
+      other-low (at-pre .args .n .0) (at-holder-of .holder-of .result .0)
+          (at-is-no-other .is-no-other .ensures) (c .if1 .left),
+    )
 
 is-over-requires : tie.Need-is-over-requires
 is-over-requires c κs = search needs
@@ -44,7 +48,8 @@ returns-2 c =
     let args = at-opposite .before .before .before .args in
     over-asked (args .p .now) (args .work .now) (args .t .now) (args .n .0) (args .a)
     (at-opposite .opposite .ensures .0) (at-opposite .opposite .ensures .1) (at-holder-of .holder-of .ensures)
-    (at-is-no-other .is-no-other .ensures) (at-if1 .if1 .left) (at-readiness-of .readiness-of .ensures) (at-is-over .is-over .ensures) (c .if2 .taken)
+    (at-is-no-other .is-no-other .ensures) (at-if1 .if1 .left) (at-readiness-of .readiness-of .ensures)
+    (at-is-over .is-over .ensures) (c .if2 .taken)
 
 meets-requires : tie.Need-meets-requires
 meets-requires c κs = search needs

@@ -1,7 +1,7 @@
 -- `opposite` keeps the channel and takes the other side.
 use mathlib.Core.Path.{refl}
 use borrow.Author.Tests.{eq-eqb, ne-eqb}
-use Rattle.run_ops.proofs.Returns.{took, passed-by}
+use Rattle.lists.proofs.Tests.{took, passed-by}
 use Rattle.run_ability.specs.PartnerCode.{oppositeOf}
 use borrow.Author.Needs.{needs}
 use Rattle.run_ability.proofs.partner.opposite.Statement.{statement}

@@ -22,7 +22,8 @@ returns-2 c =
     let at-if1 = at-not-running .before in
     let at-went-on = at-if1 .before in
     let args = at-went-on .before .args in
-    done-idle (args .step) (args .known) (at-went-on .went-on .ensures) (at-if1 .if1 .left) (at-not-running .not-running .ensures)
+    done-idle (args .step) (args .known) (at-went-on .went-on .ensures) (at-if1 .if1 .left)
+    (at-not-running .not-running .ensures)
 
 pub is-done-spec : {M : Type 1} → statement M
 is-done-spec = tie.close (tie.spec went-on-requires returns not-running-requires returns-2)

@@ -85,7 +85,8 @@ loop-again c =
           (at-is-done .is-done .ensures) (w .0 .taken) (w .3 ∙ w .2 .ensures))
           (λ w. burst-waits (args .p .now) (args .t .now) (args .schedule .now) (at-loop .loop .work) (at-loop .loop .k)
           (at-loop .loop .sure) (at-loop-test .loop-test .taken) (at-step-named .step-named .ensures)
-          (at-is-done .is-done .ensures) (w .0 .left) (w .2 .ensures) (w .4 .ensures) (w .5 .left) (w .7 ∙ w .6 .ensures))
+          (at-is-done .is-done .ensures) (w .0 .left) (w .2 .ensures) (w .4 .ensures) (w .5 .left)
+          (w .7 ∙ w .6 .ensures))
           (c .if1 .came),
       at-step-named .step-named .kept .1 .1 .0
           ∙ at-loop .loop .inv .3,

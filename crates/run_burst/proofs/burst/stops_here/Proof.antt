@@ -36,7 +36,8 @@ returns-3 c =
     let at-waits = at-if1 .before in
     let args = at-waits .before .before .before .before .args in
     goes-seen (args .p .now) (args .work .now) (args .schedule .now) (args .k) (args .known) (args .m)
-    (at-waits .waits .ensures) (at-if1 .if1 .left) (at-if2 .if2 .left) (at-named-before .named-before .ensures) (c .moves-alone .ensures)
+    (at-waits .waits .ensures) (at-if1 .if1 .left) (at-if2 .if2 .left) (at-named-before .named-before .ensures)
+    (c .moves-alone .ensures)
 
 pub stops-here-spec : {M : Type 1} → statement M
 stops-here-spec =

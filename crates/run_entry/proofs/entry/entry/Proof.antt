@@ -39,7 +39,8 @@ returns c =
     let at-rest-of = at-enum-told .before .before in
     let args = at-rest-of .before .before .before .before .before .args in
     entry-stays (args .p .now) (args .outcomes .now) (args .trace .now) (args .work .now) (args .room) (args .g)
-    (args .n .0) (args .step) (args .m) (at-rest-of .rest-of .ensures) (at-enum-told .enum-told .given .1) (entry-same (c .idle .ensures) refl refl)
+    (args .n .0) (args .step) (args .m) (at-rest-of .rest-of .ensures) (at-enum-told .enum-told .given .1)
+    (entry-same (c .idle .ensures) refl refl)
 
 same-length : tie.Need-same-length
 same-length c = search needs
@@ -54,7 +55,8 @@ returns-2 c =
     let at-rest-of = at-enum-told2 .before .before in
     let args = at-rest-of .before .before .before .before .before .args in
     entry-forks (args .p .now) (args .outcomes .now) (args .trace .now) (args .work .now) (args .room) (args .g)
-    (args .n .0) (args .step) (args .m) (at-rest-of .rest-of .ensures) (at-enum-told2 .enum-told2 .given .1) (at-fork-entry .fork-entry .ensures)
+    (args .n .0) (args .step) (args .m) (at-rest-of .rest-of .ensures) (at-enum-told2 .enum-told2 .given .1)
+    (at-fork-entry .fork-entry .ensures)
 
 same-length-3 : tie.Need-same-length-3
 same-length-3 c = search needs
@@ -69,7 +71,8 @@ returns-3 c =
     let at-rest-of = at-enum-told3 .before .before in
     let args = at-rest-of .before .before .before .before .before .args in
     entry-offers (args .p .now) (args .outcomes .now) (args .trace .now) (args .work .now) (args .room) (args .g)
-    (args .n .0) (args .step) (args .m) (at-rest-of .rest-of .ensures) (at-enum-told3 .enum-told3 .given .1) (at-meet-entry .meet-entry .ensures)
+    (args .n .0) (args .step) (args .m) (at-rest-of .rest-of .ensures) (at-enum-told3 .enum-told3 .given .1)
+    (at-meet-entry .meet-entry .ensures)
 
 same-length-5 : tie.Need-same-length-5
 same-length-5 c = search needs
@@ -84,7 +87,8 @@ returns-4 c =
     let at-rest-of = at-rest .before .before in
     let args = at-rest-of .before .before .before .before .before .args in
     entry-single (args .p .now) (args .outcomes .now) (args .trace .now) (args .work .now) (args .room) (args .g)
-    (args .n .0) (args .step) (args .m) (at-rest-of .rest-of .ensures) _ (at-rest .rest .given .1) (at-single .single .ensures)
+    (args .n .0) (args .step) (args .m) (at-rest-of .rest-of .ensures) _ (at-rest .rest .given .1)
+    (at-single .single .ensures)
 
 pub entry-spec : {M : Type 1} → statement M
 entry-spec =

@@ -15,7 +15,8 @@ returns c =
     let at-if1 = c .before in
     let at-not-running = at-if1 .before in
     let args = at-not-running .before .before .before .args in
-    offer-over (args .p .now) (args .work .now) (args .t .now) (args .n) (args .step) (at-not-running .not-running .ensures)
+    offer-over (args .p .now) (args .work .now) (args .t .now) (args .n) (args .step)
+    (at-not-running .not-running .ensures)
     (at-if1 .if1 .taken) (c .no-meeting .ensures)
 
 is-offer-requires : tie.Need-is-offer-requires
@@ -34,7 +35,8 @@ returns-2 c =
     let at-if1 = at-is-offer .before in
     let at-not-running = at-if1 .before in
     let args = at-not-running .before .before .before .args in
-    offer-paired (args .p .now) (args .work .now) (args .t .now) (args .n) (args .step) (at-not-running .not-running .ensures)
+    offer-paired (args .p .now) (args .work .now) (args .t .now) (args .n) (args .step)
+    (at-not-running .not-running .ensures)
     (at-if1 .if1 .left) (at-is-offer .is-offer .ensures) (at-if2 .if2 .taken) (c .pair-up .ensures)
 
 no-meeting-requires-2 : tie.Need-no-meeting-requires-2
@@ -47,7 +49,8 @@ returns-3 c =
     let at-if1 = at-is-offer .before in
     let at-not-running = at-if1 .before in
     let args = at-not-running .before .before .before .args in
-    offer-none (args .p .now) (args .work .now) (args .t .now) (args .n) (args .step) (at-not-running .not-running .ensures)
+    offer-none (args .p .now) (args .work .now) (args .t .now) (args .n) (args .step)
+    (at-not-running .not-running .ensures)
     (at-if1 .if1 .left) (at-is-offer .is-offer .ensures) (at-if2 .if2 .left) (c .no-meeting2 .ensures)
 
 pub offer-at-spec : {M : Type 1} → statement M

@@ -1,6 +1,6 @@
 -- `gate_one` goes by whether the qubit is emptied.
 use Rattle.run_events.specs.EventsCode.{gateOne, afterEvent, lineEvent}
-use Rattle.run_ops.proofs.Returns.{took, passed-by}
+use Rattle.lists.proofs.Tests.{took, passed-by}
 use Rattle.run_store.specs.declared.values.Val.{Val}
 use Rattle.run_store.specs.StoreCode.{valueAt}
 use mathlib.Core.Path.{refl, _∙_, ap, ap₂}

@@ -1,6 +1,6 @@
 -- `gate_two` goes by whether a qubit is emptied, and whether the two are one.
 use Rattle.run_events.specs.EventsCode.{gateTwo, afterEvent, lineEvent}
-use Rattle.run_ops.proofs.Returns.{took, passed-by}
+use Rattle.lists.proofs.Tests.{took, passed-by}
 use mathlib.Core.Path.{refl, _∙_, ap₂}
 use lib.Dec.{eqb}
 use borrow.Author.Tests.{eq-eqb, ne-eqb}

@@ -1,6 +1,6 @@
 -- `op_gate` goes by the gate's number.
 use Rattle.run_events.specs.EventsCode.{gateOp}
-use Rattle.run_ops.proofs.Returns.{took, passed-by}
+use Rattle.lists.proofs.Tests.{took, passed-by}
 use mathlib.Core.Path.{refl}
 use borrow.Author.Tests.{le-leb, lt-leb}
 use borrow.Author.Needs.{needs}

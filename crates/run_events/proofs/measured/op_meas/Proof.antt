@@ -4,7 +4,7 @@ use lib.Dec.{eqb}
 use borrow.Author.Tests.{eq-eqb, ne-eqb}
 use Rattle.run_store.specs.declared.values.Val.{Val}
 use Rattle.run_store.specs.StoreCode.{valueAt}
-use Rattle.run_ops.proofs.Returns.{took, passed-by}
+use Rattle.lists.proofs.Tests.{took, passed-by}
 use Rattle.run_events.specs.EventsCode.{afterEvent, measOp}
 use borrow.Author.Needs.{needs}
 use Rattle.run_events.proofs.measured.op_meas.Statement.{statement}

@@ -1,7 +1,7 @@
 -- `next_outcome` goes by whether an outcome is left.
 use mathlib.Core.Path.{refl}
 use borrow.Author.Tests.{lt-ltb, le-ltb}
-use Rattle.run_ops.proofs.Returns.{took, passed-by}
+use Rattle.lists.proofs.Tests.{took, passed-by}
 use Rattle.run_events.specs.Outcome.{outcomeNo}
 use Rattle.run_events.specs.EventsCode.{nextIn}
 use borrow.Author.Needs.{needs}

@@ -2,7 +2,7 @@
 use mathlib.Core.Path.{refl}
 use borrow.Author.Tests.{lt-ltb, le-ltb}
 use Rattle.run_holders.specs.StoredCode.{endStored}
-use Rattle.run_holders.proofs.Storing.{so, otherwise}
+use Rattle.lists.proofs.Tests.{took, passed-by}
 use borrow.Author.Needs.{needs}
 use Rattle.run_holders.proofs.stored.store_end.Statement.{statement}
 use Rattle.run_holders.proofs.stored.store_end.Tie as tie
@@ -39,11 +39,14 @@ same-length c = search needs
 
 returns : tie.Need-returns
 unfolding endStored
-returns c = so _ _ (lt-ltb (c .before .before .before .before .before .before .before .before .before .before .args .e .0) 16 (c .before .before .before .before .before .before .before .if1 .taken)) (c .before .before .put .ensures)
+returns c =
+    took _ _ _ refl (lt-ltb
+    (c .before .before .before .before .before .before .before .before .before .before .args .e .0) 16
+    (c .before .before .before .before .before .before .before .if1 .taken)) (c .before .before .put .ensures)
 
 returns-2 : tie.Need-returns-2
 unfolding endStored
-returns-2 c = otherwise _ _ (le-ltb (c .before .before .before .args .e .0) 16 (c .if1 .left)) refl
+returns-2 c = passed-by _ _ _ refl (le-ltb (c .before .before .before .args .e .0) 16 (c .if1 .left)) refl
 
 pub store-end-spec : {M : Type 1} → statement M
 store-end-spec =

@@ -2,7 +2,7 @@
 use mathlib.Core.Path.{refl}
 use borrow.Author.Tests.{eq-eqb, ne-eqb}
 use Rattle.run_holders.specs.StoredCode.{giftStored}
-use Rattle.run_holders.proofs.Storing.{so, otherwise}
+use Rattle.lists.proofs.Tests.{took, passed-by}
 use borrow.Author.Needs.{needs}
 use Rattle.run_holders.proofs.stored.store_gift.Statement.{statement}
 use Rattle.run_holders.proofs.stored.store_gift.Tie as tie
@@ -20,7 +20,9 @@ same-length c = search needs
 
 returns : tie.Need-returns
 unfolding giftStored
-returns c = so _ _ (eq-eqb (c .before .before .before .before .before .before .before .args .l .b) 3 (c .before .before .before .before .if1 .taken)) (c .before .before .store-qubit .ensures)
+returns c =
+    took _ _ _ refl (eq-eqb (c .before .before .before .before .before .before .before .args .l .b) 3
+    (c .before .before .before .before .if1 .taken)) (c .before .before .store-qubit .ensures)
 
 store-channel-requires : tie.Need-store-channel-requires
 store-channel-requires c κs = search needs
@@ -30,7 +32,12 @@ same-length-2 c = search needs
 
 returns-2 : tie.Need-returns-2
 unfolding giftStored
-returns-2 c = otherwise _ _ (ne-eqb (c .before .before .before .before .before .before .before .before .before .args .l .b) 3 (c .before .before .before .before .before .before .if1 .left)) (so _ _ (eq-eqb (c .before .before .before .before .before .before .before .before .before .args .l .b) 4 (c .before .before .before .before .if2 .taken)) (c .before .before .store-channel .ensures))
+returns-2 c =
+    passed-by _ _ _ refl (ne-eqb
+    (c .before .before .before .before .before .before .before .before .before .args .l .b) 3
+    (c .before .before .before .before .before .before .if1 .left))
+    (took _ _ _ refl (eq-eqb (c .before .before .before .before .before .before .before .before .before .args .l .b) 4
+    (c .before .before .before .before .if2 .taken)) (c .before .before .store-channel .ensures))
 
 store-end-requires : tie.Need-store-end-requires
 store-end-requires c κs = search needs
@@ -40,7 +47,16 @@ same-length-3 c = search needs
 
 returns-3 : tie.Need-returns-3
 unfolding giftStored
-returns-3 c = otherwise _ _ (ne-eqb (c .before .before .before .before .before .before .before .before .before .before .before .args .l .b) 3 (c .before .before .before .before .before .before .before .before .if1 .left)) (otherwise _ _ (ne-eqb (c .before .before .before .before .before .before .before .before .before .before .before .args .l .b) 4 (c .before .before .before .before .before .before .if2 .left)) (so _ _ (eq-eqb (c .before .before .before .before .before .before .before .before .before .before .before .args .l .b) 5 (c .before .before .before .before .if3 .taken)) (c .before .before .store-end .ensures)))
+returns-3 c =
+    passed-by _ _ _ refl (ne-eqb
+    (c .before .before .before .before .before .before .before .before .before .before .before .args .l .b) 3
+    (c .before .before .before .before .before .before .before .before .if1 .left))
+    (passed-by _ _ _ refl (ne-eqb
+    (c .before .before .before .before .before .before .before .before .before .before .before .args .l .b) 4
+    (c .before .before .before .before .before .before .if2 .left))
+    (took _ _ _ refl (eq-eqb
+    (c .before .before .before .before .before .before .before .before .before .before .before .args .l .b) 5
+    (c .before .before .before .before .if3 .taken)) (c .before .before .store-end .ensures)))
 
 store-end-requires-2 : tie.Need-store-end-requires-2
 store-end-requires-2 c κs = search needs
@@ -50,11 +66,23 @@ same-length-4 c = search needs
 
 returns-4 : tie.Need-returns-4
 unfolding giftStored
-returns-4 c = otherwise _ _ (ne-eqb (c .before .before .before .before .before .before .before .before .before .before .before .before .before .args .l .b) 3 (c .before .before .before .before .before .before .before .before .before .before .if1 .left)) (otherwise _ _ (ne-eqb (c .before .before .before .before .before .before .before .before .before .before .before .before .before .args .l .b) 4 (c .before .before .before .before .before .before .before .before .if2 .left)) (otherwise _ _ (ne-eqb (c .before .before .before .before .before .before .before .before .before .before .before .before .before .args .l .b) 5 (c .before .before .before .before .before .before .if3 .left)) (so _ _ (eq-eqb (c .before .before .before .before .before .before .before .before .before .before .before .before .before .args .l .b) 6 (c .before .before .before .before .if4 .taken)) (c .before .before .store-end2 .ensures))))
+returns-4 c =
+    passed-by _ _ _ refl (ne-eqb
+    (c .before .before .before .before .before .before .before .before .before .before .before .before .before .args .l .b) 3 (c .before .before .before .before .before .before .before .before .before .before .if1 .left)) (passed-by _ _ _ refl (ne-eqb (c .before .before .before .before .before .before .before .before .before .before .before .before .before .args .l .b) 4 (c .before .before .before .before .before .before .before .before .if2 .left)) (passed-by _ _ _ refl (ne-eqb (c .before .before .before .before .before .before .before .before .before .before .before .before .before .args .l .b) 5 (c .before .before .before .before .before .before .if3 .left)) (took _ _ _ refl (eq-eqb (c .before .before .before .before .before .before .before .before .before .before .before .before .before .args .l .b) 6 (c .before .before .before .before .if4 .taken)) (c .before .before .store-end2 .ensures))))
 
 returns-5 : tie.Need-returns-5
 unfolding giftStored
-returns-5 c = otherwise _ _ (ne-eqb (c .before .before .before .before .before .before .before .before .before .args .l .b) 3 (c .before .before .before .before .before .before .if1 .left)) (otherwise _ _ (ne-eqb (c .before .before .before .before .before .before .before .before .before .args .l .b) 4 (c .before .before .before .before .if2 .left)) (otherwise _ _ (ne-eqb (c .before .before .before .before .before .before .before .before .before .args .l .b) 5 (c .before .before .if3 .left)) (otherwise _ _ (ne-eqb (c .before .before .before .before .before .before .before .before .before .args .l .b) 6 (c .if4 .left)) refl)))
+returns-5 c =
+    passed-by _ _ _ refl (ne-eqb
+    (c .before .before .before .before .before .before .before .before .before .args .l .b) 3
+    (c .before .before .before .before .before .before .if1 .left))
+    (passed-by _ _ _ refl (ne-eqb
+    (c .before .before .before .before .before .before .before .before .before .args .l .b) 4
+    (c .before .before .before .before .if2 .left)) (passed-by _ _ _ refl
+    (ne-eqb (c .before .before .before .before .before .before .before .before .before .args .l .b) 5
+    (c .before .before .if3 .left)) (passed-by _ _ _ refl
+    (ne-eqb (c .before .before .before .before .before .before .before .before .before .args .l .b) 6 (c .if4 .left))
+    refl)))
 
 pub store-gift-spec : {M : Type 1} → statement M
 store-gift-spec =

@@ -2,7 +2,7 @@
 use mathlib.Core.Path.{refl}
 use borrow.Author.Tests.{eq-eqb, ne-eqb}
 use Rattle.run_holders.specs.StoredCode.{storedAfter}
-use Rattle.run_holders.proofs.Storing.{so, otherwise}
+use Rattle.lists.proofs.Tests.{took, passed-by}
 use borrow.Author.Needs.{needs}
 use Rattle.run_holders.proofs.stored.store_line.Statement.{statement}
 use Rattle.run_holders.proofs.stored.store_line.Tie as tie
@@ -20,7 +20,9 @@ same-length c = search needs
 
 returns : tie.Need-returns
 unfolding storedAfter
-returns c = so _ _ (eq-eqb (c .before .before .before .before .before .before .before .args .l .kind) 6 (c .before .before .before .before .if1 .taken)) (c .before .before .store-gift .ensures)
+returns c =
+    took _ _ _ refl (eq-eqb (c .before .before .before .before .before .before .before .args .l .kind) 6
+    (c .before .before .before .before .if1 .taken)) (c .before .before .store-gift .ensures)
 
 store-channel-requires : tie.Need-store-channel-requires
 store-channel-requires c κs = search needs
@@ -30,7 +32,12 @@ same-length-2 c = search needs
 
 returns-2 : tie.Need-returns-2
 unfolding storedAfter
-returns-2 c = otherwise _ _ (ne-eqb (c .before .before .before .before .before .before .before .before .before .args .l .kind) 6 (c .before .before .before .before .before .before .if1 .left)) (so _ _ (eq-eqb (c .before .before .before .before .before .before .before .before .before .args .l .kind) 2 (c .before .before .before .before .if2 .taken)) (c .before .before .store-channel .ensures))
+returns-2 c =
+    passed-by _ _ _ refl (ne-eqb
+    (c .before .before .before .before .before .before .before .before .before .args .l .kind) 6
+    (c .before .before .before .before .before .before .if1 .left))
+    (took _ _ _ refl (eq-eqb (c .before .before .before .before .before .before .before .before .before .args .l .kind)
+    2 (c .before .before .before .before .if2 .taken)) (c .before .before .store-channel .ensures))
 
 store-qubit-requires : tie.Need-store-qubit-requires
 store-qubit-requires c κs = search needs
@@ -40,11 +47,25 @@ same-length-3 c = search needs
 
 returns-3 : tie.Need-returns-3
 unfolding storedAfter
-returns-3 c = otherwise _ _ (ne-eqb (c .before .before .before .before .before .before .before .before .before .before .before .args .l .kind) 6 (c .before .before .before .before .before .before .before .before .if1 .left)) (otherwise _ _ (ne-eqb (c .before .before .before .before .before .before .before .before .before .before .before .args .l .kind) 2 (c .before .before .before .before .before .before .if2 .left)) (so _ _ (eq-eqb (c .before .before .before .before .before .before .before .before .before .before .before .args .l .kind) 1 (c .before .before .before .before .if3 .taken)) (c .before .before .store-qubit .ensures)))
+returns-3 c =
+    passed-by _ _ _ refl (ne-eqb
+    (c .before .before .before .before .before .before .before .before .before .before .before .args .l .kind) 6
+    (c .before .before .before .before .before .before .before .before .if1 .left))
+    (passed-by _ _ _ refl (ne-eqb
+    (c .before .before .before .before .before .before .before .before .before .before .before .args .l .kind) 2
+    (c .before .before .before .before .before .before .if2 .left))
+    (took _ _ _ refl (eq-eqb
+    (c .before .before .before .before .before .before .before .before .before .before .before .args .l .kind) 1
+    (c .before .before .before .before .if3 .taken)) (c .before .before .store-qubit .ensures)))
 
 returns-4 : tie.Need-returns-4
 unfolding storedAfter
-returns-4 c = otherwise _ _ (ne-eqb (c .before .before .before .before .before .before .before .args .l .kind) 6 (c .before .before .before .before .if1 .left)) (otherwise _ _ (ne-eqb (c .before .before .before .before .before .before .before .args .l .kind) 2 (c .before .before .if2 .left)) (otherwise _ _ (ne-eqb (c .before .before .before .before .before .before .before .args .l .kind) 1 (c .if3 .left)) refl))
+returns-4 c =
+    passed-by _ _ _ refl (ne-eqb (c .before .before .before .before .before .before .before .args .l .kind) 6
+    (c .before .before .before .before .if1 .left)) (passed-by _ _ _ refl
+    (ne-eqb (c .before .before .before .before .before .before .before .args .l .kind) 2
+    (c .before .before .if2 .left)) (passed-by _ _ _ refl
+    (ne-eqb (c .before .before .before .before .before .before .before .args .l .kind) 1 (c .if3 .left)) refl))
 
 pub store-line-spec : {M : Type 1} → statement M
 store-line-spec =

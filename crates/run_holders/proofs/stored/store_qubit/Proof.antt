@@ -2,7 +2,7 @@
 use mathlib.Core.Path.{refl}
 use borrow.Author.Tests.{lt-ltb, le-ltb}
 use Rattle.run_holders.specs.StoredCode.{qubitStored}
-use Rattle.run_holders.proofs.Storing.{so, otherwise}
+use Rattle.lists.proofs.Tests.{took, passed-by}
 use borrow.Author.Needs.{needs}
 use Rattle.run_holders.proofs.stored.store_qubit.Statement.{statement}
 use Rattle.run_holders.proofs.stored.store_qubit.Tie as tie
@@ -27,11 +27,13 @@ same-length c = search needs
 
 returns : tie.Need-returns
 unfolding qubitStored
-returns c = so _ _ (lt-ltb (c .before .before .before .before .before .before .before .before .before .args .n .0) 32 (c .before .before .before .before .before .before .if1 .taken)) (c .before .before .put .ensures)
+returns c =
+    took _ _ _ refl (lt-ltb (c .before .before .before .before .before .before .before .before .before .args .n .0) 32
+    (c .before .before .before .before .before .before .if1 .taken)) (c .before .before .put .ensures)
 
 returns-2 : tie.Need-returns-2
 unfolding qubitStored
-returns-2 c = otherwise _ _ (le-ltb (c .before .before .before .args .n .0) 32 (c .if1 .left)) refl
+returns-2 c = passed-by _ _ _ refl (le-ltb (c .before .before .before .args .n .0) 32 (c .if1 .left)) refl
 
 pub store-qubit-spec : {M : Type 1} → statement M
 store-qubit-spec =

@@ -1,5 +1,5 @@
 -- `op_call` tests the arguments, then the number of frames.
-use Rattle.run_ops.proofs.Returns.{took, passed-by}
+use Rattle.lists.proofs.Tests.{took, passed-by}
 use Rattle.run_values.specs.ValuesCode.{afterStep}
 use Rattle.run_values.specs.declared.steps.StepResult.the-variants.{WentOn}
 use Rattle.run_ops.specs.OpsCode.{callOp, opened}

@@ -1,6 +1,6 @@
 -- `op_ret` goes by whether the method is void, whether the value is emptied, and whether it is the root frame.
 use Rattle.run_values.proofs.Returns.{empty-stops, full-goes}
-use Rattle.run_ops.proofs.Returns.{took, passed-by}
+use Rattle.lists.proofs.Tests.{took, passed-by}
 use Rattle.run_values.specs.ValuesCode.{afterStep}
 use Rattle.run_values.specs.declared.steps.StepResult.the-variants.{WentOn}
 use Rattle.run_ops.specs.OpsCode.{retOp, handed}

@@ -1,5 +1,6 @@
 -- `step` acts where the process runs.
-use Rattle.run_ops.proofs.Returns.{passed-by, step-acts}
+use Rattle.lists.proofs.Tests.{passed-by}
+use Rattle.run_ops.proofs.Returns.{step-acts}
 use Rattle.run_ops.specs.OpsCode.{stepOp}
 use Rattle.table.specs.Table.{methods, word}
 use Rattle.run_store.specs.StoreCode.{headOf}

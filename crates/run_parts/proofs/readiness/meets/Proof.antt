@@ -29,7 +29,8 @@ returns-3 c =
     let at-if1 = at-if2 .before .before .before in
     let at-opposite-kinds = at-if1 .before in
     let args = at-opposite-kinds .before .args in
-    meets-sides (args .a) (args .b) (at-opposite-kinds .opposite-kinds .ensures) (at-if1 .if1 .left) (at-if2 .if2 .left) (c .either-way .ensures)
+    meets-sides (args .a) (args .b) (at-opposite-kinds .opposite-kinds .ensures) (at-if1 .if1 .left)
+    (at-if2 .if2 .left) (c .either-way .ensures)
 
 pub meets-spec : {M : Type 1} → statement M
 meets-spec =

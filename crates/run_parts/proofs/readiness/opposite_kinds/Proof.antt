@@ -24,7 +24,8 @@ returns c =
     let at-is-receives2 = c .before in
     let at-is-receives = at-is-receives2 .before in
     let at-is-sends = at-is-receives .before in
-    λ i. at-is-sends .is-sends .ensures i && at-is-receives .is-receives .ensures i || at-is-receives2 .is-receives2 .ensures i && c .is-sends2 .ensures i
+    λ i. at-is-sends .is-sends .ensures i && at-is-receives .is-receives .ensures i
+    || at-is-receives2 .is-receives2 .ensures i && c .is-sends2 .ensures i
 
 pub opposite-kinds-spec : {M : Type 1} → statement M
 opposite-kinds-spec =

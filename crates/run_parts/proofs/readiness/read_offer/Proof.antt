@@ -1,6 +1,6 @@
 -- `read_offer` goes by whether the step stands at SEND.
 use mathlib.Core.Path.{_∙_, ap}
-use Rattle.run_ops.proofs.Returns.{took, passed-by}
+use Rattle.lists.proofs.Tests.{took, passed-by}
 use Rattle.run_parts.specs.ReadinessCode.{sendOf, receiveOf, offerOf}
 use borrow.Author.Needs.{needs}
 use Rattle.run_parts.proofs.readiness.read_offer.Statement.{statement}

@@ -1,7 +1,7 @@
 -- `read_readiness` goes by the status, and then by the op.
 use Rattle.run_parts.specs.ReadinessCode.{readinessOp, sendOf, receiveOf}
 use Rattle.run_parts.proofs.Returns.{stands-at}
-use Rattle.run_ops.proofs.Returns.{took, passed-by}
+use Rattle.lists.proofs.Tests.{took, passed-by}
 use Rattle.table.specs.Table.{methods, word}
 use Rattle.run_store.specs.StoreCode.{headOf}
 use Rattle.run_store.specs.declared.head.Head.{Head}

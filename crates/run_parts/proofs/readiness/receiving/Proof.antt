@@ -1,6 +1,6 @@
 -- `receiving` goes by whether the end is emptied.
 use Rattle.run_parts.specs.ReadinessCode.{receiveOf}
-use Rattle.run_ops.proofs.Returns.{took, passed-by}
+use Rattle.lists.proofs.Tests.{took, passed-by}
 use Rattle.run_store.specs.declared.values.Val.{Val}
 use Rattle.run_store.specs.StoreCode.{valueAt}
 use mathlib.Core.Path.{_∙_, ap}

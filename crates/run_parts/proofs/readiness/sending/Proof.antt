@@ -1,6 +1,6 @@
 -- `sending` goes by whether an operand is emptied.
 use Rattle.run_parts.specs.ReadinessCode.{sendOf}
-use Rattle.run_ops.proofs.Returns.{took, passed-by}
+use Rattle.lists.proofs.Tests.{took, passed-by}
 use borrow.Author.Needs.{needs}
 use Rattle.run_parts.proofs.readiness.sending.Statement.{statement}
 use Rattle.run_parts.proofs.readiness.sending.Tie as tie

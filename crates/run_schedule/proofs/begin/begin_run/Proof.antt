@@ -27,10 +27,16 @@ same-length c = search needs
 returns : tie.Need-returns
 unfolding startStore beganAt
 returns c =
-    c .before .before .store-none .ensures
+    let at-store-none = c .before .before in
+    let at-begin-at = at-store-none .before .before .before .before in
+    let at-put = at-begin-at .before .before .before .before in
+    let at-clear = at-put .before .before .before .before in
+    let args = at-clear .before .before .before .before .args in
+    at-store-none .store-none .ensures
     ∙ ap (λ (l : List ℕ). noneStored l 64)
-    (c .before .before .before .before .before .before .begin-at .ensures
-    ∙ ap (λ (l : List ℕ). beganAt (c .before .before .before .before .before .before .before .before .before .before .before .before .before .before .before .before .before .before .args .p .now) l 0 0) (c .before .before .before .before .before .before .before .before .before .before .put .ensures ∙ ap (λ (l : List ℕ). set l 0 1) (c .before .before .before .before .before .before .before .before .before .before .before .before .before .before .clear .ensures)))
+    (at-begin-at .begin-at .ensures
+    ∙ ap (λ (l : List ℕ). beganAt
+    (args .p .now) l 0 0) (at-put .put .ensures ∙ ap (λ (l : List ℕ). set l 0 1) (at-clear .clear .ensures)))
 
 pub begin-run-spec : {M : Type 1} → statement M
 begin-run-spec =

@@ -34,13 +34,24 @@ loop-less c = search needs
 
 loop-again : tie.Need-loop-again Inv-loop μ-loop
 unfolding noneStored
-loop-again c = (omega arith, c .before .before .put .ensures ∙ ap (λ (w : List ℕ). set w (8192 + c .before .before .before .before .before .loop .i) 255) (c .before .before .before .before .before .loop .inv .1) ∙ ap (noneStored (c .before .before .before .before .before .before .before .args .work .now)) (sym (add-one (c .before .before .before .before .before .loop .i))), c .before .before .put .kept .0 ∙ c .before .before .before .before .before .loop .inv .2)
+loop-again c = (
+  omega arith,
+  c .before .before .put .ensures ∙ ap
+      (λ (w : List ℕ). set w (8192 + c .before .before .before .before .before .loop .i) 255)
+      (c .before .before .before .before .before .loop .inv .1) ∙ ap
+      (noneStored (c .before .before .before .before .before .before .before .args .work .now))
+      (sym (add-one (c .before .before .before .before .before .loop .i))),
+  c .before .before .put .kept .0
+      ∙ c .before .before .before .before .before .loop .inv .2,
+)
 
 same-length : tie.Need-same-length Inv-loop μ-loop
 same-length c = c .before .loop .inv .2
 
 returns : tie.Need-returns Inv-loop μ-loop
-returns c = let e : c .before .loop .i ≡ 64 = omega arith in c .before .loop .inv .1 ∙ ap (noneStored (c .before .before .before .args .work .now)) e
+returns c = let e : c .before .loop .i ≡ 64 = omega arith in c .before .loop .inv .1 ∙ ap
+    (noneStored (c .before .before .before .args .work .now)) e
 
 pub store-none-spec : {M : Type 1} → statement M
-store-none-spec = tie.close (tie.spec Inv-loop μ-loop loop-holds add-put put-requires add-i loop-less loop-again same-length returns)
+store-none-spec =
+    tie.close (tie.spec Inv-loop μ-loop loop-holds add-put put-requires add-i loop-less loop-again same-length returns)

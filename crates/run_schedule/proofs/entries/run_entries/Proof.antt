@@ -1,4 +1,5 @@
--- `run_entries` goes from one burst to the next: what stands before each is `Before`, and where it has stopped, `Going`.
+-- `run_entries` goes from one burst to the next: what stands before each is `Before`, and where it has stopped,
+-- `Going`.
 use Prim.Native.Nat.{ℕ, _+_, _-_, _≤_}
 use mathlib.Core.Path.{_≡_, refl, sym, _∙_, ap}
 use mathlib.Core.List.{List, [], _++_}
@@ -26,32 +27,58 @@ no-holders-requires c κs = search needs
 
 take-first-requires : tie.Need-take-first-requires Inv-loop μ-loop
 take-first-requires c κs =
-    let pre = c .before .before .before .before .before .before .before .pre in (pre .0, omega (arith, pre .1), pre .4)
+    let at-pre = c .before .before .before .before .before .before .before in
+    let pre = at-pre .pre in (pre .0, omega (arith, pre .1), pre .4)
 
 nothing-known-requires : tie.Need-nothing-known-requires Inv-loop μ-loop
 nothing-known-requires c κs = search needs
 
 loop-holds : tie.Need-loop-holds Inv-loop μ-loop
 loop-holds c =
-    let pre = c .before .before .before .before .before .before .before .before .before .before .before .pre in (
+    let at-take-first = c .before .before .before in
+    let at-no-holders = at-take-first .before .before in
+    let at-shared-slice-known = at-no-holders .before .before .before .before .before in
+    let at-pre = at-shared-slice-known .before in
+    let args = at-pre .args in
+    let pre = at-pre .pre in (
       before-start
-          (inputs (c .before .before .before .before .before .before .before .before .before .before .before .args .p .now) (c .before .before .before .before .before .before .before .before .before .before .before .args .schedule .now) (c .before .before .before .before .before .before .before .before .before .before .before .args .outcomes .now) (c .before .before .before .before .before .before .before .before .before .before .before .args .trace .now) (pre .4)
-          (λ i. omega (arith, c .before .before .before .before .before .before .before .before .before .before .shared-slice-known .given i)) (pre .6) (pre .2) (pre .3))
-          (pre .5 ∙ ap (λ (l : List ℕ). encode (startConfig (c .before .before .before .before .before .before .before .before .before .before .before .args .p .now)) ++ (holderWords [] ++ l)) (sym (c .before .before .before .take-first .ensures .2)))
-          (c .before .before .before .before .before .no-holders .ensures) (c .nothing-known .ensures) (c .before .before .before .take-first .ensures .0),
+          (inputs (args .p .now) (args .schedule .now) (args .outcomes .now) (args .trace .now) (pre .4)
+          (λ i. omega (arith, at-shared-slice-known .shared-slice-known .given i)) (pre .6) (pre .2) (pre .3))
+          (pre .5 ∙ ap (λ (l : List ℕ). encode (startConfig (args .p .now)) ++ (holderWords [] ++ l))
+          (sym (at-take-first .take-first .ensures .2)))
+          (at-no-holders .no-holders .ensures) (c .nothing-known .ensures) (at-take-first .take-first .ensures .0),
       refl,
       refl,
-      c .before .before .before .take-first .ensures .1,
+      at-take-first .take-first .ensures .1,
     )
 
 next-burst-requires : tie.Need-next-burst-requires Inv-loop μ-loop
 next-burst-requires c κs =
-    let pre = c .before .before .before .before .before .before .before .before .before .before .before .before .before .before .pre in let inv = c .before .before .loop .inv in (pre .0, omega (arith, pre .1, inv .1, c .before .before .before .before .before .before .take-first .kept .1 .1 .0), inv .3, pre .4)
+    let at-loop = c .before .before in
+    let at-take-first = at-loop .before .before .before .before in
+    let at-pre = at-take-first .before .before .before .before .before .before .before .before in
+    let pre = at-pre .pre in let inv = at-loop .loop .inv in
+    (pre .0, omega (arith, pre .1, inv .1, at-take-first .take-first .kept .1 .1 .0), inv .3, pre .4)
 
 ending-requires : tie.Need-ending-requires Inv-loop μ-loop
 ending-requires c κs =
-    let pre = c .before .before .before .before .before .before .before .before .before .before .before .before .before .before .before .before .before .before .before .before .before .pre in
-    (pre .0, omega (arith, pre .1, c .before .before .before .before .before .before .before .before .before .before .before .before .before .take-first .kept .1 .1 .0, c .before .before .before .before .before .before .before .before .before .loop .inv .1, c .before .before .before .before .before .before .next-burst .kept .1 .1 .0))
+    let at-next-burst = c .before .before .before .before .before .before in
+    let at-loop = at-next-burst .before .before .before in
+    let at-take-first = at-loop .before .before .before .before in
+    let at-pre = at-take-first .before .before .before .before .before .before .before .before in
+    let pre = at-pre .pre in (
+      pre .0,
+      omega (
+        arith,
+        pre .1,
+        at-take-first .take-first .kept .1 .1 .0,
+        at-loop .loop .inv .1,
+        at-next-burst .next-burst .kept .1 .1 .0,
+      ),
+    )
+
+summary-requires : tie.Need-summary-requires Inv-loop μ-loop
+summary-requires c κs = search needs
 
 same-length : tie.Need-same-length Inv-loop μ-loop
 same-length c = search needs
@@ -61,74 +88,122 @@ same-length-2 c = search needs
 
 returns : tie.Need-returns Inv-loop μ-loop
 returns c =
-    going-ends (going-burst (c .before .before .before .before .before .before .before .before .before .before .loop .inv .0) (c .before .before .before .before .before .before .before .next-burst .ensures)) (c .before .before .before .before .before .before .before .before .before .before .before .before .before .before .before .before .before .before .before .before .before .before .args .work .now) (c .before .before .before .before .before .before .before .before .before .before .before .before .before .before .take-first .ensures .2) (c .before .before .before .if1 .taken) (c .ending .ensures)
+    let at-ending = c .before in
+    let at-if1 = at-ending .before .before .before in
+    let at-next-burst = at-if1 .before .before .before .before in
+    let at-loop = at-next-burst .before .before .before in
+    let at-take-first = at-loop .before .before .before .before in
+    let args = at-take-first .before .before .before .before .before .before .before .before .args in
+    going-ends (going-burst (at-loop .loop .inv .0) (at-next-burst .next-burst .ensures)) (args .work .now)
+    (at-take-first .take-first .ensures .2) (at-if1 .if1 .taken) (at-ending .ending .ensures)
+    (c .summary .ensures)
 
 turn-at-requires : tie.Need-turn-at-requires Inv-loop μ-loop
 turn-at-requires c κs =
-    let pre = c .before .before .before .before .before .before .before .before .before .before .before .before .before .before .before .before .before .before .before .before .before .before .pre in
-    let inv = c .before .before .before .before .before .before .before .before .before .before .loop .inv in
-    let g = going-burst (inv .0) (c .before .before .before .before .before .before .before .next-burst .ensures) in (
+    let at-if1 = c .before .before .before in
+    let at-next-burst = at-if1 .before .before .before .before in
+    let at-loop = at-next-burst .before .before .before in
+    let at-take-first = at-loop .before .before .before .before in
+    let at-pre = at-take-first .before .before .before .before .before .before .before .before in
+    let pre = at-pre .pre in
+    let inv = at-loop .loop .inv in
+    let g = going-burst (inv .0) (at-next-burst .next-burst .ensures) in (
       pre .0,
-      omega (arith, pre .1, c .before .before .before .before .before .before .before .before .before .before .before .before .before .before .take-first .kept .1 .1 .0, inv .1, c .before .before .before .before .before .before .before .next-burst .kept .1 .1 .0),
-      omega (arith, c .before .before .before .if1 .left),
+      omega (arith, pre .1, at-take-first .take-first .kept .1 .1 .0, inv .1, at-next-burst .next-burst .kept .1 .1 .0),
+      omega (arith, at-if1 .if1 .left),
       pre .2,
       few-lines g,
       near g .0,
       near g .1,
     )
 
+summary-requires-2 : tie.Need-summary-requires-2 Inv-loop μ-loop
+summary-requires-2 c κs = search needs
+
 same-length-3 : tie.Need-same-length-3 Inv-loop μ-loop
-same-length-3 c = c .before .before .before .before .before .before .turn-at .kept .1 .1 .1 .1 .0 ∙ c .before .before .before .before .before .before .before .before .before .before .before .before .before .before .before .before .before .loop .inv .2
+same-length-3 c =
+    let at-turn-at = c .before .before .before .before .before .before .before in
+    let at-loop = at-turn-at .before .before .before .before .before .before .before .before .before .before .before in
+    at-turn-at .turn-at .kept .1 .1 .1 .1 .0 ∙ at-loop .loop .inv .2
 
 same-length-4 : tie.Need-same-length-4 Inv-loop μ-loop
-same-length-4 c = c .before .before .before .before .before .before .turn-at .kept .1 .1 .1 .1 .1 .0 ∙ c .before .before .before .before .before .before .before .before .before .before .before .before .before .before .next-burst .kept .1 .1 .0 ∙ c .before .before .before .before .before .before .before .before .before .before .before .before .before .before .before .before .before .loop .inv .1 ∙ c .before .before .before .before .before .before .before .before .before .before .before .before .before .before .before .before .before .before .before .before .before .take-first .kept .1 .1 .0
+same-length-4 c =
+    let at-turn-at = c .before .before .before .before .before .before .before in
+    let at-next-burst = at-turn-at .before .before .before .before .before .before .before .before in
+    let at-loop = at-next-burst .before .before .before in
+    let at-take-first = at-loop .before .before .before .before in
+    at-turn-at .turn-at .kept .1 .1 .1 .1 .1 .0 ∙ at-next-burst .next-burst .kept .1 .1 .0 ∙ at-loop .loop .inv .1 ∙
+    at-take-first .take-first .kept .1 .1 .0
 
 returns-2 : tie.Need-returns-2 Inv-loop μ-loop
 returns-2 c =
-    going-over (going-burst (c .before .before .before .before .before .before .before .before .before .before .before .before .before .before .before .before .before .loop .inv .0) (c .before .before .before .before .before .before .before .before .before .before .before .before .before .before .next-burst .ensures)) (omega (arith, c .before .before .before .before .before .before .before .before .before .before .if1 .left)) (c .before .before .before .before .before .before .turn-at .ensures)
-    (c .before .before .before .before .before .before .before .before .before .before .before .before .before .before .before .before .before .before .before .before .before .before .before .before .before .before .before .before .before .args .work .now) (c .before .before .before .before .before .before .before .before .before .before .before .before .before .before .before .before .before .before .before .before .before .take-first .ensures .2) (c .if2 .taken)
+    let at-if2 = c .before in
+    let at-turn-at = at-if2 .before .before .before .before .before .before in
+    let at-if1 = at-turn-at .before .before .before .before in
+    let at-next-burst = at-if1 .before .before .before .before in
+    let at-loop = at-next-burst .before .before .before in
+    let at-take-first = at-loop .before .before .before .before in
+    let args = at-take-first .before .before .before .before .before .before .before .before .args in
+    going-over (going-burst (at-loop .loop .inv .0) (at-next-burst .next-burst .ensures))
+    (omega (arith, at-if1 .if1 .left)) (at-turn-at .turn-at .ensures)
+    (args .work .now) (at-take-first .take-first .ensures .2) (at-if2 .if2 .taken) (c .summary2 .ensures)
 
-note-lines-requires : tie.Need-note-lines-requires Inv-loop μ-loop
-note-lines-requires c κs =
-    let g = going-burst (c .before .before .before .before .before .before .before .before .before .before .before .before .before .before .before .before .before .before .before .loop .inv .0) (c .before .before .before .before .before .before .before .before .before .before .before .before .before .before .before .before .next-burst .ensures) in
-    let fit = lines-fit g (omega (arith, c .before .before .before .before .before .before .before .before .before .before .before .before .if1 .left)) (c .before .before .before .before .before .before .before .before .turn-at .ensures) (c .before .before .if2 .left) in (
-      lines-more g (omega (arith, c .before .before .before .before .before .before .before .before .before .before .before .before .if1 .left)) (c .before .before .before .before .before .before .before .before .turn-at .ensures) (c .before .before .if2 .left),
+update-holders-requires : tie.Need-update-holders-requires Inv-loop μ-loop
+update-holders-requires c κs =
+    let at-if2 = c .before .before .before in
+    let at-turn-at = at-if2 .before .before .before .before .before .before in
+    let at-if1 = at-turn-at .before .before .before .before in
+    let at-next-burst = at-if1 .before .before .before .before in
+    let at-loop = at-next-burst .before .before .before in
+    let g = going-burst (at-loop .loop .inv .0) (at-next-burst .next-burst .ensures) in
+    let fit = lines-fit g (omega (arith, at-if1 .if1 .left)) (at-turn-at .turn-at .ensures) (at-if2 .if2 .left) in (
+      lines-more g (omega (arith, at-if1 .if1 .left)) (at-turn-at .turn-at .ensures) (at-if2 .if2 .left),
       fit .0,
-      omega (arith, fit .1, c .before .before .before .before .before .before .before .before .turn-at .kept .1 .1 .1 .1 .0, c .before .before .before .before .before .before .before .before .before .before .before .before .before .before .before .before .before .before .before .loop .inv .2),
-    )
-
-store-lines-requires : tie.Need-store-lines-requires Inv-loop μ-loop
-store-lines-requires c κs =
-    let g = going-burst (c .before .before .before .before .before .before .before .before .before .before .before .before .before .before .before .before .before .before .before .before .before .before .loop .inv .0) (c .before .before .before .before .before .before .before .before .before .before .before .before .before .before .before .before .before .before .before .next-burst .ensures) in
-    let fit = lines-fit g (omega (arith, c .before .before .before .before .before .before .before .before .before .before .before .before .before .before .before .if1 .left)) (c .before .before .before .before .before .before .before .before .before .before .before .turn-at .ensures) (c .before .before .before .before .before .if2 .left) in (
-      lines-more g (omega (arith, c .before .before .before .before .before .before .before .before .before .before .before .before .before .before .before .if1 .left)) (c .before .before .before .before .before .before .before .before .before .before .before .turn-at .ensures) (c .before .before .before .before .before .if2 .left),
-      fit .0,
-      omega (arith, fit .1, c .before .before .before .before .before .before .before .before .before .before .before .turn-at .kept .1 .1 .1 .1 .0, c .before .before .before .before .before .before .before .before .before .before .before .before .before .before .before .before .before .before .before .before .before .before .loop .inv .2),
+      omega (arith, fit .1, at-turn-at .turn-at .kept .1 .1 .1 .1 .0, at-loop .loop .inv .2),
     )
 
 unless-requires : tie.Need-unless-requires Inv-loop μ-loop
 unless-requires c κs = search needs
 
 add-k : tie.Need-add-k Inv-loop μ-loop
-add-k c = omega (arith, c .before .before .before .before .before .before .before .before .before .before .before .before .before .before .before .before .before .before .before .before .before .if1 .left, c .before .before .before .before .before .before .before .before .before .before .before .before .before .before .before .before .before .before .before .before .before .before .before .before .before .before .before .before .before .before .before .before .before .before .before .before .before .before .before .before .pre .2)
+add-k c =
+    let near-if1 = c .before .before .before .before .before .before .before .before .before in
+    let at-if1 = near-if1 .before .before .before .before .before .before .before .before .before .before in
+    let near-pre = at-if1 .before .before .before .before .before .before .before .before .before in
+    let at-pre = near-pre .before .before .before .before .before .before .before .before .before .before in
+    omega (arith, at-if1 .if1 .left, at-pre .pre .2)
 
 loop-less : tie.Need-loop-less Inv-loop μ-loop
 loop-less c =
+    let near-if1 = c .before .before .before .before .before .before .before .before .before in
+    let at-if1 = near-if1 .before .before .before .before .before .before .before .before .before .before in
+    let at-next-burst = at-if1 .before .before .before .before in
+    let at-loop = at-next-burst .before .before .before in
     omega (
       arith,
-      c .before .before .before .before .before .before .before .before .before .before .before .before .before .before .before .before .before .before .before .before .before .if1 .left,
-      not-back (c .before .before .before .before .before .before .before .before .before .before .before .before .before .before .before .before .before .before .before .before .before .before .before .before .before .before .before .before .loop .inv .0) (c .before .before .before .before .before .before .before .before .before .before .before .before .before .before .before .before .before .before .before .before .before .before .before .before .before .next-burst .ensures),
+      at-if1 .if1 .left,
+      not-back (at-loop .loop .inv .0) (at-next-burst .next-burst .ensures),
     )
 
 loop-again : tie.Need-loop-again Inv-loop μ-loop
 loop-again c =
-    let inv = c .before .before .before .before .before .before .before .before .before .before .before .before .before .before .before .before .before .before .before .before .before .before .before .before .before .before .before .before .loop .inv in
-    let kept = c .before .before .before .before .before .before .before .before .before .before .before .before .before .before .before .before .before .turn-at .kept in (
-      before-next (going-burst (inv .0) (c .before .before .before .before .before .before .before .before .before .before .before .before .before .before .before .before .before .before .before .before .before .before .before .before .before .next-burst .ensures)) (omega (arith, c .before .before .before .before .before .before .before .before .before .before .before .before .before .before .before .before .before .before .before .before .before .if1 .left)) (c .before .before .before .before .before .before .before .before .before .before .before .before .before .before .before .before .before .turn-at .ensures) (c .before .before .before .before .before .before .before .before .before .before .before .if2 .left)
-          (c .before .before .before .before .before .before .before .before .note-lines .ensures .1) (c .before .unless .ensures) (c .before .before .before .before .before .before .before .before .note-lines .ensures .0) (c .before .before .before .before .before .store-lines .ensures),
-      c .before .before .before .before .before .store-lines .kept .0 ∙ kept .1 .1 .1 .1 .1 .0 ∙ c .before .before .before .before .before .before .before .before .before .before .before .before .before .before .before .before .before .before .before .before .before .before .before .before .before .next-burst .kept .1 .1 .0 ∙ inv .1,
+    let at-unless = c .before in
+    let at-update-holders = at-unless .before .before .before .before in
+    let at-if2 = at-update-holders .before .before .before .before in
+    let at-turn-at = at-if2 .before .before .before .before .before .before in
+    let at-if1 = at-turn-at .before .before .before .before in
+    let at-next-burst = at-if1 .before .before .before .before in
+    let at-loop = at-next-burst .before .before .before in
+    let inv = at-loop .loop .inv in
+    let kept = at-turn-at .turn-at .kept in (
+      before-next (going-burst (inv .0) (at-next-burst .next-burst .ensures)) (omega (arith, at-if1 .if1 .left))
+          (at-turn-at .turn-at .ensures) (at-if2 .if2 .left)
+          (at-update-holders .update-holders .ensures .2) (at-unless .unless .ensures)
+          (at-update-holders .update-holders .ensures .0) (at-update-holders .update-holders .ensures .1),
+      at-update-holders .update-holders .kept .1 .0 ∙ kept .1 .1 .1 .1 .1 .0 ∙
+          at-next-burst .next-burst .kept .1 .1 .0 ∙ inv .1,
       kept .1 .1 .1 .1 .0 ∙ inv .2,
-      omega (arith, c .before .before .before .before .before .before .before .before .before .before .before .before .before .before .before .before .before .before .before .before .before .if1 .left),
+      omega (arith, at-if1 .if1 .left),
     )
 
 pub run-entries-spec : {M : Type 1} → statement M
@@ -143,15 +218,16 @@ run-entries-spec =
     loop-holds
     next-burst-requires
     ending-requires
+    summary-requires
     same-length
     same-length-2
     returns
     turn-at-requires
+    summary-requires-2
     same-length-3
     same-length-4
     returns-2
-    note-lines-requires
-    store-lines-requires
+    update-holders-requires
     unless-requires
     add-k
     loop-less

@@ -10,7 +10,8 @@ use Rattle.run_store.proofs.giving.give_qubit.Statement.{statement}
 use Rattle.run_store.proofs.giving.give_qubit.Tie as tie
 
 abbrev Inv-loop : tie.InvT-loop
-Inv-loop w₀ number n j₀ w j = (j ≤ n) × (w ≡ emptiedBy w₀ (record { tag = 3; number = number }) (8 * j)) × (length w ≡ length w₀)
+Inv-loop w₀ number n j₀ w j =
+    (j ≤ n) × (w ≡ emptiedBy w₀ (record { tag = 3; number = number }) (8 * j)) × (length w ≡ length w₀)
 
 abbrev μ-loop : tie.MeasureT-loop
 μ-loop w₀ number n j₀ w j = n - j

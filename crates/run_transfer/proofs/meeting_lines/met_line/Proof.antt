@@ -2,7 +2,7 @@
 use mathlib.Core.Logic.{⊎-elim}
 use mathlib.Core.Path.{refl, _∙_}
 use borrow.Author.Tests.{eq-eqb, ne-eqb}
-use Rattle.run_ops.proofs.Returns.{took, passed-by}
+use Rattle.lists.proofs.Tests.{took, passed-by}
 use Rattle.run_transfer.proofs.Laws.{met-line}
 use borrow.Author.Needs.{needs}
 use Rattle.run_transfer.proofs.meeting_lines.met_line.Statement.{statement}

@@ -65,7 +65,8 @@ loop-again c =
       loop .inv .1,
       loop .inv .2,
       loop .inv .3
-          ∙ sameTimed-agree (linesOf (args .a .now)) (linesOf (args .b .now)) (loop .i) (omega arith) (omega arith) agree,
+          ∙ sameTimed-agree (linesOf (args .a .now)) (linesOf (args .b .now)) (loop .i) (omega arith) (omega arith)
+          agree,
     )
 
 returns-3 : tie.Need-returns-3 Inv-loop μ-loop
