@@ -96,6 +96,15 @@ pub fn hand_over() -> Vec<Method> {
     vec![method(&[], &[19, 35, 3], main), method(&[35], &[3], child)]
 }
 
+/// An instruction of main's loop in a method whose parameters are main's slots 1 and 2.
+fn in_callee((op, argument): (u16, u16)) -> (u16, u16) {
+    match op {
+        JUMP => (JUMP, 0),
+        GET | PUT => (op, argument - 1),
+        _ => (op, argument),
+    }
+}
+
 /// The same where the first process hands on from its top frame of so many.
 pub fn hand_over_from(frames: u16) -> Vec<Method> {
     let mut methods = hand_over();
@@ -105,7 +114,7 @@ pub fn hand_over_from(frames: u16) -> Vec<Method> {
     for k in 1..frames {
         let last = k + 1 == frames;
         let code = if last {
-            loops.iter().map(|&(op, a)| if op == JUMP { (JUMP, 0) } else { (op, if op == GET || op == PUT { a - 1 } else { a }) }).collect()
+            loops.iter().map(|&line| in_callee(line)).collect()
         } else {
             vec![(GET, 0), (GET, 1), (CALL, give + k), (RET, 0)]
         };
