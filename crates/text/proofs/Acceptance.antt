@@ -15,7 +15,7 @@ use Rattle.table.specs.Questions.{sizesKept, startOf, pairKept, instructionKept
 use Rattle.table.proofs.Accepted.{sizes-kept, pairs-kept}
 use Rattle.table.proofs.Owners.{owner-inside}
 use Rattle.text.specs.Tree.{NonVoidType, Method, Program, methodAt, mainFirst}
-use Rattle.text.specs.Translation.{holeOf, closing, bodyCode, methodCode, pairWords, rowsWords, programCode, codeWords, tableOf}
+use Rattle.text.specs.Translation.{holeOf, closing, bodyCode, methodCode, pairWords, rowsWords, programCode, codeWords, programTable}
 use Rattle.text.specs.Limits.{codeKept}
 use Rattle.text.specs.Statement.{Translated, textTable}
 use Rattle.text.proofs.Words.{codeBefore, codeBefore-later, methods-of, instructions-of, offset-of, length-of, end-of, method-there, method-within, pairWords-length, rowsWords-length, codeWords-length}
@@ -48,7 +48,7 @@ codeBefore-all ms (m ∷ rest) =
     omega (arith, length-append (methodCode ms m) (programCode ms rest), codeBefore-all ms rest)
 
 -- so question 2's starts are where the code of each method starts
-start-of : (ms : Program) (n : ℕ) → n ≤ length ms → startOf (tableOf ms) n ≡ codeBefore ms ms n
+start-of : (ms : Program) (n : ℕ) → n ≤ length ms → startOf (programTable ms) n ≡ codeBefore ms ms n
 unfolding startOf
 start-of ms zero l = sym (codeBefore-first ms ms)
 start-of ms (suc n) l =
@@ -81,8 +81,8 @@ module _ (ms : Program) (l : Limited ms) where
       omega (arith, code-some ms (l .main), codeBefore-all ms ms)
 
   -- the table's length
-  table-length : length (tableOf ms) ≡ 2 + 20 * length ms + 2 * length (programCode ms ms)
-  unfolding tableOf
+  table-length : length (programTable ms) ≡ 2 + 20 * length ms + 2 * length (programCode ms ms)
+  unfolding programTable
   table-length =
       let rows = rowsWords ms in
       let code = codeWords (programCode ms ms) in
@@ -96,11 +96,11 @@ module _ (ms : Program) (l : Limited ms) where
       )
 
   -- question 1 is passed
-  sizes-pass : T (sizesKept (tableOf ms))
+  sizes-pass : T (sizesKept (programTable ms))
   unfolding sizesKept
   sizes-pass =
-      let M = methods (tableOf ms) in
-      let N = instructions (tableOf ms) in
+      let M = methods (programTable ms) in
+      let N = instructions (programTable ms) in
       let m = methods-of ms in
       let n = instructions-of ms in
       yes-and (leb 1 M && leb M 32) _
@@ -108,15 +108,15 @@ module _ (ms : Program) (l : Limited ms) where
       (yes-and (leb 1 N && leb N 4096) _
       (yes-and (leb 1 N) (leb N 4096) (le→leb 1 N (omega (arith, instructions-some)))
       (le→leb N 4096 (omega (arith, l .short))))
-      (yes-eqb {a = length (tableOf ms)} {b = 2 + 20 * M + 2 * N} (omega (arith, table-length))))
+      (yes-eqb {a = length (programTable ms)} {b = 2 + 20 * M + 2 * N} (omega (arith, table-length))))
 
   -- Question 2
 
   -- each pair keeps its rule
-  pair-passes : (n : ℕ) → n < methods (tableOf ms) → T (pairKept (tableOf ms) n)
+  pair-passes : (n : ℕ) → n < methods (programTable ms) → T (pairKept (programTable ms) n)
   unfolding pairKept
   pair-passes n h =
-      let p = tableOf ms in
+      let p = programTable ms in
       let within : n < length ms = omega (arith, methods-of ms) in
       let (m, e) = method-there ms n within in
       yes-and (eqb (offsetOf p n) (startOf p n)) _
@@ -124,19 +124,19 @@ module _ (ms : Program) (l : Limited ms) where
       (le→leb 1 (lengthOf p n) (omega (arith, length-of ms n m e, code-some ms m)))
 
   -- the lengths sum to the instructions
-  sum-passes : T (eqb (startOf (tableOf ms) (methods (tableOf ms))) (instructions (tableOf ms)))
+  sum-passes : T (eqb (startOf (programTable ms) (methods (programTable ms))) (instructions (programTable ms)))
   sum-passes =
-      yes-eqb (ap (startOf (tableOf ms)) (methods-of ms) ∙ start-of ms (length ms) (omega arith)
+      yes-eqb (ap (startOf (programTable ms)) (methods-of ms) ∙ start-of ms (length ms) (omega arith)
       ∙ codeBefore-all ms ms ∙ sym (instructions-of ms))
 
   -- Questions 4 and 5
 
   -- each instruction is one of its owner's, whose code keeps both
-  instruction-passes : (i : ℕ) → i < instructions (tableOf ms)
-      → T (instructionKept (tableOf ms) i) × T (reads (tableOf ms) i)
+  instruction-passes : (i : ℕ) → i < instructions (programTable ms)
+      → T (instructionKept (programTable ms) i) × T (reads (programTable ms) i)
   unfolding codeKept endOf
   instruction-passes i h =
-      let p = tableOf ms in
+      let p = programTable ms in
       let sizes = sizes-kept p sizes-pass in
       let inside = owner-inside p sizes (pairs-kept p sizes pair-passes sum-passes) i h in
       let n = ownerOf p i in
@@ -150,9 +150,9 @@ module _ (ms : Program) (l : Limited ms) where
       and-yes (instructionKept p i) (reads p i) both
 
   -- the table of methods that keep all limits is accepted
-  pub limited-accepted : Accepted (tableOf ms)
+  pub limited-accepted : Accepted (programTable ms)
   limited-accepted =
-      passes-accepted (tableOf ms)
+      passes-accepted (programTable ms)
       (record {
         sizes = sizes-pass;
         pairs = pair-passes;

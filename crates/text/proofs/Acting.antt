@@ -12,12 +12,12 @@ use Rattle.machine.specs.Entry.{tableMachine}
 use Rattle.simulation.specs.Simulation.{no-more, one-more, FramesLike, ActLike, both-stuck, both-fault, both-go, both-end}
 use Rattle.text.specs.Tree.{Program}
 use Rattle.text.specs.Meaning.{TextFrame, returning, textMachine}
-use Rattle.text.specs.Translation.{tableOf}
+use Rattle.text.specs.Translation.{programTable}
 use Rattle.text.proofs.Like.{Like, more-like}
 
 module _ (ms : Program) (outcomes : List ℕ) where
   abbrev pub Acts : Act → ActOf TextFrame → Type 0
-  Acts = ActLike (tableMachine (tableOf ms) outcomes) (textMachine ms outcomes) (Like ms)
+  Acts = ActLike (tableMachine (programTable ms) outcomes) (textMachine ms outcomes) (Like ms)
 
   -- returning these values
   pub returned-like : (vs : List Value) {fs : List Frame} {gs : List TextFrame} → FramesLike (Like ms) fs gs

@@ -13,7 +13,7 @@ use Rattle.simulation.specs.Simulation.{one-more, FramesLike, both-fault, both-
 use Rattle.simulation.proofs.OneByOne.{one-length}
 use Rattle.text.specs.Tree.{Name, Program, methodOf, numberOf}
 use Rattle.text.specs.Meaning.{call, forkIt, Term, TextFrame, startedIn, calling, forking, rule}
-use Rattle.text.specs.Translation.{tableOf}
+use Rattle.text.specs.Translation.{programTable}
 use Rattle.text.proofs.Limited.{Limited}
 use Rattle.text.proofs.Follows.{Callable}
 use Rattle.text.proofs.Like.{Stand, table-frame, text-frame, FollowsFrom, Like, passed-with, passed-like}
@@ -24,7 +24,7 @@ use Rattle.text.proofs.Start.{started-like}
 -- the frames in which a called method starts
 called-like : (ms : Program) → Limited ms → (x : Name) (k : ℕ) (values : List Value) → Callable ms x k
     → k ≤ length values
-    → Like ms (started (tableOf ms) (numberOf ms x) (reverse (take k values)))
+    → Like ms (started (programTable ms) (numberOf ms x) (reverse (take k values)))
     (startedIn ms (numberOf ms x) (reverse (take k values)))
 unfolding methodOf
 called-like ms limited x k values callable enough =

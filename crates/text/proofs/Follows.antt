@@ -10,7 +10,7 @@ use lib.IntN.{pos}
 use lib.ListN.{getD, drop, length}
 use Rattle.machine.specs.Value.{Value, int, bool}
 use Rattle.text.specs.Tree.{Name, Expr, Statement, loop, Method, Program, Declared, methodOf, numberOf}
-use Rattle.text.specs.Meaning.{Move, constant, lookUp, store, operate, call, measureIt, receiveIt, allocQubit, allocChannel, allocEnd, forget, assignTo, endOf, storeEnd, gate, forkIt, sendIt, returnIt, ifTrue, ifElse, branchDone, whileTrue, bodyDone, declare, methodDone, Term, move, leave, endOfFound}
+use Rattle.text.specs.Meaning.{Move, constant, lookUp, store, operate, call, measureIt, receiveIt, allocQubit, allocChannel, allocEnd, forget, assignTo, takeEnd, storeEnd, gate, forkIt, sendIt, returnIt, ifTrue, ifElse, branchDone, whileTrue, bodyDone, declare, methodDone, Term, move, leave, endOfFound}
 use Rattle.text.specs.Translation.{Instruction, instruction, INT, BOOL, GET, PUT, DROP, CLEAR, NEWQ, NEWC, END, GATE, MEAS, CALL, RET, FORK, SEND, RECV, JUMP, JFALSE, NONE, operatorOp, truthWord, Scope, placedSlot, placed, foundIn, slotOf, endsIn, exprCode, code, closing, holeOf, methodCode}
 use Rattle.text.proofs.Elements.{nth}
 use Rattle.text.proofs.Scopes.{Below}
@@ -141,7 +141,7 @@ Follow ms m allocEnd R sc at = Then ms m NONE (R sc) at
 Follow ms m forget R sc at = Then ms m DROP (R sc) at
 Follow ms m (assignTo x) R sc at =
     Then ms m (PUT (slotOf sc x)) (FollowEnds ms m (endsIn sc x) x (R sc) sc) at
-Follow ms m (endOf d) R sc at = Then ms m (END d) (R sc) at
+Follow ms m (takeEnd d) R sc at = Then ms m (END d) (R sc) at
 Follow ms m (storeEnd d x) R sc at =
     Then ms m (PUT (getD (map placedSlot sc) (endOfFound d (foundIn x sc)) 16)) (R sc) at
 Follow ms m (gate g) R sc at = Then ms m (GATE g) (R sc) at

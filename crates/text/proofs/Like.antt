@@ -13,7 +13,7 @@ use Rattle.machine.specs.Entry.{without, frameWithout, framesWithout, pushTop}
 use Rattle.simulation.specs.Simulation.{no-more, one-more, FramesLike}
 use Rattle.text.specs.Tree.{Method, Program, Declared, methodAt}
 use Rattle.text.specs.Meaning.{Term, Variable, TextFrame, isSome, boundAt, fresh, withValues, variableWithout, textFrameWithout, valueReceived}
-use Rattle.text.specs.Translation.{Scope, placedSlot, placed, holeOf, tableOf}
+use Rattle.text.specs.Translation.{Scope, placedSlot, placed, holeOf, programTable}
 use Rattle.text.proofs.Scopes.{Below}
 use Rattle.text.proofs.Follows.{Follows}
 use Rattle.text.proofs.Variables.{Slots, slots-set, slots-declare, slots-drop, slots-without}
@@ -25,7 +25,7 @@ pub record Stand (ms : Program) : Type 0 where
   pub is-method : methodAt ms number ≡ some method
   pub at : ℕ
   pub place : ℕ
-  pub here : place ≡ offsetOf (tableOf ms) number + at
+  pub here : place ≡ offsetOf (programTable ms) number + at
   pub scope : Scope
   pub slots : List Value
   pub variables : List Variable
@@ -77,7 +77,7 @@ module _ {ms : Program} (w : Stand ms) where
   }
 
   -- at another instruction
-  abbrev at-place : (i place : ℕ) → place ≡ offsetOf (tableOf ms) (w .number) + i → Stand ms
+  abbrev at-place : (i place : ℕ) → place ≡ offsetOf (programTable ms) (w .number) + i → Stand ms
   at-place i place here = record {
     number = w .number;
     method = w .method;
@@ -114,11 +114,11 @@ module _ {ms : Program} (w : Stand ms) where
   abbrev pub passed-on : Stand ms
   passed-on =
       at-place w (suc (w .at)) (suc (w .place))
-      (next-place (w .place) (offsetOf (tableOf ms) (w .number)) (w .at) (w .here))
+      (next-place (w .place) (offsetOf (programTable ms) (w .number)) (w .at) (w .here))
 
   -- at instruction i of the method
   abbrev pub jumped : ℕ → Stand ms
-  jumped i = at-place w i (offsetOf (tableOf ms) (w .number) + i) refl
+  jumped i = at-place w i (offsetOf (programTable ms) (w .number) + i) refl
 
   -- at the next instruction, with these values
   abbrev pub passed-with : List Value → Stand ms

@@ -12,7 +12,7 @@ use Rattle.lists.specs.Lists.{any, every, All}
 use Rattle.lists.proofs.Laws.{append-nil-right}
 use Rattle.text.specs.Tree.{Name, NonVoidType, Method, Program, methodAt, isMain, mainFirst}
 use Rattle.text.specs.Meaning.{isSome}
-use Rattle.text.specs.Translation.{methodCode, slotCodes, programCode, tableOf}
+use Rattle.text.specs.Translation.{methodCode, slotCodes, programCode, programTable}
 use Rattle.text.specs.Names.{twiceFaults, methodNames, methodsFaults, mainFault, nameFaults, lowest, nameRefusal, methodFaults}
 use Rattle.text.specs.Limits.{allNumbersIn, isNumber, headerKept, codeKept, methodKept, firstOver, placeOf, limitRefusal}
 use Rattle.text.specs.Statement.{Translated}
@@ -36,7 +36,7 @@ pub record Keeps (ms : Program) (n : ℕ) (m : Method) : Type 0 where
   pub slots : length (slotCodes m) ≤ 16
   pub header : T (isMain m) → (length (m .parameters) ≡ 0) × (m .returns ≡ none)
   pub numbers : T (every isNumber (allNumbersIn (m .statements)))
-  pub code : T (codeKept (tableOf ms) n)
+  pub code : T (codeKept (programTable ms) n)
 
 -- no return type
 none-of : (o : Option NonVoidType) → T (not (isSome o)) → o ≡ none
@@ -69,7 +69,7 @@ limited-keeps ms l n m e =
       slots = leb-yes slots;
       header = header-kept m header;
       numbers = numbers;
-      code = subst (λ k. T (codeKept (tableOf ms) k)) (number-of ms (l .apart) n m e) code;
+      code = subst (λ k. T (codeKept (programTable ms) k)) (number-of ms (l .apart) n m e) code;
     }
 
 -- No name at fault

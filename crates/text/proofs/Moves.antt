@@ -12,8 +12,8 @@ use Rattle.machine.specs.State.{Frame, State, StateOf}
 use Rattle.machine.specs.Act.{atFrame}
 use Rattle.simulation.specs.Simulation.{FramesLike}
 use Rattle.text.specs.Tree.{Name, intType, booleanType, qbitType, NonVoidType, plain, channelType, endType, Operator, plus, minus, equals, lessThan, Method, Program, methodAt, methodOf, numberOf}
-use Rattle.text.specs.Meaning.{Move, constant, lookUp, store, operate, call, measureIt, receiveIt, allocQubit, allocChannel, allocEnd, forget, assignTo, endOf, storeEnd, gate, forkIt, sendIt, returnIt, ifTrue, ifElse, branchDone, whileTrue, bodyDone, declare, methodDone, Term, TextFrame, isSome, endOfFound, takenBy, moving}
-use Rattle.text.specs.Translation.{Instruction, instruction, GET, PUT, DROP, CLEAR, NEWQ, NEWC, END, GATE, MEAS, CALL, RET, FORK, SEND, RECV, JUMP, JFALSE, NONE, operatorOp, carriedCode, typeCode, returnCode, placedSlot, foundIn, slotOf, closing, holeOf, methodCode, tableOf}
+use Rattle.text.specs.Meaning.{Move, constant, lookUp, store, operate, call, measureIt, receiveIt, allocQubit, allocChannel, allocEnd, forget, assignTo, takeEnd, storeEnd, gate, forkIt, sendIt, returnIt, ifTrue, ifElse, branchDone, whileTrue, bodyDone, declare, methodDone, Term, TextFrame, isSome, endOfFound, takenBy, moving}
+use Rattle.text.specs.Translation.{Instruction, instruction, GET, PUT, DROP, CLEAR, NEWQ, NEWC, END, GATE, MEAS, CALL, RET, FORK, SEND, RECV, JUMP, JFALSE, NONE, operatorOp, carriedCode, typeCode, returnCode, placedSlot, foundIn, slotOf, closing, holeOf, methodCode, programTable}
 use Rattle.text.proofs.Elements.{nth}
 use Rattle.text.proofs.Words.{return-of, params-of}
 use Rattle.text.proofs.Limited.{Limited}
@@ -45,18 +45,18 @@ operator-takes p n lessThan = refl
 
 -- a call and a fork take the method's parameters
 module _ (ms : Program) (x : Name) (k : ℕ) (callable : Callable ms x k) where
-  takes-parameters : paramsOf (tableOf ms) (numberOf ms x) ≡ k
+  takes-parameters : paramsOf (programTable ms) (numberOf ms x) ≡ k
   unfolding methodOf
   takes-parameters =
       params-of ms (numberOf ms x) (callable .method) (callable .is-method) ∙ sym (callable .arguments)
 
   -- of a call
-  call-takes : (n : ℕ) → opOf 12 .takes (tableOf ms) n (numberOf ms x) ≡ k
+  call-takes : (n : ℕ) → opOf 12 .takes (programTable ms) n (numberOf ms x) ≡ k
   unfolding opOf ops opCall
   call-takes n = takes-parameters
 
   -- of a fork
-  fork-takes : (n : ℕ) → opOf 14 .takes (tableOf ms) n (numberOf ms x) ≡ k
+  fork-takes : (n : ℕ) → opOf 14 .takes (programTable ms) n (numberOf ms x) ≡ k
   unfolding opOf ops opFork
   fork-takes n = takes-parameters
 
@@ -81,7 +81,7 @@ value-returned (some t) = type-returned t
 
 -- what RET takes
 return-takes : (ms : Program) (n : ℕ) (m : Method) → methodAt ms n ≡ some m
-    → opOf 13 .takes (tableOf ms) n 0 ≡ cond (isSome (m .returns)) 1 0
+    → opOf 13 .takes (programTable ms) n 0 ≡ cond (isSome (m .returns)) 1 0
 unfolding opOf ops opRet
 return-takes ms n m is =
     ap (λ (t : ℕ). length (returned t)) (return-of ms n m is) ∙ value-returned (m .returns)
@@ -93,7 +93,7 @@ module _ (ms : Program) (limited : Limited ms) (outcomes : List ℕ) (w : Stand 
   m = w .method
 
   abbrev p : List ℕ
-  p = tableOf ms
+  p = programTable ms
 
   abbrev c : Counts
   c = counts-of ms outcomes s
@@ -148,7 +148,7 @@ module _ (ms : Program) (limited : Limited ms) (outcomes : List ℕ) (w : Stand 
   move-like forget h = by DROP forget (h .0) refl (λ l. forget-like ms outcomes w ts callers c (h .1))
   move-like (assignTo x) h =
       by (PUT (slotOf (w .scope) x)) (assignTo x) (h .0) refl (λ l. assign-like ms outcomes w ts callers c x (h .1))
-  move-like (endOf d) h = by (END d) (endOf d) (h .0) refl (λ l. end-of-like ms outcomes w ts callers c (h .1) d)
+  move-like (takeEnd d) h = by (END d) (takeEnd d) (h .0) refl (λ l. end-of-like ms outcomes w ts callers c (h .1) d)
   move-like (storeEnd d x) h =
       by (PUT (getD (map placedSlot (w .scope)) (endOfFound d (foundIn x (w .scope))) 16)) (storeEnd d x) (h .0) refl
       (λ l. store-end-like ms outcomes w ts callers c d x (h .1))

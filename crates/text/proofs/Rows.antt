@@ -14,7 +14,7 @@ use Rattle.lists.proofs.Any.{All-append, All-getD, All-implies}
 use Rattle.table.specs.Table.{methods, returnOf, paramsOf, slotType, isType}
 use Rattle.table.specs.Questions.{slotKept, rowKept}
 use Rattle.text.specs.Tree.{intType, booleanType, qbitType, NonVoidType, plain, channelType, endType, Declared, Method, Program, methodAt, isMain, bodyVariables, parameterOf, declaredBy}
-use Rattle.text.specs.Translation.{carriedCode, typeCode, returnCode, variablesOf, codeOfType, holeType, slotCodes, tableOf, allWithin}
+use Rattle.text.specs.Translation.{carriedCode, typeCode, returnCode, variablesOf, codeOfType, holeType, slotCodes, programTable, allWithin}
 use Rattle.text.proofs.Words.{methods-of, return-of, params-of, slot-type-of, method-there}
 use Rattle.text.proofs.Passing.{all-allBelow}
 use Rattle.text.proofs.Limited.{Limited, limited-keeps}
@@ -103,35 +103,35 @@ not-both false b h = tt
 
 -- each slot keeps its rule
 slot-kept : (ms : Program) (n : ℕ) (m : Method) → methodAt ms n ≡ some m → (s : ℕ) → s < 16
-    → T (slotKept (tableOf ms) n s)
+    → T (slotKept (programTable ms) n s)
 unfolding slotKept
 slot-kept ms n m e s l =
     let type = slot-type-of ms n m e s l in
     let params = params-of ms n m e in
-    yes-and (isType (slotType (tableOf ms) n s)) _ (subst (λ t. T (isType t)) (sym type) (slot-type m s))
-    (not-both (ltb s (paramsOf (tableOf ms) n)) (eqb (slotType (tableOf ms) n s) 0)
+    yes-and (isType (slotType (programTable ms) n s)) _ (subst (λ t. T (isType t)) (sym type) (slot-type m s))
+    (not-both (ltb s (paramsOf (programTable ms) n)) (eqb (slotType (programTable ms) n s) 0)
     (λ t. subst (λ t. T (not (eqb t 0))) (sym type)
     (parameter-type m s (subst (λ k. s < k) params (ltb-yes t)))))
 
 -- method 0 is main, with no parameter and no return type
 main-kept : (ms : Program) → Limited ms → (n : ℕ) (m : Method) → methodAt ms n ≡ some m
-    → T (not (eqb n 0) || (eqb (paramsOf (tableOf ms) n) 0 && eqb (returnOf (tableOf ms) n) 0))
+    → T (not (eqb n 0) || (eqb (paramsOf (programTable ms) n) 0 && eqb (returnOf (programTable ms) n) 0))
 unfolding returnCode
 main-kept ms l (suc n) m e = or-left (not (eqb (suc n) 0)) _ (no-eqb {a = suc n} {b = 0} (omega arith))
 main-kept ms l zero m e =
     let main = subst (λ m. T (isMain m)) (Option·some-injective (l .main) m (sym (l .first) ∙ e)) (l .is-main) in
     let (parameters, returns) = limited-keeps ms l 0 m e .header main in
-    let params = eqb (paramsOf (tableOf ms) 0) 0 in
-    let return = eqb (returnOf (tableOf ms) 0) 0 in
+    let params = eqb (paramsOf (programTable ms) 0) 0 in
+    let return = eqb (returnOf (programTable ms) 0) 0 in
     or-right (not (eqb 0 0)) (params && return)
     (yes-and params return (yes-eqb (params-of ms 0 m e ∙ parameters))
     (yes-eqb (return-of ms 0 m e ∙ ap returnCode returns)))
 
 -- each row keeps its rule
-pub row-kept : (ms : Program) → Limited ms → (n : ℕ) → n < methods (tableOf ms) → T (rowKept (tableOf ms) n)
+pub row-kept : (ms : Program) → Limited ms → (n : ℕ) → n < methods (programTable ms) → T (rowKept (programTable ms) n)
 unfolding rowKept
 row-kept ms l n h =
-    let p = tableOf ms in
+    let p = programTable ms in
     let (m, e) = method-there ms n (omega (arith, methods-of ms)) in
     let few = limited-keeps ms l n m e .parameters in
     yes-and (isType (returnOf p n)) _ (subst (λ t. T (isType t)) (sym (return-of ms n m e)) (return-code (m .returns)))

@@ -16,7 +16,7 @@ use Rattle.machine.specs.State.{Frame, gatedOne, gatedTwo, measured}
 use Rattle.machine.specs.Act.{Act, ActOf, goes, asInt, present, doInt, doBool, doGet, doDrop, doNewQ, doNewC, doEnd, doGateOne, doGateTwo, doGate, doMeas, doRet, doSend, doRecv, doAdd, doSub, doEq, doLess, doNothing, doings, doingOf, passedBy}
 use Rattle.simulation.specs.Simulation.{FramesLike, both-send, both-receive, both-stuck, both-fault, both-go, both-make, both-offer}
 use Rattle.text.specs.Tree.{Name, Operator, plus, minus, equals, lessThan, Program}
-use Rattle.text.specs.Meaning.{constant, lookUp, operate, measureIt, receiveIt, allocQubit, allocChannel, allocEnd, forget, endOf, gate, sendIt, returnIt, Term, TextFrame, valueOf, operating, measuring, allocating, opening, gating, sending, receiving, rule}
+use Rattle.text.specs.Meaning.{constant, lookUp, operate, measureIt, receiveIt, allocQubit, allocChannel, allocEnd, forget, takeEnd, gate, sendIt, returnIt, Term, TextFrame, valueOf, operating, measuring, allocating, opening, gating, sending, receiving, rule}
 use Rattle.text.specs.Translation.{Instruction, truthWord, operatorOp, slotOf}
 use Rattle.text.proofs.Follows.{ConstantOf, of-int, of-bool}
 use Rattle.text.proofs.Variables.{same-value}
@@ -78,7 +78,7 @@ module _ (ms : Program) (outcomes : List ℕ) (w : Stand ms) (ts : List Term)
   forget-like = both-go [] 0 (after-like (left 1))
 
   -- the ends of a channel
-  pub end-of-like : (d : Bool) → Does ms outcomes w ts callers c 9 (sideNo d) 1 (endOf d)
+  pub end-of-like : (d : Bool) → Does ms outcomes w ts callers c 9 (sideNo d) 1 (takeEnd d)
   unfolding doingOf doings doEnd passedBy rule
   end-of-like false =
       channel-like ms outcomes (taken 1 0) (λ i. both-go [] 0 (after-like (ref (end i false) ∷ left 1)))

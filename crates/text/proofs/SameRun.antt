@@ -13,7 +13,7 @@ use Rattle.simulation.proofs.Acts.{process-alike, count-alike}
 use Rattle.simulation.proofs.Simulation.{same-run}
 use Rattle.text.specs.Tree.{Program, mainFirst}
 use Rattle.text.specs.Meaning.{Term, move, leave, Variable, TextFrame, withVariables, firstMove, atTop, textAct, textMachine, meaning}
-use Rattle.text.specs.Translation.{tableOf}
+use Rattle.text.specs.Translation.{programTable}
 use Rattle.text.specs.Statement.{Translated, textTable}
 use Rattle.text.proofs.Limited.{Limited, Keeps, limited-keeps, translated-limited}
 use Rattle.text.proofs.Follows.{Follows}
@@ -33,7 +33,7 @@ module _ (ms : Program) (limited : Limited ms) (outcomes : List ℕ) where
       → FramesLike (Like ms) fs gs → (s : State) (s′ : StateOf TextFrame)
       → counts-of ms outcomes s ≡ counts-of ms outcomes s′
       → (ts : List Term) → Follows ms (w .method) ts (w .scope) (w .at)
-      → Acts ms outcomes (atFrame (tableOf ms) outcomes s (table-frame w) fs)
+      → Acts ms outcomes (atFrame (programTable ms) outcomes s (table-frame w) fs)
       (firstMove ms outcomes s′ ts (w .variables) (withVariables vs (text-frame w us)) gs)
   unfolding firstMove
   first-like w us vs callers s s′ counts [] follows = absurd follows
@@ -45,7 +45,7 @@ module _ (ms : Program) (limited : Limited ms) (outcomes : List ℕ) where
   -- the top frame's act
   frames-like : {fs : List Frame} {gs : List TextFrame} → FramesLike (Like ms) fs gs
       → (s : State) (s′ : StateOf TextFrame) → counts-of ms outcomes s ≡ counts-of ms outcomes s′
-      → Acts ms outcomes (atFrames (tableOf ms) outcomes s fs) (atTop ms outcomes s′ gs)
+      → Acts ms outcomes (atFrames (programTable ms) outcomes s fs) (atTop ms outcomes s′ gs)
   unfolding atFrames atTop
   frames-like no-more s s′ counts = both-stuck
   frames-like (one-more (like w ts follows) callers) s s′ counts =
@@ -54,7 +54,7 @@ module _ (ms : Program) (limited : Limited ms) (outcomes : List ℕ) where
   -- a process acts by its status
   status-like : (t : Status) {fs : List Frame} {gs : List TextFrame} → FramesLike (Like ms) fs gs
       → (s : State) (s′ : StateOf TextFrame) → counts-of ms outcomes s ≡ counts-of ms outcomes s′
-      → Acts ms outcomes (byStatus t (atFrames (tableOf ms) outcomes s fs)) (byStatus t (atTop ms outcomes s′ gs))
+      → Acts ms outcomes (byStatus t (atFrames (programTable ms) outcomes s fs)) (byStatus t (atTop ms outcomes s′ gs))
   unfolding byStatus
   status-like running h s s′ counts = frames-like h s s′ counts
   status-like finished h s s′ counts = both-idle
@@ -75,20 +75,20 @@ module _ (ms : Program) (limited : Limited ms) (outcomes : List ℕ) where
 
   -- in states alike every process would do alike
   acts-like : (s : State) (s′ : StateOf TextFrame) (n : ℕ) → StateLike (Like ms) s s′
-      → Acts ms outcomes (actOf (tableOf ms) outcomes s n) (textAct ms outcomes s′ n)
+      → Acts ms outcomes (actOf (programTable ms) outcomes s n) (textAct ms outcomes s′ n)
   unfolding actOf textAct
   acts-like s s′ n alike =
       let process = process-alike (alike .config) n in
       subst
       (λ (t : Status). Acts ms outcomes
       (byStatus (processAt (s .config) n .status)
-      (atFrames (tableOf ms) outcomes s (processAt (s .config) n .frames)))
+      (atFrames (programTable ms) outcomes s (processAt (s .config) n .frames)))
       (byStatus t (atTop ms outcomes s′ (processAt (s′ .config) n .frames))))
       (process .status)
       (status-like (processAt (s .config) n .status) (process .frames) s s′ (counts-alike s s′ alike))
 
   -- the table's machine and the text's run alike
-  pub simulates : Simulates (tableMachine (tableOf ms) outcomes) (textMachine ms outcomes) (Like ms)
+  pub simulates : Simulates (tableMachine (programTable ms) outcomes) (textMachine ms outcomes) (Like ms)
   simulates = record {
     acts = acts-like;
     loses = λ ts h. all-without-like ms ts h;

@@ -17,7 +17,7 @@ use Rattle.machine.specs.Act.{ActOf, Act, At, stuck, faults, doingOf, passedBy,
 use Rattle.simulation.specs.Simulation.{FramesLike, both-stuck, both-fault}
 use Rattle.text.specs.Tree.{Program}
 use Rattle.text.specs.Meaning.{Move, Term, TextFrame, Scene, isSome, rule, takenBy, withValues, sceneIn, moving}
-use Rattle.text.specs.Translation.{Instruction, methodCode, tableOf}
+use Rattle.text.specs.Translation.{Instruction, methodCode, programTable}
 use Rattle.text.proofs.Elements.{nth}
 use Rattle.text.proofs.Words.{in-table}
 use Rattle.text.proofs.Like.{Stand, table-frame, text-frame, Like}
@@ -43,7 +43,7 @@ module _ (ms : Program) (outcomes : List ℕ) where
   -- an instruction with this argument, which takes k values
   abbrev pub scene-at : Counts → Frame → List Frame → ℕ → ℕ → At
   scene-at c f fs k a = record {
-    program = tableOf ms;
+    program = programTable ms;
     outcomes = c .outcomes;
     qubits = c .qubits;
     channels = c .channels;
@@ -75,14 +75,14 @@ module _ (ms : Program) (outcomes : List ℕ) where
       stuck
 
   -- this is what it does at its place
-  instructed : (s : State) (f : Frame) (fs : List Frame) (k op a : ℕ) → takenAt (tableOf ms) (f .place) ≡ k
-      → opAt (tableOf ms) (f .place) ≡ op → argAt (tableOf ms) (f .place) ≡ a
-      → atFrame (tableOf ms) outcomes s f fs ≡ by-instruction (counts-of s) f fs k op a
+  instructed : (s : State) (f : Frame) (fs : List Frame) (k op a : ℕ) → takenAt (programTable ms) (f .place) ≡ k
+      → opAt (programTable ms) (f .place) ≡ op → argAt (programTable ms) (f .place) ≡ a
+      → atFrame (programTable ms) outcomes s f fs ≡ by-instruction (counts-of s) f fs k op a
   unfolding atFrame sceneOf by-instruction
   instructed s f fs k op a taken is-op is-argument =
       let by : ℕ → ℕ → ℕ → Act = by-instruction (counts-of s) f fs in
-      ap (λ (j : ℕ). by j (opAt (tableOf ms) (f .place)) (argAt (tableOf ms) (f .place))) taken
-      ∙ ap (λ (j : ℕ). by k j (argAt (tableOf ms) (f .place))) is-op
+      ap (λ (j : ℕ). by j (opAt (programTable ms) (f .place)) (argAt (programTable ms) (f .place))) taken
+      ∙ ap (λ (j : ℕ). by k j (argAt (programTable ms) (f .place))) is-op
       ∙ ap (λ (j : ℕ). by k op j) is-argument
 
   -- what the text's frame does by a move
@@ -116,13 +116,13 @@ module _ (ms : Program) (outcomes : List ℕ) (w : Stand ms) (ts : List Term)
   -- what the rule does.
   pub act-like : (s : State) (s′ : StateOf TextFrame) → counts-of ms outcomes s ≡ counts-of ms outcomes s′
       → (x : Instruction) (v : Move) → nth (methodCode ms (w .method)) (w .at) ≡ some x
-      → opOf (x .op) .takes (tableOf ms) (w .number) (x .argument) ≡ taken-by v
+      → opOf (x .op) .takes (programTable ms) (w .number) (x .argument) ≡ taken-by v
       → (taken-by v ≤ length (w .values) → Does (counts-of ms outcomes s) (x .op) (x .argument) (taken-by v) v)
-      → Acts ms outcomes (atFrame (tableOf ms) outcomes s (table-frame w) fs)
+      → Acts ms outcomes (atFrame (programTable ms) outcomes s (table-frame w) fs)
       (moving ms outcomes s′ v (text-frame w ts) gs)
   unfolding by-instruction by-move takenAt
   act-like s s′ counts x v stands takes rule-like =
-      let p : List ℕ = tableOf ms in
+      let p : List ℕ = programTable ms in
       let n : ℕ = w .number in
       let place : ℕ = w .place in
       let f : Frame = table-frame w in

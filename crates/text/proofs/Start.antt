@@ -16,7 +16,7 @@ use Rattle.machine.specs.Value.{Value, empty}
 use Rattle.machine.specs.State.{started}
 use Rattle.text.specs.Tree.{Name, Parameter, Method, Program, Declared, parameterOf, declaredBy, bodyVariables, methodAt}
 use Rattle.text.specs.Meaning.{Variable, methodDone, move, allPerformed, fresh, entered, bodyOf, startedIn}
-use Rattle.text.specs.Translation.{Instruction, Scope, placed, opened, allWithin, variablesOf, holeOf, closing, bodyCode, methodCode, holeType, slotCodes, codeOfType, tableOf}
+use Rattle.text.specs.Translation.{Instruction, Scope, placed, opened, allWithin, variablesOf, holeOf, closing, bodyCode, methodCode, holeType, slotCodes, codeOfType, programTable}
 use Rattle.text.specs.Names.{extended, namesOf, twiceFaults, statementsFaults, methodFaults}
 use Rattle.text.proofs.Elements.{nth, nth-back, getD-filled}
 use Rattle.text.proofs.Order.{all-method}
@@ -217,10 +217,10 @@ module _ (ms : Program) (limited : Limited ms) (n : ℕ) (m : Method) (is : meth
 
   -- The frames in which a method starts are alike.
   pub started-like : (args : List Value) → length args ≡ length (m .parameters)
-      → Like ms (started (tableOf ms) n args) (startedIn ms n args)
+      → Like ms (started (programTable ms) n args) (startedIn ms n args)
   unfolding started startedIn bodyOf
   started-like args count =
-      subst (λ (d : Option Method). Like ms (started (tableOf ms) n args) (bodyOf ms args d)) (sym is)
+      subst (λ (d : Option Method). Like ms (started (programTable ms) n args) (bodyOf ms args d)) (sym is)
       (like body (allPerformed ms (m .statements) (move methodDone ∷ [])) body-follows)
     where
       body : Stand ms
@@ -229,7 +229,7 @@ module _ (ms : Program) (limited : Limited ms) (n : ℕ) (m : Method) (is : meth
         method = m;
         is-method = is;
         at = 0;
-        place = offsetOf (tableOf ms) n;
+        place = offsetOf (programTable ms) n;
         here = omega arith;
         scope = opened (bodyVariables m) 0 [];
         slots = take 16 (args ++ replicate 16 empty);

@@ -13,7 +13,7 @@ use borrow.Author.Tests.{le-leb, lt-leb}
 use Rattle.lists.proofs.First.{IsFirst, firstFalse-first, first-unique}
 use Rattle.table.specs.Table.{word, methods, instructions, offsetOf, lengthOf, endOf, row, returnOf, paramsOf, slotType, opAt, argAt, ownerOf}
 use Rattle.text.specs.Tree.{Method, Program, methodAt}
-use Rattle.text.specs.Translation.{Instruction, returnCode, methodCode, pairWords, slotCodes, rowWords, rowsWords, programCode, codeWords, tableOf}
+use Rattle.text.specs.Translation.{Instruction, returnCode, methodCode, pairWords, slotCodes, rowWords, rowsWords, programCode, codeWords, programTable}
 use Rattle.text.proofs.Elements.{nth, nth-within, nth-there, nth-front, nth-back, getD-filled}
 
 -- a method's number is its index
@@ -128,91 +128,91 @@ program-nth ms (k ∷ rest) (suc n) m e at x q =
 
 module _ (ms : Program) where
   -- the number of methods
-  pub methods-of : methods (tableOf ms) ≡ length ms
-  unfolding methods word tableOf
+  pub methods-of : methods (programTable ms) ≡ length ms
+  unfolding methods word programTable
   methods-of = refl
 
   -- the number of instructions
-  pub instructions-of : instructions (tableOf ms) ≡ length (programCode ms ms)
-  unfolding instructions word tableOf
+  pub instructions-of : instructions (programTable ms) ≡ length (programCode ms ms)
+  unfolding instructions word programTable
   instructions-of = refl
 
   -- a word of each part: of the pairs
-  pair-word : (i : ℕ) → i < 2 * length ms → getD (tableOf ms) (2 + i) 0 ≡ getD (pairWords ms 0 ms) i 0
-  unfolding tableOf
+  pair-word : (i : ℕ) → i < 2 * length ms → getD (programTable ms) (2 + i) 0 ≡ getD (pairWords ms 0 ms) i 0
+  unfolding programTable
   pair-word i l =
-      ap (λ j. getD (tableOf ms) j 0) {x = 2 + i} {y = suc (suc i)} (omega arith)
+      ap (λ j. getD (programTable ms) j 0) {x = 2 + i} {y = suc (suc i)} (omega arith)
       ∙ List·getD-append (pairWords ms 0 ms) (rowsWords ms ++ codeWords (programCode ms ms)) 0 i
       (omega (arith, pairWords-length ms 0 ms))
 
   -- what is after the pairs
   after-pairs : (i : ℕ)
-      → getD (tableOf ms) (2 + 2 * length ms + i) 0 ≡ getD (rowsWords ms ++ codeWords (programCode ms ms)) i 0
-  unfolding tableOf
+      → getD (programTable ms) (2 + 2 * length ms + i) 0 ≡ getD (rowsWords ms ++ codeWords (programCode ms ms)) i 0
+  unfolding programTable
   after-pairs i =
-      ap (λ j. getD (tableOf ms) j 0) {x = 2 + 2 * length ms + i} {y = suc (suc (length (pairWords ms 0 ms) + i))}
+      ap (λ j. getD (programTable ms) j 0) {x = 2 + 2 * length ms + i} {y = suc (suc (length (pairWords ms 0 ms) + i))}
       (omega (arith, pairWords-length ms 0 ms))
       ∙ getD-append-add (pairWords ms 0 ms) (rowsWords ms ++ codeWords (programCode ms ms)) i 0
 
   -- of the rows
-  row-word : (i : ℕ) → i < 18 * length ms → getD (tableOf ms) (2 + 2 * length ms + i) 0 ≡ getD (rowsWords ms) i 0
+  row-word : (i : ℕ) → i < 18 * length ms → getD (programTable ms) (2 + 2 * length ms + i) 0 ≡ getD (rowsWords ms) i 0
   row-word i l =
       after-pairs i
       ∙ List·getD-append (rowsWords ms) (codeWords (programCode ms ms)) 0 i (omega (arith, rowsWords-length ms))
 
   -- of the instructions
-  code-word : (i : ℕ) → getD (tableOf ms) (2 + 20 * length ms + i) 0 ≡ getD (codeWords (programCode ms ms)) i 0
+  code-word : (i : ℕ) → getD (programTable ms) (2 + 20 * length ms + i) 0 ≡ getD (codeWords (programCode ms ms)) i 0
   code-word i =
-      ap (λ j. getD (tableOf ms) j 0) {x = 2 + 20 * length ms + i}
+      ap (λ j. getD (programTable ms) j 0) {x = 2 + 20 * length ms + i}
       {y = 2 + 2 * length ms + (length (rowsWords ms) + i)} (omega (arith, rowsWords-length ms))
       ∙ after-pairs (length (rowsWords ms) + i)
       ∙ getD-append-add (rowsWords ms) (codeWords (programCode ms ms)) i 0
 
 module _ (ms : Program) (n : ℕ) (m : Method) (e : methodAt ms n ≡ some m) where
   -- where its code lies
-  pub offset-of : offsetOf (tableOf ms) n ≡ codeBefore ms ms n
+  pub offset-of : offsetOf (programTable ms) n ≡ codeBefore ms ms n
   unfolding offsetOf word
   offset-of =
       pair-word ms (2 * n) (omega (arith, method-within ms n m e)) ∙ pair-at ms 0 ms n m e .0 ∙ omega arith
 
   -- how many instructions it has
-  pub length-of : lengthOf (tableOf ms) n ≡ length (methodCode ms m)
+  pub length-of : lengthOf (programTable ms) n ≡ length (methodCode ms m)
   unfolding lengthOf word
   length-of =
-      ap (λ j. getD (tableOf ms) j 0) {x = 3 + 2 * n} {y = 2 + (1 + 2 * n)} (omega arith)
+      ap (λ j. getD (programTable ms) j 0) {x = 3 + 2 * n} {y = 2 + (1 + 2 * n)} (omega arith)
       ∙ pair-word ms (1 + 2 * n) (omega (arith, method-within ms n m e))
       ∙ pair-at ms 0 ms n m e .1
 
   -- word i of the method's row
-  row-of : (i : ℕ) → i < 18 → getD (tableOf ms) (row (tableOf ms) n + i) 0 ≡ getD (rowWords m) i 0
+  row-of : (i : ℕ) → i < 18 → getD (programTable ms) (row (programTable ms) n + i) 0 ≡ getD (rowWords m) i 0
   unfolding row
   row-of i l =
-      ap (λ j. getD (tableOf ms) j 0) {y = 2 + 2 * length ms + (18 * n + i)} (omega (arith, methods-of ms))
+      ap (λ j. getD (programTable ms) j 0) {y = 2 + 2 * length ms + (18 * n + i)} (omega (arith, methods-of ms))
       ∙ row-word ms (18 * n + i) (omega (arith, method-within ms n m e))
       ∙ row-at ms n m e i l
 
   -- its return type
-  pub return-of : returnOf (tableOf ms) n ≡ returnCode (m .returns)
+  pub return-of : returnOf (programTable ms) n ≡ returnCode (m .returns)
   unfolding returnOf word rowWords
-  return-of = ap (λ j. getD (tableOf ms) j 0) {y = row (tableOf ms) n + 0} (omega arith) ∙ row-of 0 (omega arith)
+  return-of = ap (λ j. getD (programTable ms) j 0) {y = row (programTable ms) n + 0} (omega arith) ∙ row-of 0 (omega arith)
 
   -- its number of parameters
-  pub params-of : paramsOf (tableOf ms) n ≡ length (m .parameters)
+  pub params-of : paramsOf (programTable ms) n ≡ length (m .parameters)
   unfolding paramsOf word rowWords
   params-of = row-of 1 (omega arith)
 
   -- the type of a slot
-  pub slot-type-of : (s : ℕ) → s < 16 → slotType (tableOf ms) n s ≡ getD (slotCodes m) s 0
+  pub slot-type-of : (s : ℕ) → s < 16 → slotType (programTable ms) n s ≡ getD (slotCodes m) s 0
   unfolding slotType word rowWords
   slot-type-of s l =
-      ap (λ j. getD (tableOf ms) j 0) {y = row (tableOf ms) n + suc (suc s)} (omega arith)
+      ap (λ j. getD (programTable ms) j 0) {y = row (programTable ms) n + suc (suc s)} (omega arith)
       ∙ row-of (suc (suc s)) (omega arith)
       ∙ getD-take 16 (slotCodes m ++ replicate 16 0) s 0 l
       ∙ getD-filled (slotCodes m) 16 s 0
 
 -- where the method ends
 pub end-of : (ms : Program) (n : ℕ) (m : Method) → methodAt ms n ≡ some m
-    → endOf (tableOf ms) n ≡ codeBefore ms ms n + length (methodCode ms m)
+    → endOf (programTable ms) n ≡ codeBefore ms ms n + length (methodCode ms m)
 unfolding endOf
 end-of ms n m e = omega (arith, offset-of ms n m e, length-of ms n m e)
 
@@ -229,12 +229,12 @@ codeBefore-later ms (m ∷ rest) (suc j) k e (suc n) l w =
 
 -- the instructions of a method are its own
 pub owner-of : (ms : Program) (n : ℕ) (m : Method) → methodAt ms n ≡ some m
-    → (at : ℕ) → at < length (methodCode ms m) → ownerOf (tableOf ms) (offsetOf (tableOf ms) n + at) ≡ n
+    → (at : ℕ) → at < length (methodCode ms m) → ownerOf (programTable ms) (offsetOf (programTable ms) n + at) ≡ n
 unfolding ownerOf
 owner-of ms n m e at l = first-unique (firstFalse-first ends (methods p)) only
   where
     p : List ℕ
-    p = tableOf ms
+    p = programTable ms
 
     ends : ℕ → Bool
     ends = λ j. leb (endOf p j) (offsetOf p n + at)
@@ -255,12 +255,12 @@ owner-of ms n m e at l = first-unique (firstFalse-first ends (methods p)) only
 -- An instruction of a method stands in the table where the method's offset says, and belongs to the method.
 pub in-table : (ms : Program) (n : ℕ) (m : Method) → methodAt ms n ≡ some m
     → (at : ℕ) (x : Instruction) → nth (methodCode ms m) at ≡ some x
-    → (opAt (tableOf ms) (offsetOf (tableOf ms) n + at) ≡ x .op)
-    × ((argAt (tableOf ms) (offsetOf (tableOf ms) n + at) ≡ x .argument)
-    × (ownerOf (tableOf ms) (offsetOf (tableOf ms) n + at) ≡ n))
+    → (opAt (programTable ms) (offsetOf (programTable ms) n + at) ≡ x .op)
+    × ((argAt (programTable ms) (offsetOf (programTable ms) n + at) ≡ x .argument)
+    × (ownerOf (programTable ms) (offsetOf (programTable ms) n + at) ≡ n))
 unfolding opAt argAt word
 in-table ms n m e at x q =
-    let p = tableOf ms in
+    let p = programTable ms in
     let i = codeBefore ms ms n + at in
     let (op, argument) = code-at (programCode ms ms) i x (program-nth ms ms n m e at x q) in (
       ap (λ j. getD p j 0) {y = 2 + 20 * length ms + 2 * i} (omega (arith, methods-of ms, offset-of ms n m e))

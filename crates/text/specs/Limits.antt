@@ -15,7 +15,7 @@ use Rattle.table.specs.Reading.{reads}
 use Rattle.table.specs.Questions.{instructionKept}
 use Rattle.text.specs.Tree.{Name, Expr, Exprs, number, truth, variable, assignment, operation, methodCall, measurement, reception, newQubit, newChannel, newEnd, noMore, also, Statement, Statements, skip, assign, invoke, measure, receive, fork, send, give, block, conditional, alternative, loop, done, next, Method, Program, isMain, numberOf, mainFirst}
 use Rattle.text.specs.Meaning.{isSome}
-use Rattle.text.specs.Translation.{methodCode, slotCodes, tableOf}
+use Rattle.text.specs.Translation.{methodCode, slotCodes, programTable}
 
 -- the numbers in an expression, and in a statement
 unfoldable mutual
@@ -75,7 +75,7 @@ methodKept ms m =
     && (leb (length (slotCodes m)) 16
     && (headerKept m
     && (every isNumber (allNumbersIn (m .statements))
-    && codeKept (tableOf ms) (numberOf ms (m .name)))))
+    && codeKept (programTable ms) (numberOf ms (m .name)))))
 
 -- The first method, in text order, with which a limit is passed: so many methods and instructions stand before. "it is
 -- the 33rd; the instructions up to and with it, in text order, pass 4,096"

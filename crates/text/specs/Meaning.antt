@@ -45,7 +45,7 @@ pub data Move : Type 0 where
   forget : Move
   -- x = •; (OP-ASSIGNVALUE), then for a channel with ends the parts of which it is made: the end of •, and its variable
   assignTo : Name → Move
-  endOf : Bool → Move
+  takeEnd : Bool → Move
   storeEnd : Bool → Name → Move
   -- a gate of this number on • or on •, • (OP-DOMETHODCALLQ)
   gate : ℕ → Move
@@ -246,8 +246,8 @@ binds a i = onward a (pushed (operand a 0) (withVariables (boundAt i (operand a 
 unfoldable pub assignedEnds : Bool → Name → List Term → List Term
 assignedEnds false x k = move forget ∷ k
 assignedEnds true x k =
-    move (endOf false) ∷ move (storeEnd false x) ∷ move forget
-    ∷ move (lookUp x) ∷ move (endOf true) ∷ move (storeEnd true x) ∷ move forget ∷ k
+    move (takeEnd false) ∷ move (storeEnd false x) ∷ move forget
+    ∷ move (lookUp x) ∷ move (takeEnd true) ∷ move (storeEnd true x) ∷ move forget ∷ k
 
 unfoldable pub assigning : Scene → Name → TextAct
 assigning a x =
@@ -334,7 +334,7 @@ rule allocChannel a = opening a
 rule allocEnd a = stuck
 rule forget a = onward a (a .frame)
 rule (assignTo x) a = assigning a x
-rule (endOf d) a = asChannel (operand a 0) (λ n. pushes a (ref (end n d)))
+rule (takeEnd d) a = asChannel (operand a 0) (λ n. pushes a (ref (end n d)))
 rule (storeEnd d x) a = binds a (endOfFound d (found x (a .frame .variables)))
 rule (gate g) a = gating a g
 rule (forkIt x n) a = forking a x
@@ -368,7 +368,7 @@ takenBy gives allocChannel = 0
 takenBy gives allocEnd = 0
 takenBy gives forget = 1
 takenBy gives (assignTo x) = 1
-takenBy gives (endOf d) = 1
+takenBy gives (takeEnd d) = 1
 takenBy gives (storeEnd d x) = 1
 takenBy gives (gate g) = gateQubits g
 takenBy gives (forkIt x n) = n

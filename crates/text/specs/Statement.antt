@@ -5,7 +5,7 @@ use mathlib.Core.Path.{_≡_}
 use mathlib.Core.List.{List}
 use mathlib.Core.Option.{none}
 use Rattle.text.specs.Tree.{Program, mainFirst}
-use Rattle.text.specs.Translation.{tableOf}
+use Rattle.text.specs.Translation.{programTable}
 use Rattle.text.specs.Names.{nameRefusal}
 use Rattle.text.specs.Limits.{limitRefusal}
 
@@ -16,4 +16,4 @@ pub record Translated (bytes : ℕ) (ms : Program) : Type 0 where
 
 -- the table that is given out
 unfoldable pub textTable : Program → List ℕ
-textTable ms = tableOf (mainFirst ms)
+textTable ms = programTable (mainFirst ms)

@@ -292,7 +292,7 @@ unfoldable pub codeWords : List Instruction → List ℕ
 codeWords [] = []
 codeWords (i ∷ is) = i .op ∷ i .argument ∷ codeWords is
 
-unfoldable pub tableOf : Program → List ℕ
-tableOf ms =
+unfoldable pub programTable : Program → List ℕ
+programTable ms =
     length ms ∷ length (programCode ms ms)
     ∷ pairWords ms 0 ms ++ (rowsWords ms ++ codeWords (programCode ms ms))

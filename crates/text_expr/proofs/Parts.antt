@@ -5,7 +5,7 @@ use mathlib.Core.Path.{_≡_, refl, sym, ap, _∙_, subst}
 use mathlib.Core.List.{List, [], _∷_}
 use Rattle.text.specs.Tree.{Name, Carried, intType, booleanType, qbitType, Expr, newQubit, newChannel, newEnd}
 use Rattle.text_parse.specs.Tokens.{Token, is, isName, nameOf}
-use Rattle.text_parse.specs.Grammar.{Reading, read, leaves, andThen, first, rest, leavesAt, next?, expect, expectName, carried, bracketed, Scopes, allocated, allocation, measured}
+use Rattle.text_parse.specs.Grammar.{Reading, read, leaves, andThen, first, rest, leavesAt, next?, expect, expectName, carried, bracketed, Scopes, allocated, allocation, measuredName}
 use Rattle.text_expr.specs.PhasesCode.{Open, Phase, whole, bare, measure₁, measure₂, measure₃, measure₄, measure₅, new₁, new₂, new₃, new₄, new₅, new₆, Step, on, off, must, newStep, step, follow, pass}
 use Rattle.text_expr.proofs.Steps.{must-stand, must-name, expect-then, expectName-then, expect-same, andThen-assoc}
 
@@ -42,8 +42,8 @@ module _ (scopes : Scopes) (k : List Open) where
       (λ x vs. pass scopes vs whole k))
 
   pub measure-pass : (us : List Token)
-      → pass scopes us measure₁ k ≡ andThen (measured us) (λ x vs. pass scopes vs whole k)
-  unfolding step measured
+      → pass scopes us measure₁ k ≡ andThen (measuredName us) (λ x vs. pass scopes vs whole k)
+  unfolding step measuredName
   measure-pass us =
       let last : List Token → Reading Name =
       λ ws. expectName ws (λ q xs. expect ")" xs (λ ys. read q ys)) in

@@ -9,8 +9,8 @@ use mathlib.Core.Option.{Option, none, some}
 use lib.ListN.{length}
 use Rattle.lists.proofs.Tests.{passes}
 use Rattle.text.specs.Tree.{Name, Operator, Expr, Exprs, operation, number, truth, variable, assignment, methodCall, measurement, reception, noMore, also}
-use Rattle.text_parse.specs.Tokens.{Token, is, isName, isNumeral, nameOf, numberOf}
-use Rattle.text_parse.specs.Grammar.{Reading, read, leaves, andThen, first, rest, leavesAt, next?, expect, expectName, Scopes, isWithends, operatorAt, allocation, measured, expr, indivExpr, methodParams, enough}
+use Rattle.text_parse.specs.Tokens.{Token, is, isName, isNumeral, nameOf, numeralOf}
+use Rattle.text_parse.specs.Grammar.{Reading, read, leaves, andThen, first, rest, leavesAt, next?, expect, expectName, Scopes, isWithends, operatorAt, allocation, measuredName, expr, indivExpr, methodParams, enough}
 use Rattle.text_parse.specs.Left.{Leaving, leaving, not-read, Onward}
 use Rattle.text_parse.specs.Equations.{exprFrom, indivExprFrom, methodParamsFrom, operandsRule, exprRule, argumentsRule, namedRule, receptionRule, indivExprRule, methodParamsRule}
 use Rattle.text_parse.proofs.Progress.{progress}
@@ -193,12 +193,12 @@ module _ (scopes : Scopes) where
           (cond g (on measure₁ k)
           (cond h (on (named (nameOf t)) k) (off (t .at)))))))))
           ≡ andThen
-          (cond a (read (number (numberOf t)) ts)
+          (cond a (read (number (numeralOf t)) ts)
           (cond b (read (truth true) ts)
           (cond c (read (truth false) ts)
           (cond d (andThen (exprFrom scopes ts) (λ x us. expect ")" us (λ vs. read x vs)))
           (cond f (receptionRule scopes ts)
-          (cond g (andThen (measured ts) (λ q us. read (measurement q) us))
+          (cond g (andThen (measuredName ts) (λ q us. read (measurement q) us))
           (cond h (namedRule scopes (nameOf t) ts) (leaves (t .at)))))))))
           (λ x us. pass scopes us whole k)
       individual true b c d f g h = refl
@@ -208,7 +208,7 @@ module _ (scopes : Scopes) where
       individual false false false false true g h = recv-pass ts twice k
       individual false false false false false true h =
           measure-pass scopes k ts
-          ∙ sym (andThen-assoc (measured ts) (λ q us. read (measurement q) us) (λ x us. pass scopes us whole k))
+          ∙ sym (andThen-assoc (measuredName ts) (λ q us. read (measurement q) us) (λ x us. pass scopes us whole k))
       individual false false false false false false true = named-pass (nameOf t) ts twice params k
       individual false false false false false false false = refl
 

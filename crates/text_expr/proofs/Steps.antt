@@ -11,7 +11,7 @@ use Rattle.lists.proofs.Tests.{passes, passed}
 use Rattle.lists.proofs.Laws.{same-equal}
 use Rattle.text.specs.Tree.{ascii, Name, Carried, Operator, plus, minus, equals, lessThan, Expr}
 use Rattle.text_parse.specs.Tokens.{Token, is, isName, nameOf}
-use Rattle.text_parse.specs.Grammar.{Reading, read, leaves, andThen, first, rest, leavesAt, next?, expect, expectName, carried, bracketed, Scopes, operatorAt, allocated, allocation, measured}
+use Rattle.text_parse.specs.Grammar.{Reading, read, leaves, andThen, first, rest, leavesAt, next?, expect, expectName, carried, bracketed, Scopes, operatorAt, allocated, allocation, measuredName}
 use Rattle.text_expr.specs.PhasesCode.{Open, assigning, inBrackets, inCall, Phase, operand, whole, bare, called, recv₁, measure₁, measure₂, measure₃, measure₄, measure₅, new₁, new₂, new₃, new₄, new₅, new₆, Step, on, off, closed, isOperator, ended, afterNew, wholeStep, bareStep, must, newStep, step, follow, pass}
 
 -- Tests of one token

@@ -4,7 +4,7 @@ use native.Mathlib.Omega.{arith}
 use mathlib.Core.Path.{_≡_, refl, sym, _∙_}
 use mathlib.Core.List.{List}
 use Rattle.text_parse.specs.Tokens.{Token}
-use Rattle.text_parse.specs.Grammar.{Reading, operatorAt, expr, operands, indivExpr, named, arguments, methodParams, moreNames, declaration, declarations, simple, condition, statement, body, unbraced, blockOf, statements, moreParameters, parameters, methodBody, method, methods}
+use Rattle.text_parse.specs.Grammar.{Reading, operatorAt, expr, operands, indivExpr, named, arguments, methodParams, moreNames, declaration, declarations, simple, condition, statement, body, unbraced, blockOf, statements, moreParameters, parameters, methodBody, method, program}
 use Rattle.text_parse.specs.Enough.{IsEnough, Agree, Enough}
 use Rattle.text_parse.proofs.EnoughExpr.{Room, enough-room, expr-rule, operands-rule, indivExpr-rule, named-rule, arguments-rule, methodParams-rule}
 use Rattle.text_parse.proofs.EnoughDeclarations.{moreNames-rule, declaration-rule, declarations-rule, simple-rule, condition-rule}
@@ -45,7 +45,7 @@ module _ (ts : List Token) (n m : ℕ) (i : IsEnough ts n) (j : IsEnough ts m) w
     methodBody-same =
         λ t x ps. both 0 (λ k. methodBody k t x ps ts) (omega arith) (λ k r. methodBody-rule k t x ps ts r);
     method-same = both 0 (λ k. method k ts) (omega arith) (λ k r. method-rule k ts r);
-    methods-same = both 1 (λ k. methods k ts) (omega arith) (program-rule n ts (omega arith));
+    methods-same = both 1 (λ k. program k ts) (omega arith) (program-rule n ts (omega arith));
   }
 
 pub enough-read : Enough

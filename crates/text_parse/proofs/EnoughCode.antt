@@ -6,7 +6,7 @@ use mathlib.Core.List.{List, [], _∷_, _++_, map}
 use mathlib.Core.Option.{Option}
 use Rattle.text.specs.Tree.{Name, NonVoidType, Statement, Statements, Parameter, declaredBy, parameterOf}
 use Rattle.text_parse.specs.Tokens.{Token}
-use Rattle.text_parse.specs.Grammar.{Reading, andThen, rest, next?, Scopes, statement, body, unbraced, blockOf, statements, moreParameters, parameters, methodBody, method, isEnd, methods, enough, programOf}
+use Rattle.text_parse.specs.Grammar.{Reading, andThen, rest, next?, Scopes, statement, body, unbraced, blockOf, statements, moreParameters, parameters, methodBody, method, atTextEnd, program, enough, programOf}
 use Rattle.text_parse.specs.Left.{Onward}
 use Rattle.text_parse.specs.Equations.{statementFrom, bodyFrom, blockFrom, statementsFrom, unbracedRule, statementRule, bodyRule, blockRule, statementsRule, moreParametersFrom, methodFrom, moreParametersRule, parametersRule, methodBodyRule, methodRule, programRule}
 use Rattle.text_parse.proofs.Same.{cond-same, andThen-same, deeper-same, next-same, expect-same, expectName-same}
@@ -173,20 +173,20 @@ unfolding methodFrom
 method-from n ts m = method-rule n ts m ∙ sym (method-rule (enough ts) ts (omega (arith, enough-room ts)))
 
 program-settled : (n : ℕ) (ts : List Token) → Room 1 ts n
-    → ((k : ℕ) → Room 1 ts k → methods k ts ≡ programRule ts) → methods n ts ≡ programOf ts
+    → ((k : ℕ) → Room 1 ts k → program k ts ≡ programRule ts) → program n ts ≡ programOf ts
 unfolding programOf
 program-settled n ts m rule = rule n m ∙ sym (rule (enough ts) (omega (arith, enough-room ts)))
 
-pub program-rule : (b : ℕ) (ts : List Token) → Room 1 ts b → (n : ℕ) → Room 1 ts n → methods n ts ≡ programRule ts
-unfolding methods programRule
+pub program-rule : (b : ℕ) (ts : List Token) → Room 1 ts b → (n : ℕ) → Room 1 ts n → program n ts ≡ programRule ts
+unfolding program programRule
 program-rule zero ts l n m = absurd (omega arith)
 program-rule (suc b) ts l zero m = absurd (omega arith)
 program-rule (suc b) ts l (suc n) m =
     andThen-same (method-from n ts (omega arith)) (progress .method-on n ts) (λ x us o.
-    cond-same (isEnd us) (λ e. refl)
+    cond-same (atTextEnd us) (λ e. refl)
     (λ e. andThen-same
     (program-settled n us (omega arith) (λ k r. program-rule b us (omega arith) k r))
     (progress .methods-on n us) (λ ms vs p. refl)))
 
-pub program-from : (n : ℕ) (ts : List Token) → Room 1 ts n → methods n ts ≡ programOf ts
+pub program-from : (n : ℕ) (ts : List Token) → Room 1 ts n → program n ts ≡ programOf ts
 program-from n ts m = program-settled n ts m (program-rule n ts m)

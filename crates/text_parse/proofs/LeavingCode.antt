@@ -6,7 +6,7 @@ use mathlib.Core.Option.{Option}
 use Rattle.lists.proofs.Tests.{cond-both}
 use Rattle.text.specs.Tree.{Name, NonVoidType, declaredBy, Parameter, parameterOf}
 use Rattle.text_parse.specs.Tokens.{Token}
-use Rattle.text_parse.specs.Grammar.{rest, next?, Scopes, namedStatement, forkStatement, sendStatement, recvStatement, simple, condition, statement, body, unbraced, blockOf, statements, parameter, moreParameters, parameters, methodBody, method, isEnd, methods}
+use Rattle.text_parse.specs.Grammar.{rest, next?, Scopes, namedStatement, forkStatement, sendStatement, recvStatement, simple, condition, statement, body, unbraced, blockOf, statements, parameter, moreParameters, parameters, methodBody, method, atTextEnd, program}
 use Rattle.text_parse.specs.Left.{Leaving, leaving}
 use Rattle.text_parse.proofs.Leaving.{andThen-leaving, leavesAt-leaving, deeper-leaving, Reads, next-leaving, expect-leaving, expectName-leaving}
 use Rattle.text_parse.proofs.LeavingExpr.{nonVoidType-leaving, returnType-leaving, measured-leaving, expr-leaving, arguments-leaving, declarations-leaving}
@@ -155,10 +155,10 @@ module _ {P Q : List Token → Type 0} (w : Reads P Q) where
       andThen-leaving (parameters-leaving n ws (w .weaker q)) (λ ps xs q.
       methodBody-leaving n t x ps xs (w .weaker q)))))
 
-  pub methods-leaving : (n : ℕ) (ts : List Token) → P ts → Leaving Q (methods n ts)
-  unfolding methods
+  pub methods-leaving : (n : ℕ) (ts : List Token) → P ts → Leaving Q (program n ts)
+  unfolding program
   methods-leaving zero ts p = leavesAt-leaving ts
   methods-leaving (suc n) ts p =
       andThen-leaving (method-leaving n ts p) (λ m us q.
-      cond-both (Leaving Q) (isEnd us) (leaving q)
+      cond-both (Leaving Q) (atTextEnd us) (leaving q)
       (andThen-leaving (methods-leaving n us (w .weaker q)) (λ ms vs q. leaving q)))

@@ -7,7 +7,7 @@ use mathlib.Core.Option.{Option, none, some, Option·none-ne-some}
 use Rattle.lists.proofs.Tests.{cond-both, cond-each}
 use Rattle.text.specs.Tree.{Name, Carried, NonVoidType, plain, channelType, endType, Operator, Expr, newQubit, newChannel, newEnd, Declaration}
 use Rattle.text_parse.specs.Tokens.{Token, is, isNumeral}
-use Rattle.text_parse.specs.Grammar.{andThen, first, rest, next?, carried, bracketed, nonVoidType, startsType, returnType, Scopes, isWithends, operatorAt, allocated, allocation, measured, expr, operands, indivExpr, named, arguments, methodParams, moreNames, endNames, declarationOf, declaration, declarations}
+use Rattle.text_parse.specs.Grammar.{andThen, first, rest, next?, carried, bracketed, nonVoidType, startsType, returnType, Scopes, isWithends, operatorAt, allocated, allocation, measuredName, expr, operands, indivExpr, named, arguments, methodParams, moreNames, endNames, declarationOf, declaration, declarations}
 use Rattle.text_parse.specs.Left.{Leaving, leaving, not-read, HasBytes}
 use Rattle.text_parse.proofs.Leaving.{is-bytes, isNumeral-bytes, andThen-leaving, leavesAt-leaving, Reads, next-leaving, expect-leaving, expectName-leaving}
 
@@ -70,8 +70,8 @@ module _ {P Q : List Token → Type 0} (w : Reads P Q) where
       made f q =
           andThen-leaving (bracketed-leaving (rest ts) f (w .weaker q)) (λ e us q. allocated-leaving e us (w .weaker q))
 
-  pub measured-leaving : (ts : List Token) → P ts → Leaving Q (measured ts)
-  unfolding measured
+  pub measured-leaving : (ts : List Token) → P ts → Leaving Q (measuredName ts)
+  unfolding measuredName
   measured-leaving ts p =
       expect-leaving w "(" ts tt p (λ us q. expect-leaving w "StdBasis" us tt (w .weaker q) (λ vs q.
       expect-leaving w "," vs tt (w .weaker q) (λ ws q. expectName-leaving w ws (w .weaker q) (λ x xs q.

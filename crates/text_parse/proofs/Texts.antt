@@ -21,7 +21,7 @@ use Rattle.text.proofs.Acceptance.{accepted-table}
 use Rattle.text.proofs.SameRun.{same-as-meaning}
 use Rattle.text_parse.specs.Tokens.{tokensOf}
 use Rattle.text_parse.specs.Grammar.{Reading, read, leaves, programOf}
-use Rattle.text_parse.specs.Text.{Text, refusedText, translatedText, orElseRefused, judged, textOf}
+use Rattle.text_parse.specs.Text.{Text, refusedText, translatedText, orElseRefused, textFrom, textOf}
 
 -- the text comes to a table, and this is its tree
 abbrev IsTable : Program → Text → Type 0
@@ -40,8 +40,8 @@ unfolding orElseRefused
 passes-limits none t ms h = (refl, h)
 passes-limits (some i) t ms h = absurd h
 
-judged-translated : (bytes : ℕ) (r : Reading Program) (ms : Program) → IsTable ms (judged bytes r) → Translated bytes ms
-unfolding judged
+judged-translated : (bytes : ℕ) (r : Reading Program) (ms : Program) → IsTable ms (textFrom bytes r) → Translated bytes ms
+unfolding textFrom
 judged-translated bytes (leaves i) ms h = absurd h
 judged-translated bytes (read qs ts) ms h =
     let names = passes-names (nameRefusal bytes qs) (orElseRefused 32 (limitRefusal qs) (translatedText qs)) ms h in

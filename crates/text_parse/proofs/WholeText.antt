@@ -9,8 +9,8 @@ use lib.ListN.{length}
 use Rattle.lists.specs.Lists.{same}
 use Rattle.lists.proofs.Tests.{passes, cond-both, cond-each}
 use Rattle.text_parse.specs.Tokens.{Token, isWhite, extends, finished, tokensFrom, tokensOf}
-use Rattle.text_parse.specs.Grammar.{Reading, methods, isEnd, enough, programOf}
-use Rattle.text_parse.specs.Left.{Leaving, leaving, not-read, HasBytes, Tail, whole, after, Ended, endOf, WholeText}
+use Rattle.text_parse.specs.Grammar.{Reading, program, atTextEnd, enough, programOf}
+use Rattle.text_parse.specs.Left.{Leaving, leaving, not-read, HasBytes, Tail, whole, after, Ended, endToken, WholeText}
 use Rattle.text_parse.proofs.Leaving.{andThen-leaving, leavesAt-leaving}
 use Rattle.text_parse.proofs.Progress.{progress}
 
@@ -53,21 +53,21 @@ closed-tail c whole = c
 closed-tail end (after h t) = absurd h
 closed-tail (before g c) (after h t) = closed-tail c t
 
-closed-last : {i : ℕ} {ts : List Token} → Closed i ts → isEnd ts ≡ true → ts ≡ record { bytes = []; at = i } ∷ []
-unfolding isEnd
+closed-last : {i : ℕ} {ts : List Token} → Closed i ts → atTextEnd ts ≡ true → ts ≡ record { bytes = []; at = i } ∷ []
+unfolding atTextEnd
 closed-last end e = refl
 closed-last (before {t} h c) e = absurd (no-bytes (t .bytes) h e)
 
 -- a program is read up to a token that has no bytes
 abbrev AtEnd : List Token → Type 0
-AtEnd us = isEnd us ≡ true
+AtEnd us = atTextEnd us ≡ true
 
-methods-end : (n : ℕ) (ts : List Token) → Leaving AtEnd (methods n ts)
-unfolding methods
+methods-end : (n : ℕ) (ts : List Token) → Leaving AtEnd (program n ts)
+unfolding program
 methods-end zero ts = leavesAt-leaving ts
 methods-end (suc n) ts =
     andThen-leaving (progress .method-on n ts) (λ m us o.
-    cond-each (Leaving AtEnd) (isEnd us) (λ e. leaving e)
+    cond-each (Leaving AtEnd) (atTextEnd us) (λ e. leaving e)
     (λ e. andThen-leaving (methods-end n us) (λ ms vs f. leaving f)))
 
 -- what two laws say of what is left
@@ -76,7 +76,7 @@ both-leaving : {P Q R : List Token → Type 0} {A : Type 0} {r : Reading A} → 
 both-leaving (leaving p) (leaving q) f = leaving (f _ p q)
 both-leaving not-read q f = not-read
 
-program-read : (text : List ℕ) → Leaving (λ us. us ≡ endOf text ∷ []) (programOf (tokensOf text))
+program-read : (text : List ℕ) → Leaving (λ us. us ≡ endToken text ∷ []) (programOf (tokensOf text))
 unfolding programOf
 program-read text =
     let ts : List Token = tokensOf text in

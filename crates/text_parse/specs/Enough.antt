@@ -7,7 +7,7 @@ use mathlib.Core.Option.{Option}
 use lib.ListN.{length}
 use Rattle.text.specs.Tree.{Name, NonVoidType, Expr, Declaration, Parameter}
 use Rattle.text_parse.specs.Tokens.{Token}
-use Rattle.text_parse.specs.Grammar.{Scopes, operatorAt, expr, operands, indivExpr, named, arguments, methodParams, moreNames, declaration, declarations, simple, condition, statement, body, unbraced, blockOf, statements, moreParameters, parameters, methodBody, method, methods, enough}
+use Rattle.text_parse.specs.Grammar.{Scopes, operatorAt, expr, operands, indivExpr, named, arguments, methodParams, moreNames, declaration, declarations, simple, condition, statement, body, unbraced, blockOf, statements, moreParameters, parameters, methodBody, method, program, enough}
 
 abbrev pub IsEnough : List Token → ℕ → Type 0
 IsEnough ts n = 4 * length ts + 4 ≤ n
@@ -36,7 +36,7 @@ pub record Agree (ts : List Token) (n m : ℕ) : Type 0 where
   pub methodBody-same : (t : Option NonVoidType) (x : Name) (ps : List Parameter)
       → methodBody n t x ps ts ≡ methodBody m t x ps ts
   pub method-same : method n ts ≡ method m ts
-  pub methods-same : methods n ts ≡ methods m ts
+  pub methods-same : program n ts ≡ program m ts
 
 pub record Enough : Type 0 where
   pub agree : (ts : List Token) (n m : ℕ) → IsEnough ts n → IsEnough ts m → Agree ts n m

@@ -7,8 +7,8 @@ use mathlib.Core.Bool.{true, false, cond}
 use mathlib.Core.List.{List, [], _∷_, _++_, map}
 use mathlib.Core.Option.{Option, none, some}
 use Rattle.text.specs.Tree.{Name, NonVoidType, plain, channelType, endType, Operator, Expr, Exprs, number, truth, variable, assignment, operation, methodCall, measurement, reception, noMore, also, Declaration, variables, Statement, Statements, skip, assign, invoke, measure, receive, fork, send, give, block, conditional, alternative, loop, done, next, Parameter, Method, Program, declaredBy, parameterOf}
-use Rattle.text_parse.specs.Tokens.{Token, isNumeral, numberOf}
-use Rattle.text_parse.specs.Grammar.{Reading, read, leaves, andThen, first, rest, leavesAt, next?, expect, expectName, nonVoidType, startsType, returnType, Scopes, isWithends, operatorAt, allocation, measured, expr, indivExpr, methodParams, moreNames, endNames, declaration, declarations, deeper, statement, body, blockOf, statements, parameter, moreParameters, method, isEnd, enough, programOf}
+use Rattle.text_parse.specs.Tokens.{Token, isNumeral, numeralOf}
+use Rattle.text_parse.specs.Grammar.{Reading, read, leaves, andThen, first, rest, leavesAt, next?, expect, expectName, nonVoidType, startsType, returnType, Scopes, isWithends, operatorAt, allocation, measuredName, expr, indivExpr, methodParams, moreNames, endNames, declaration, declarations, deeper, statement, body, blockOf, statements, parameter, moreParameters, method, atTextEnd, enough, programOf}
 
 -- Expressions
 
@@ -53,12 +53,12 @@ receptionRule scopes ts =
 -- "indivExpr ::= value | variableName | ( expr ) | recv | assignment | methodCall | measurement"
 unfoldable pub indivExprRule : Scopes → List Token → Reading Expr
 indivExprRule scopes ts =
-    cond (isNumeral (first ts)) (read (number (numberOf (first ts))) (rest ts))
+    cond (isNumeral (first ts)) (read (number (numeralOf (first ts))) (rest ts))
     (cond (next? "true" ts) (read (truth true) (rest ts))
     (cond (next? "false" ts) (read (truth false) (rest ts))
     (cond (next? "(" ts) (andThen (exprFrom scopes (rest ts)) (λ e us. expect ")" us (λ vs. read e vs)))
     (cond (next? "recv" ts) (receptionRule scopes (rest ts))
-    (cond (next? "measure" ts) (andThen (measured (rest ts)) (λ q us. read (measurement q) us))
+    (cond (next? "measure" ts) (andThen (measuredName (rest ts)) (λ q us. read (measurement q) us))
     (expectName ts (λ x us. namedRule scopes x us)))))))
 
 -- "methodParams ::= expr (, expr)*", and the closing bracket
@@ -146,7 +146,7 @@ unfoldable pub simpleRule : Scopes → List Token → Reading Statement
 simpleRule scopes ts =
     cond (next? ";" ts) (read skip (rest ts))
     (cond (next? "measure" ts)
-    (andThen (measured (rest ts)) (λ q us. expect ";" us (λ vs. read (measure q) vs)))
+    (andThen (measuredName (rest ts)) (λ q us. expect ";" us (λ vs. read (measure q) vs)))
     (cond (next? "fork" ts) (forkRule scopes (rest ts))
     (cond (next? "send" ts) (sendRule scopes (rest ts))
     (cond (next? "recv" ts) (recvRule scopes (rest ts))
@@ -229,7 +229,7 @@ methodRule ts =
 unfoldable pub programRule : List Token → Reading Program
 programRule ts =
     andThen (methodFrom ts) (λ m us.
-    cond (isEnd us) (read (m ∷ []) us) (andThen (programOf us) (λ ms vs. read (m ∷ ms) vs)))
+    cond (atTextEnd us) (read (m ∷ []) us) (andThen (programOf us) (λ ms vs. read (m ∷ ms) vs)))
 
 -- What each nonterminal reads is what its production says, whatever the tokens.
 pub record GrammarEquations : Type 0 where

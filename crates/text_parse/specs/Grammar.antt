@@ -13,7 +13,7 @@ use mathlib.Core.Option.{Option, none, some}
 use lib.ListN.{length}
 use Rattle.lists.specs.Lists.{any}
 use Rattle.text.specs.Tree.{ascii, Name, spells, Carried, intType, booleanType, qbitType, NonVoidType, plain, channelType, endType, Operator, plus, minus, equals, lessThan, Expr, Exprs, number, truth, variable, assignment, operation, methodCall, measurement, reception, newQubit, newChannel, newEnd, noMore, also, Declaration, variables, withends, Statement, Statements, skip, assign, invoke, measure, receive, fork, send, give, block, conditional, alternative, loop, done, next, Parameter, Method, Program, Declared, declaredBy, parameterOf}
-use Rattle.text_parse.specs.Tokens.{Token, is, isName, isNumeral, nameOf, numberOf}
+use Rattle.text_parse.specs.Tokens.{Token, is, isName, isNumeral, nameOf, numeralOf}
 
 -- What a reading comes to.
 pub data Reading (A : Type 0) : Type 0 where
@@ -114,8 +114,8 @@ allocation ts =
     (cond (next? "channelEnd" ts) (andThen (bracketed (rest ts) newEnd) allocated) (leavesAt ts)))
 
 -- "measurement ::= measure (basisName (, variableName)+)", after measure: "measure takes StdBasis and one name"
-unfoldable pub measured : List Token → Reading Name
-measured ts =
+unfoldable pub measuredName : List Token → Reading Name
+measuredName ts =
     expect "(" ts (λ us. expect "StdBasis" us (λ vs. expect "," vs (λ ws.
     expectName ws (λ q xs. expect ")" xs (λ ys. read q ys)))))
 
@@ -142,12 +142,12 @@ unfoldable mutual
       let recv =
       expect "(" (rest ts) (λ us. andThen (expr n scopes us) (λ e vs. expect ")" vs (λ ws. read (reception e) ws))) in
       let name = expectName ts (λ x us. named n scopes x us) in
-      cond (isNumeral (first ts)) (read (number (numberOf (first ts))) (rest ts))
+      cond (isNumeral (first ts)) (read (number (numeralOf (first ts))) (rest ts))
       (cond (next? "true" ts) (read (truth true) (rest ts))
       (cond (next? "false" ts) (read (truth false) (rest ts))
       (cond (next? "(" ts) inBrackets
       (cond (next? "recv" ts) recv
-      (cond (next? "measure" ts) (andThen (measured (rest ts)) (λ q us. read (measurement q) us)) name)))))
+      (cond (next? "measure" ts) (andThen (measuredName (rest ts)) (λ q us. read (measurement q) us)) name)))))
 
   -- after a name: "assignment ::= variableName = expr", "methodCall ::= methodName (methodParams?)", or the variable.
   -- "A withends channel assigned inside an expression: 30 at its name, as soon as = follows."
@@ -245,7 +245,7 @@ unfoldable pub simple : ℕ → Scopes → List Token → Reading Statement
 simple n scopes ts =
     cond (next? ";" ts) (read skip (rest ts))
     (cond (next? "measure" ts)
-    (andThen (measured (rest ts)) (λ q us. expect ";" us (λ vs. read (measure q) vs)))
+    (andThen (measuredName (rest ts)) (λ q us. expect ";" us (λ vs. read (measure q) vs)))
     (cond (next? "fork" ts) (forkStatement n scopes (rest ts))
     (cond (next? "send" ts) (sendStatement n scopes (rest ts))
     (cond (next? "recv" ts) (recvStatement n scopes (rest ts))
@@ -337,19 +337,19 @@ method n ts =
     andThen (parameters n ws) (λ ps xs. methodBody n t x ps xs))))
 
 -- "program ::= method+", up to the token that ends the text
-unfoldable pub isEnd : List Token → Bool
-isEnd ts = next? "" ts
+unfoldable pub atTextEnd : List Token → Bool
+atTextEnd ts = next? "" ts
 
-unfoldable pub methods : ℕ → List Token → Reading Program
-methods zero ts = leavesAt ts
-methods (suc n) ts =
+unfoldable pub program : ℕ → List Token → Reading Program
+program zero ts = leavesAt ts
+program (suc n) ts =
     andThen (method n ts) (λ m us.
-    let more = andThen (methods n us) (λ ms vs. read (m ∷ ms) vs) in
-    cond (isEnd us) (read (m ∷ []) us) more)
+    let more = andThen (program n us) (λ ms vs. read (m ∷ ms) vs) in
+    cond (atTextEnd us) (read (m ∷ []) us) more)
 
 -- the tree of these tokens; the bound is more than any reading of them goes deep
 unfoldable pub enough : List Token → ℕ
 enough ts = 8 + 8 * length ts
 
 unfoldable pub programOf : List Token → Reading Program
-programOf ts = methods (enough ts) ts
+programOf ts = program (enough ts) ts

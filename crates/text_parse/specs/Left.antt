@@ -7,7 +7,7 @@ use mathlib.Core.Option.{Option}
 use lib.ListN.{length}
 use Rattle.text.specs.Tree.{Name, NonVoidType, Expr, Declaration, Parameter}
 use Rattle.text_parse.specs.Tokens.{Token, tokensOf}
-use Rattle.text_parse.specs.Grammar.{Reading, read, leaves, nonVoidType, returnType, Scopes, operatorAt, expr, operands, indivExpr, named, arguments, methodParams, moreNames, declaration, declarations, simple, condition, statement, body, unbraced, blockOf, statements, parameter, moreParameters, parameters, methodBody, method, methods, programOf}
+use Rattle.text_parse.specs.Grammar.{Reading, read, leaves, nonVoidType, returnType, Scopes, operatorAt, expr, operands, indivExpr, named, arguments, methodParams, moreNames, declaration, declarations, simple, condition, statement, body, unbraced, blockOf, statements, parameter, moreParameters, parameters, methodBody, method, program, programOf}
 
 -- if the reading comes to a tree, P holds of the tokens after it
 pub data Leaving (P : List Token → Type 0) {A : Type 0} : Reading A → Type 0 where
@@ -38,8 +38,8 @@ Ended (t ∷ []) = t .bytes ≡ []
 Ended (t ∷ u ∷ ts) = Ended (u ∷ ts)
 
 -- the token that ends a text, at its length in bytes
-abbrev pub endOf : List ℕ → Token
-endOf text = record { bytes = []; at = length text }
+abbrev pub endToken : List ℕ → Token
+endToken text = record { bytes = []; at = length text }
 
 -- what is left of ts once some tokens are read, or none
 pub record Within (ts us : List Token) : Type 0 where
@@ -84,10 +84,10 @@ pub record Progress : Type 0 where
   pub methodBody-on : (n : ℕ) (t : Option NonVoidType) (x : Name) (ps : List Parameter) (ts : List Token)
       → Leaving (Onward ts) (methodBody n t x ps ts)
   pub method-on : (n : ℕ) (ts : List Token) → Leaving (Onward ts) (method n ts)
-  pub methods-on : (n : ℕ) (ts : List Token) → Leaving (Onward ts) (methods n ts)
+  pub methods-on : (n : ℕ) (ts : List Token) → Leaving (Onward ts) (program n ts)
   pub programOf-on : (ts : List Token) → Leaving (Onward ts) (programOf ts)
 
 -- The tokens of a text end with one that has no bytes, and where they come to a tree, it is all that is left of them.
 pub record WholeText : Type 0 where
   pub text-ended : (text : List ℕ) → Ended (tokensOf text)
-  pub all-read : (text : List ℕ) → Leaving (λ us. us ≡ endOf text ∷ []) (programOf (tokensOf text))
+  pub all-read : (text : List ℕ) → Leaving (λ us. us ≡ endToken text ∷ []) (programOf (tokensOf text))

@@ -20,11 +20,11 @@ unfoldable pub orElseRefused : ℕ → Option ℕ → Text → Text
 orElseRefused number none t = t
 orElseRefused number (some place) t = refusedText number place
 
-unfoldable pub judged : ℕ → Reading Program → Text
-judged bytes (leaves place) = refusedText 30 place
-judged bytes (read ms ts) =
+unfoldable pub textFrom : ℕ → Reading Program → Text
+textFrom bytes (leaves place) = refusedText 30 place
+textFrom bytes (read ms ts) =
     orElseRefused 31 (nameRefusal bytes ms) (orElseRefused 32 (limitRefusal ms) (translatedText ms))
 
 -- what the bytes of a text come to
 unfoldable pub textOf : List ℕ → Text
-textOf text = judged (length text) (programOf (tokensOf text))
+textOf text = textFrom (length text) (programOf (tokensOf text))

@@ -85,5 +85,5 @@ unfoldable pub numberFrom : ℕ → List ℕ → ℕ
 numberFrom v [] = v
 numberFrom v (b ∷ bs) = numberFrom (10 * v + (b - 48)) bs
 
-unfoldable pub numberOf : Token → ℕ
-numberOf t = numberFrom 0 (t .bytes)
+unfoldable pub numeralOf : Token → ℕ
+numeralOf t = numberFrom 0 (t .bytes)

@@ -1,7 +1,7 @@
 // The number that digits say, as far as numbers are told apart.
 ghost use mathlib.Core.Path.{_≡_};
 ghost use Prim.Native.Nat.{_+_, _*_, _-_};
-ghost use Rattle.text_parse.specs.Tokens.{numberOf};
+ghost use Rattle.text_parse.specs.Tokens.{numeralOf};
 ghost use Rattle.text_tokens.specs.Places.{tokenOf};
 ghost use Rattle.text_tokens.specs.Numbers.{capped};
 use crate::bytes::byte_at;
@@ -35,7 +35,7 @@ fn longer(v: u32, b: u8) -> u32
 }
 
 pub fn number_of(text: &[u8], start: usize, end: usize) -> u32
-    ensures { λ r. ⌜ r ≡ capped (numberOf (tokenOf (now (text .entry)) start end)) ⌝ }
+    ensures { λ r. ⌜ r ≡ capped (numeralOf (tokenOf (now (text .entry)) start end)) ⌝ }
 {
     let n = size(text, start, end);
     let mut v: u32 = 0;

@@ -5,7 +5,7 @@ use mathlib.Core.Path.{_≡_, refl, sym, ap, _∙_}
 use borrow.Author.Needs.{needs}
 use lib.ListN.{length, drop}
 use lib.Seq.{slice}
-use Rattle.text_parse.specs.Tokens.{numberFrom, numberOf}
+use Rattle.text_parse.specs.Tokens.{numberFrom, numeralOf}
 use Rattle.text_tokens.specs.Numbers.{capped}
 use Rattle.text_tokens.proofs.Parts.{part-fits}
 use Rattle.text_tokens.proofs.Counting.{capped-below, capped-twice, number-on, number-end}
@@ -60,7 +60,7 @@ loop-again c =
     )
 
 returns : tie.Need-returns Inv-loop μ-loop
-unfolding numberOf
+unfolding numeralOf
 returns c =
     let g = c .before .before .before .before .args in
     let l = c .before .loop in
