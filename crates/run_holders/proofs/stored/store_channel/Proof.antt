@@ -22,10 +22,10 @@ same-length c = search needs
 returns : tie.Need-returns
 unfolding channelStored
 returns c =
-    c .before .before .store-end2 .ensures ∙ ap (λ (w : List ℕ). endStored 8192 w
-    (c .before .before .before .before .before .before .before .before .before .args .c .0) 1
-    (c .before .before .before .before .before .before .before .before .before .args .q .0))
-    (c .before .before .before .before .before .before .store-end .ensures)
+    let at-first = c .before .before .before .before .before .before in
+    let args = at-first .before .before .before .args in
+    c .before .before .store-end2 .ensures
+    ∙ ap (λ (w : List ℕ). endStored 8192 w (args .c .0) 1 (args .q .0)) (at-first .store-end .ensures)
 
 pub store-channel-spec : {M : Type 1} → statement M
 store-channel-spec =

@@ -21,8 +21,9 @@ same-length c = search needs
 returns : tie.Need-returns
 unfolding giftStored
 returns c =
-    took _ _ _ refl (eq-eqb (c .before .before .before .before .before .before .before .args .l .b) 3
-    (c .before .before .before .before .if1 .taken)) (c .before .before .store-qubit .ensures)
+    let at-if1 = c .before .before .before .before in
+    let kind = at-if1 .before .before .before .args .l .b in
+    took _ _ _ refl (eq-eqb kind 3 (at-if1 .if1 .taken)) (c .before .before .store-qubit .ensures)
 
 store-channel-requires : tie.Need-store-channel-requires
 store-channel-requires c κs = search needs
@@ -33,11 +34,11 @@ same-length-2 c = search needs
 returns-2 : tie.Need-returns-2
 unfolding giftStored
 returns-2 c =
-    passed-by _ _ _ refl (ne-eqb
-    (c .before .before .before .before .before .before .before .before .before .args .l .b) 3
-    (c .before .before .before .before .before .before .if1 .left))
-    (took _ _ _ refl (eq-eqb (c .before .before .before .before .before .before .before .before .before .args .l .b) 4
-    (c .before .before .before .before .if2 .taken)) (c .before .before .store-channel .ensures))
+    let at-if2 = c .before .before .before .before in
+    let at-if1 = at-if2 .before .before in
+    let kind = at-if1 .before .before .before .args .l .b in
+    passed-by _ _ _ refl (ne-eqb kind 3 (at-if1 .if1 .left))
+    (took _ _ _ refl (eq-eqb kind 4 (at-if2 .if2 .taken)) (c .before .before .store-channel .ensures))
 
 store-end-requires : tie.Need-store-end-requires
 store-end-requires c κs = search needs
@@ -48,15 +49,13 @@ same-length-3 c = search needs
 returns-3 : tie.Need-returns-3
 unfolding giftStored
 returns-3 c =
-    passed-by _ _ _ refl (ne-eqb
-    (c .before .before .before .before .before .before .before .before .before .before .before .args .l .b) 3
-    (c .before .before .before .before .before .before .before .before .if1 .left))
-    (passed-by _ _ _ refl (ne-eqb
-    (c .before .before .before .before .before .before .before .before .before .before .before .args .l .b) 4
-    (c .before .before .before .before .before .before .if2 .left))
-    (took _ _ _ refl (eq-eqb
-    (c .before .before .before .before .before .before .before .before .before .before .before .args .l .b) 5
-    (c .before .before .before .before .if3 .taken)) (c .before .before .store-end .ensures)))
+    let at-if3 = c .before .before .before .before in
+    let at-if2 = at-if3 .before .before in
+    let at-if1 = at-if2 .before .before in
+    let kind = at-if1 .before .before .before .args .l .b in
+    passed-by _ _ _ refl (ne-eqb kind 3 (at-if1 .if1 .left))
+    (passed-by _ _ _ refl (ne-eqb kind 4 (at-if2 .if2 .left))
+    (took _ _ _ refl (eq-eqb kind 5 (at-if3 .if3 .taken)) (c .before .before .store-end .ensures)))
 
 store-end-requires-2 : tie.Need-store-end-requires-2
 store-end-requires-2 c κs = search needs
@@ -67,22 +66,27 @@ same-length-4 c = search needs
 returns-4 : tie.Need-returns-4
 unfolding giftStored
 returns-4 c =
-    passed-by _ _ _ refl (ne-eqb
-    (c .before .before .before .before .before .before .before .before .before .before .before .before .before .args .l .b) 3 (c .before .before .before .before .before .before .before .before .before .before .if1 .left)) (passed-by _ _ _ refl (ne-eqb (c .before .before .before .before .before .before .before .before .before .before .before .before .before .args .l .b) 4 (c .before .before .before .before .before .before .before .before .if2 .left)) (passed-by _ _ _ refl (ne-eqb (c .before .before .before .before .before .before .before .before .before .before .before .before .before .args .l .b) 5 (c .before .before .before .before .before .before .if3 .left)) (took _ _ _ refl (eq-eqb (c .before .before .before .before .before .before .before .before .before .before .before .before .before .args .l .b) 6 (c .before .before .before .before .if4 .taken)) (c .before .before .store-end2 .ensures))))
+    let at-if4 = c .before .before .before .before in
+    let at-if3 = at-if4 .before .before in
+    let at-if2 = at-if3 .before .before in
+    let at-if1 = at-if2 .before .before in
+    let kind = at-if1 .before .before .before .args .l .b in
+    passed-by _ _ _ refl (ne-eqb kind 3 (at-if1 .if1 .left))
+    (passed-by _ _ _ refl (ne-eqb kind 4 (at-if2 .if2 .left))
+    (passed-by _ _ _ refl (ne-eqb kind 5 (at-if3 .if3 .left))
+    (took _ _ _ refl (eq-eqb kind 6 (at-if4 .if4 .taken)) (c .before .before .store-end2 .ensures))))
 
 returns-5 : tie.Need-returns-5
 unfolding giftStored
 returns-5 c =
-    passed-by _ _ _ refl (ne-eqb
-    (c .before .before .before .before .before .before .before .before .before .args .l .b) 3
-    (c .before .before .before .before .before .before .if1 .left))
-    (passed-by _ _ _ refl (ne-eqb
-    (c .before .before .before .before .before .before .before .before .before .args .l .b) 4
-    (c .before .before .before .before .if2 .left)) (passed-by _ _ _ refl
-    (ne-eqb (c .before .before .before .before .before .before .before .before .before .args .l .b) 5
-    (c .before .before .if3 .left)) (passed-by _ _ _ refl
-    (ne-eqb (c .before .before .before .before .before .before .before .before .before .args .l .b) 6 (c .if4 .left))
-    refl)))
+    let at-if3 = c .before .before in
+    let at-if2 = at-if3 .before .before in
+    let at-if1 = at-if2 .before .before in
+    let kind = at-if1 .before .before .before .args .l .b in
+    passed-by _ _ _ refl (ne-eqb kind 3 (at-if1 .if1 .left))
+    (passed-by _ _ _ refl (ne-eqb kind 4 (at-if2 .if2 .left))
+    (passed-by _ _ _ refl (ne-eqb kind 5 (at-if3 .if3 .left))
+    (passed-by _ _ _ refl (ne-eqb kind 6 (c .if4 .left)) refl)))
 
 pub store-gift-spec : {M : Type 1} → statement M
 store-gift-spec =

@@ -21,8 +21,9 @@ same-length c = search needs
 returns : tie.Need-returns
 unfolding storedAfter
 returns c =
-    took _ _ _ refl (eq-eqb (c .before .before .before .before .before .before .before .args .l .kind) 6
-    (c .before .before .before .before .if1 .taken)) (c .before .before .store-gift .ensures)
+    let at-if1 = c .before .before .before .before in
+    let kind = at-if1 .before .before .before .args .l .kind in
+    took _ _ _ refl (eq-eqb kind 6 (at-if1 .if1 .taken)) (c .before .before .store-gift .ensures)
 
 store-channel-requires : tie.Need-store-channel-requires
 store-channel-requires c κs = search needs
@@ -33,11 +34,11 @@ same-length-2 c = search needs
 returns-2 : tie.Need-returns-2
 unfolding storedAfter
 returns-2 c =
-    passed-by _ _ _ refl (ne-eqb
-    (c .before .before .before .before .before .before .before .before .before .args .l .kind) 6
-    (c .before .before .before .before .before .before .if1 .left))
-    (took _ _ _ refl (eq-eqb (c .before .before .before .before .before .before .before .before .before .args .l .kind)
-    2 (c .before .before .before .before .if2 .taken)) (c .before .before .store-channel .ensures))
+    let at-if2 = c .before .before .before .before in
+    let at-if1 = at-if2 .before .before in
+    let kind = at-if1 .before .before .before .args .l .kind in
+    passed-by _ _ _ refl (ne-eqb kind 6 (at-if1 .if1 .left))
+    (took _ _ _ refl (eq-eqb kind 2 (at-if2 .if2 .taken)) (c .before .before .store-channel .ensures))
 
 store-qubit-requires : tie.Need-store-qubit-requires
 store-qubit-requires c κs = search needs
@@ -48,24 +49,23 @@ same-length-3 c = search needs
 returns-3 : tie.Need-returns-3
 unfolding storedAfter
 returns-3 c =
-    passed-by _ _ _ refl (ne-eqb
-    (c .before .before .before .before .before .before .before .before .before .before .before .args .l .kind) 6
-    (c .before .before .before .before .before .before .before .before .if1 .left))
-    (passed-by _ _ _ refl (ne-eqb
-    (c .before .before .before .before .before .before .before .before .before .before .before .args .l .kind) 2
-    (c .before .before .before .before .before .before .if2 .left))
-    (took _ _ _ refl (eq-eqb
-    (c .before .before .before .before .before .before .before .before .before .before .before .args .l .kind) 1
-    (c .before .before .before .before .if3 .taken)) (c .before .before .store-qubit .ensures)))
+    let at-if3 = c .before .before .before .before in
+    let at-if2 = at-if3 .before .before in
+    let at-if1 = at-if2 .before .before in
+    let kind = at-if1 .before .before .before .args .l .kind in
+    passed-by _ _ _ refl (ne-eqb kind 6 (at-if1 .if1 .left))
+    (passed-by _ _ _ refl (ne-eqb kind 2 (at-if2 .if2 .left))
+    (took _ _ _ refl (eq-eqb kind 1 (at-if3 .if3 .taken)) (c .before .before .store-qubit .ensures)))
 
 returns-4 : tie.Need-returns-4
 unfolding storedAfter
 returns-4 c =
-    passed-by _ _ _ refl (ne-eqb (c .before .before .before .before .before .before .before .args .l .kind) 6
-    (c .before .before .before .before .if1 .left)) (passed-by _ _ _ refl
-    (ne-eqb (c .before .before .before .before .before .before .before .args .l .kind) 2
-    (c .before .before .if2 .left)) (passed-by _ _ _ refl
-    (ne-eqb (c .before .before .before .before .before .before .before .args .l .kind) 1 (c .if3 .left)) refl))
+    let at-if2 = c .before .before in
+    let at-if1 = at-if2 .before .before in
+    let kind = at-if1 .before .before .before .args .l .kind in
+    passed-by _ _ _ refl (ne-eqb kind 6 (at-if1 .if1 .left))
+    (passed-by _ _ _ refl (ne-eqb kind 2 (at-if2 .if2 .left))
+    (passed-by _ _ _ refl (ne-eqb kind 1 (c .if3 .left)) refl))
 
 pub store-line-spec : {M : Type 1} → statement M
 store-line-spec =
