@@ -17,7 +17,7 @@ use Rattle.table.proofs.Accepted.{Sizes, Pairs, sizes-kept, pairs-kept, row-kep
 use Rattle.check_questions.specs.AskCode.{inputQuestions, codeQuestions}
 use Rattle.check_arguments.specs.MarksCode.{marked}
 use Rattle.check_types.specs.RulesCode.{Rows}
-use Rattle.check_types.specs.ReadOnCode.{Passed}
+use Rattle.check_types.specs.ReadOnCode.{FirstFour}
 use Rattle.check_arguments.proofs.Marks.{marked-length, marked-targets}
 
 -- The verdict
@@ -98,7 +98,7 @@ module _ (p : List ℕ) (s : Sizes p) (count n : ℕ) (c : count ≡ methods p) 
 
   -- questions 1 to 4, with the targets marked in a list of zeros
   pub code-known : Pairs p → Rows p → (i : ℕ) → i ≡ firstFalse (instructionKept p) n → n ≤ i
-      → (ts us : List ℕ) → 4096 ≤ length ts → ((j : ℕ) → getD ts j 0 ≡ 0) → us ≡ marked p i ts → Passed p count n us
+      → (ts us : List ℕ) → 4096 ≤ length ts → ((j : ℕ) → getD ts j 0 ≡ 0) → us ≡ marked p i ts → FirstFour p count n us
   code-known pairs rows i e l ts us long zeros u =
       let here : i ≡ instructions p = omega (arith, firstFalse-first (instructionKept p) n .within) in
       let most = s .instructions-most in

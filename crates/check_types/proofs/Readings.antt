@@ -21,7 +21,7 @@ use Rattle.table.proofs.Before.{before-within}
 use Rattle.check_instructions.specs.OwnersCode.{ownerAt}
 use Rattle.check_types.specs.PendingCode.{typesIn, typesOf, resultOf, resultIn, Held}
 use Rattle.check_types.specs.RulesCode.{ruleResult, stepOf, stepped, Ready}
-use Rattle.check_types.specs.ReadOnCode.{readOn, Passed, Before}
+use Rattle.check_types.specs.ReadOnCode.{readOn, FirstFour, ReadingPoint}
 use Rattle.check_instructions.specs.declared.owner.Owner.{Owner}
 use Rattle.check_types.specs.declared.pending.Pending.{Pending}
 use Rattle.table.proofs.Ops.{closes-bare}
@@ -73,7 +73,7 @@ not-both : (a b : Bool) → (not a || not b) ≡ not (a && b)
 not-both true b = refl
 not-both false b = refl
 
-module _ (p : List ℕ) (count : ℕ) (o : Owner) (i target : ℕ) (q : Pending) (h : Before p count o i target q) where
+module _ (p : List ℕ) (count : ℕ) (o : Owner) (i target : ℕ) (q : Pending) (h : ReadingPoint p count o i target q) where
   target-free : (not (isTarget p i) || isNil (before p i)) ≡ not (not (eqb target 0) && not (eqb (q .count) 0))
   target-free =
       ap₂ (λ t b. not t || b) (sym (h .mark) ∙ above-zero target)
@@ -174,9 +174,10 @@ module _ (p : List ℕ) (i : ℕ) (q : Pending) (e : resultIn q ≡ readOn p i) 
       by false t r = absurd (Option·none-ne-some _ (sym r))
 
 -- an instruction of a table that has passed questions 1 to 4
-pub to-read : (p : List ℕ) (count n : ℕ) (targets : List ℕ) → Passed p count n targets
+pub to-read : (p : List ℕ) (count n : ℕ) (targets : List ℕ) → FirstFour p count n targets
     → (o : Owner) (i : ℕ) (q : Pending)
-    → i < n → o ≡ ownerAt p i → q .count ≤ 8 → Held q → typesOf q ≡ before p i → Before p count o i (getD targets i 0) q
+    → i < n → o ≡ ownerAt p i → q .count ≤ 8 → Held q → typesOf q ≡ before p i
+    → ReadingPoint p count o i (getD targets i 0) q
 to-read p count n targets h o i q l e few held types =
     let within : i < instructions p = omega (arith, h .instructions-count) in
     record {

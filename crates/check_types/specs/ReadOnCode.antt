@@ -21,7 +21,7 @@ unfoldable pub readOn : List ℕ → ℕ → Option (List ℕ)
 readOn p i = cond (reads p i) (some (after p i (before p i))) none
 
 -- questions 1 to 4 are passed, and the targets are marked
-pub record Passed (p : List ℕ) (count n : ℕ) (targets : List ℕ) : Type 0 where
+pub record FirstFour (p : List ℕ) (count n : ℕ) (targets : List ℕ) : Type 0 where
   pub sizes : Sizes p
   pub pairs : Pairs p
   pub rows : Rows p
@@ -32,7 +32,7 @@ pub record Passed (p : List ℕ) (count n : ℕ) (targets : List ℕ) : Type 0 w
   pub marks : (i : ℕ) → i < n → ltb 0 (getD targets i 0) ≡ isTarget p i
 
 -- instruction i stands to be read, with its owner, its mark and the types pending before it
-pub record Before (p : List ℕ) (count : ℕ) (o : Owner) (i target : ℕ) (q : Pending) : Type 0 where
+pub record ReadingPoint (p : List ℕ) (count : ℕ) (o : Owner) (i target : ℕ) (q : Pending) : Type 0 where
   pub sizes : Sizes p
   pub pairs : Pairs p
   pub rows : Rows p

@@ -5,7 +5,7 @@ ghost use Rattle.lists.specs.Lists.{firstFalse};
 ghost use Rattle.table.specs.Ops.{opOf};
 ghost use Rattle.table.specs.Reading.{reads};
 ghost use Rattle.check_types.specs.PendingCode.{Held, resultIn};
-ghost use Rattle.check_types.specs.ReadOnCode.{readOn, Before, Passed};
+ghost use Rattle.check_types.specs.ReadOnCode.{readOn, ReadingPoint, FirstFour};
 
 mod pending;
 mod steps;
@@ -25,7 +25,7 @@ fn closes(op: usize) -> bool
 
 // The pending types after instruction i, or a fault. `target` is its mark.
 fn read(p: &[u16], count: usize, o: Owner, i: usize, target: u8, q: Pending) -> Pending
-    requires { ⌜ Before (now p) count o i target q ⌝ }
+    requires { ⌜ ReadingPoint (now p) count o i target q ⌝ }
     ensures { λ r. ⌜ (resultIn r ≡ readOn (now (p .entry)) i) × Held r ⌝ }
 {
     let op = op_at(p, count, i);
@@ -41,7 +41,7 @@ fn read(p: &[u16], count: usize, o: Owner, i: usize, target: u8, q: Pending) -> 
 
 // The first of n instructions at fault, or n.
 pub fn first_reading(p: &[u16], count: usize, n: usize, targets: &[u8]) -> usize
-    requires { ⌜ Passed (now p) count n (now targets) ⌝ }
+    requires { ⌜ FirstFour (now p) count n (now targets) ⌝ }
     ensures { λ r. ⌜ r ≡ firstFalse (reads (now (p .entry))) n ⌝ }
 {
     let mut o = Owner::of(p, 0);
