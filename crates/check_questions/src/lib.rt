@@ -35,7 +35,8 @@ pub enum Check {
 
 // All eight questions: the table, the schedule, the outcome list and the length of the work store in words.
 pub fn ask(program: &[u16], schedule: &[u8], outcomes: &[u8], work: usize) -> Check
-    ensures { λ r. ⌜ verdictOf r ≡ questions (now (program .entry)) (now (schedule .entry)) (now (outcomes .entry)) work ⌝ }
+    ensures { λ r. ⌜ verdictOf r
+        ≡ questions (now (program .entry)) (now (schedule .entry)) (now (outcomes .entry)) work ⌝ }
 {
     if !sizes_kept(program) {
         return Check::Sizes;
@@ -67,7 +68,8 @@ fn ask_code(
 ) -> Check
     requires { ⌜ Sizes (now program) × Pairs (now program) × Rows (now program) × (count ≡ methods (now program))
         × (n ≡ instructions (now program)) ⌝ }
-    ensures { λ r. ⌜ verdictOf r ≡ codeQuestions (now (program .entry)) (now (schedule .entry)) (now (outcomes .entry)) work ⌝ }
+    ensures { λ r. ⌜ verdictOf r
+        ≡ codeQuestions (now (program .entry)) (now (schedule .entry)) (now (outcomes .entry)) work ⌝ }
 {
     let mut targets = [0u8; 4096];
     let at = first_instruction(program, count, n, &mut targets);

@@ -34,7 +34,8 @@ fn get(p: &[u16], o: Owner, a: usize, q: Pending) -> Pending
 fn put(p: &[u16], o: Owner, a: usize, q: Pending) -> Pending
     requires { ⌜ SlotOf (now p) o a × Held q ⌝ }
     ensures { λ r. ⌜ (resultIn r
-        ≡ putOn (slotType (now (p .entry)) (o .method) a) (takeOff (slotType (now (p .entry)) (o .method) a) (resultIn q)))
+        ≡ putOn (slotType (now (p .entry)) (o .method) a)
+        (takeOff (slotType (now (p .entry)) (o .method) a) (resultIn q)))
         × Held r ⌝ }
 {
     let t = slot_type(p, o, a);

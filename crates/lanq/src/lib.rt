@@ -49,7 +49,8 @@ pub extern "C" fn lanq_check(
     outcomes: &[u8],
     work: usize,
 ) -> LanqAnswer
-    ensures { λ r. ⌜ r ≡ checkAnswer (questions (now (program .entry)) (now (schedule .entry)) (now (outcomes .entry)) work) ⌝ }
+    ensures { λ r. ⌜ r
+        ≡ checkAnswer (questions (now (program .entry)) (now (schedule .entry)) (now (outcomes .entry)) work) ⌝ }
 {
     let answer = ask(program, schedule, outcomes, work);
     match answer {
@@ -66,7 +67,8 @@ pub extern "C" fn lanq_check(
 }
 
 fn ended(end: u64, entries: u64, lines: u64, outcomes: u64) -> LanqAnswer
-    ensures { λ r. ⌜ r ≡ record { refused = 0; place = 0; end = end; entries = entries; lines = lines; outcomes = outcomes } ⌝ }
+    ensures { λ r. ⌜ r
+        ≡ record { refused = 0; place = 0; end = end; entries = entries; lines = lines; outcomes = outcomes } ⌝ }
 {
     LanqAnswer {
         refused: 0,
@@ -87,9 +89,13 @@ pub extern "C" fn lanq_run(
     trace: &mut [u16],
     work: &mut [u32],
 ) -> LanqAnswer
-    ensures { λ r. ⌜ (r ≡ runAnswer (machine.answerOf (now (program .entry)) (now (schedule .entry)) (now (outcomes .entry)) (linesIn (length (now (trace .entry)))) (length (now (work .entry)))))
-        × (now (trace .exit) ≡ traceLeft (now (program .entry)) (now (schedule .entry)) (now (outcomes .entry)) (now (trace .entry)) (now (work .entry)))
-        × (now (work .exit) ≡ storeLeft (now (program .entry)) (now (schedule .entry)) (now (outcomes .entry)) (now (trace .entry)) (now (work .entry))) ⌝ }
+    ensures { λ r. ⌜ (r
+        ≡ runAnswer (machine.answerOf (now (program .entry)) (now (schedule .entry)) (now (outcomes .entry))
+        (linesIn (length (now (trace .entry)))) (length (now (work .entry)))))
+        × (now (trace .exit) ≡ traceLeft (now (program .entry)) (now (schedule .entry)) (now (outcomes .entry))
+        (now (trace .entry)) (now (work .entry)))
+        × (now (work .exit) ≡ storeLeft (now (program .entry)) (now (schedule .entry)) (now (outcomes .entry))
+        (now (trace .entry)) (now (work .entry))) ⌝ }
 {
     let answer = run(program, schedule, outcomes, trace, work);
     match answer {
@@ -113,7 +119,8 @@ pub struct LanqHolder {
 // The holder by the first k lines of a trace, all if there are fewer, read from the last one backwards.
 #[no_mangle]
 pub extern "C" fn lanq_holder(trace: &[u16], k: usize, qubit: u16) -> LanqHolder
-    ensures { λ r. ⌜ (r .holder ≡ lookUp (now (trace .entry)) k qubit) × (r .read ≡ countRead (now (trace .entry)) k qubit) ⌝ }
+    ensures { λ r. ⌜ (r .holder ≡ lookUp (now (trace .entry)) k qubit)
+        × (r .read ≡ countRead (now (trace .entry)) k qubit) ⌝ }
 {
     let answer = qubit_holder(trace, k, qubit);
     LanqHolder {

@@ -24,7 +24,8 @@ fn put_ended(
 ) -> usize
     requires { ⌜ (lines ≤ length (linesOf (now trace))) × (126 * lines < 4294967296) ⌝ }
     ensures { λ r. ⌜
-        (now (out .exit) ≡ putFrom (now (out .entry)) 0 (answerText (take lines (linesOf (now (trace .entry)))) (ran end entries lines outcomes)))
+        (now (out .exit) ≡ putFrom (now (out .entry)) 0
+        (answerText (take lines (linesOf (now (trace .entry)))) (ran end entries lines outcomes)))
         × (r ≡ length (answerText (take lines (linesOf (now (trace .entry)))) (ran end entries lines outcomes))) ⌝ }
 {
     let at = put_lines(out, 0, trace, lines);
@@ -33,10 +34,13 @@ fn put_ended(
 
 // What is printed for an answer, its lines being the first of the trace.
 pub fn put_answer(out: &mut [u8], a: Answer, trace: &[u16]) -> usize
-    requires { ⌜ (linesNo (answerNumbers a) ≤ length (linesOf (now trace))) × (126 * linesNo (answerNumbers a) < 4294967296) ⌝ }
+    requires { ⌜ (linesNo (answerNumbers a) ≤ length (linesOf (now trace)))
+        × (126 * linesNo (answerNumbers a) < 4294967296) ⌝ }
     ensures { λ r. ⌜
-        (now (out .exit) ≡ putFrom (now (out .entry)) 0 (answerText (take (linesNo (answerNumbers a)) (linesOf (now (trace .entry)))) (answerNumbers a)))
-        × (r ≡ length (answerText (take (linesNo (answerNumbers a)) (linesOf (now (trace .entry)))) (answerNumbers a))) ⌝ }
+        (now (out .exit) ≡ putFrom (now (out .entry)) 0
+        (answerText (take (linesNo (answerNumbers a)) (linesOf (now (trace .entry)))) (answerNumbers a)))
+        × (r ≡ length (answerText (take (linesNo (answerNumbers a)) (linesOf (now (trace .entry))))
+        (answerNumbers a))) ⌝ }
 {
     match a {
         Answer::Refused { number, place } => put_refused(out, 0, number as u64, place as u64),

@@ -18,7 +18,8 @@ use run::run;
 // "Its trace holds 4,096 lines." The work store has the 8,256 words that a run asks for.
 fn put_run(program: &[u16], schedule: &[u8], outcomes: &[u8], out: &mut [u8]) -> usize
     ensures { λ r. ⌜
-        (now (out .exit) ≡ putFrom (now (out .entry)) 0 (runText (now (program .entry)) (now (schedule .entry)) (now (outcomes .entry))))
+        (now (out .exit) ≡ putFrom (now (out .entry)) 0
+        (runText (now (program .entry)) (now (schedule .entry)) (now (outcomes .entry))))
         × (r ≡ length (runText (now (program .entry)) (now (schedule .entry)) (now (outcomes .entry)))) ⌝ }
 {
     let mut trace = [0u16; 24576];
@@ -31,8 +32,11 @@ fn put_run(program: &[u16], schedule: &[u8], outcomes: &[u8], out: &mut [u8]) ->
 fn put_parts(file: &[u8], out: &mut [u8]) -> usize
     requires { ⌜ wellBuilt (now file) ≡ true ⌝ }
     ensures { λ r. ⌜
-        (now (out .exit) ≡ putFrom (now (out .entry)) 0 (runText (wordsOf (partOf (now (file .entry)) 0)) (partOf (now (file .entry)) 1) (partOf (now (file .entry)) 2)))
-        × (r ≡ length (runText (wordsOf (partOf (now (file .entry)) 0)) (partOf (now (file .entry)) 1) (partOf (now (file .entry)) 2))) ⌝ }
+        (now (out .exit) ≡ putFrom (now (out .entry)) 0
+        (runText (wordsOf (partOf (now (file .entry)) 0)) (partOf (now (file .entry)) 1)
+        (partOf (now (file .entry)) 2)))
+        × (r ≡ length (runText (wordsOf (partOf (now (file .entry)) 0)) (partOf (now (file .entry)) 1)
+        (partOf (now (file .entry)) 2))) ⌝ }
 {
     let mut words = [0u16; 32768];
     let from = number_at(file, 0) as u32;

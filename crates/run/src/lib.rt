@@ -69,9 +69,13 @@ pub fn run(
     trace: &mut [u16],
     work: &mut [u32],
 ) -> Answer
-    ensures { λ r. ⌜ (answerNumbers r ≡ answerOf (now (program .entry)) (now (schedule .entry)) (now (outcomes .entry)) (linesIn (length (now (trace .entry)))) (length (now (work .entry))))
-        × (now (trace .exit) ≡ traceLeft (now (program .entry)) (now (schedule .entry)) (now (outcomes .entry)) (now (trace .entry)) (now (work .entry)))
-        × (now (work .exit) ≡ storeLeft (now (program .entry)) (now (schedule .entry)) (now (outcomes .entry)) (now (trace .entry)) (now (work .entry))) ⌝ }
+    ensures { λ r. ⌜ (answerNumbers r
+        ≡ answerOf (now (program .entry)) (now (schedule .entry)) (now (outcomes .entry))
+        (linesIn (length (now (trace .entry)))) (length (now (work .entry))))
+        × (now (trace .exit) ≡ traceLeft (now (program .entry)) (now (schedule .entry)) (now (outcomes .entry))
+        (now (trace .entry)) (now (work .entry)))
+        × (now (work .exit) ≡ storeLeft (now (program .entry)) (now (schedule .entry)) (now (outcomes .entry))
+        (now (trace .entry)) (now (work .entry))) ⌝ }
 {
     let v = verdict(ask(program, schedule, outcomes, work.len()));
     if v.number != 0 {

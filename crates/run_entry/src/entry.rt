@@ -87,8 +87,11 @@ pub fn entry(
     step: StepResult,
     m: Pairing,
 ) -> EntryResult
-    requires { ⌜ (start ≡ 2 + 20 * methods (now p)) × (8192 ≤ length (now work)) × (n .0 < 8) × (g .lines < 16000000) × (m .sender .0 < 8) × (m .receiver .0 < 8) ⌝ }
-    ensures { λ r. ⌜ afterEntry r (now (trace .exit)) (now (work .exit)) ≡ entryOp (now (p .entry)) (now (outcomes .entry)) (now (trace .entry)) (now (work .entry)) room g (n .0) step m ⌝ }
+    requires { ⌜ (start ≡ 2 + 20 * methods (now p)) × (8192 ≤ length (now work)) × (n .0 < 8) × (g .lines < 16000000)
+        × (m .sender .0 < 8) × (m .receiver .0 < 8) ⌝ }
+    ensures { λ r. ⌜ afterEntry r (now (trace .exit)) (now (work .exit))
+        ≡ entryOp (now (p .entry)) (now (outcomes .entry)) (now (trace .entry)) (now (work .entry))
+        room g (n .0) step m ⌝ }
 {
     let rest = rest_of(step);
     match rest {

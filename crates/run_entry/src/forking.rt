@@ -35,7 +35,8 @@ fn start_child(
     args: u16,
 ) -> EntryResult
     requires { ⌜ (8192 ≤ length (now work)) × (n .0 < 8) × (child .0 < 8) × (g .lines < 16000000) ⌝ }
-    ensures { λ r. ⌜ afterEntry r (now (trace .exit)) (now (work .exit)) ≡ startOp (now (p .entry)) (now (trace .entry)) (now (work .entry)) room g (n .0) (child .0) m args ⌝ }
+    ensures { λ r. ⌜ afterEntry r (now (trace .exit)) (now (work .exit))
+        ≡ startOp (now (p .entry)) (now (trace .entry)) (now (work .entry)) room g (n .0) (child .0) m args ⌝ }
 {
     let things = count_things(work, n, args);
     if room < g.lines as usize + 1 + things as usize {
@@ -59,8 +60,11 @@ fn try_fork(
     m: u16,
     args: u16,
 ) -> EntryResult
-    requires { ⌜ (start ≡ 2 + 20 * methods (now p)) × (8192 ≤ length (now work)) × (n .0 < 8) × (g .lines < 16000000) ⌝ }
-    ensures { λ r. ⌜ afterEntry r (now (trace .exit)) (now (work .exit)) ≡ tryOp (now (p .entry)) (now (outcomes .entry)) (now (trace .entry)) (now (work .entry)) room g (n .0) m args ⌝ }
+    requires { ⌜ (start ≡ 2 + 20 * methods (now p)) × (8192 ≤ length (now work)) × (n .0 < 8)
+        × (g .lines < 16000000) ⌝ }
+    ensures { λ r. ⌜ afterEntry r (now (trace .exit)) (now (work .exit))
+        ≡ tryOp (now (p .entry)) (now (outcomes .entry)) (now (trace .entry)) (now (work .entry))
+        room g (n .0) m args ⌝ }
 {
     if lacks_of(work, n, args) {
         return single(
@@ -102,8 +106,10 @@ pub fn fork_entry(
     g: Count,
     n: ProcessNo,
 ) -> EntryResult
-    requires { ⌜ (start ≡ 2 + 20 * methods (now p)) × (8192 ≤ length (now work)) × (n .0 < 8) × (g .lines < 16000000) ⌝ }
-    ensures { λ r. ⌜ afterEntry r (now (trace .exit)) (now (work .exit)) ≡ forkOp (now (p .entry)) (now (outcomes .entry)) (now (trace .entry)) (now (work .entry)) room g (n .0) ⌝ }
+    requires { ⌜ (start ≡ 2 + 20 * methods (now p)) × (8192 ≤ length (now work)) × (n .0 < 8)
+        × (g .lines < 16000000) ⌝ }
+    ensures { λ r. ⌜ afterEntry r (now (trace .exit)) (now (work .exit))
+        ≡ forkOp (now (p .entry)) (now (outcomes .entry)) (now (trace .entry)) (now (work .entry)) room g (n .0) ⌝ }
 {
     let m = argument_of(p, start, work, n);
     let args = params(p, m);

@@ -33,7 +33,8 @@ fn exchange(
     v: Val,
 ) -> EntryResult
     requires { ⌜ (8192 ≤ length (now work)) × (sender .0 < 8) × (receiver .0 < 8) × (g .lines < 16000000) ⌝ }
-    ensures { λ r. ⌜ afterEntry r (now (trace .exit)) (now (work .exit)) ≡ exchangeOp (now (trace .entry)) (now (work .entry)) room g (sender .0) (receiver .0) e v ⌝ }
+    ensures { λ r. ⌜ afterEntry r (now (trace .exit)) (now (work .exit))
+        ≡ exchangeOp (now (trace .entry)) (now (work .entry)) room g (sender .0) (receiver .0) e v ⌝ }
 {
     if room < g.lines as usize + 2 {
         return full(g);
@@ -55,8 +56,10 @@ pub fn meet_entry(
     n: ProcessNo,
     m: Pairing,
 ) -> EntryResult
-    requires { ⌜ (start ≡ 2 + 20 * methods (now p)) × (8192 ≤ length (now work)) × (n .0 < 8) × (g .lines < 16000000) × (m .sender .0 < 8) × (m .receiver .0 < 8) ⌝ }
-    ensures { λ r. ⌜ afterEntry r (now (trace .exit)) (now (work .exit)) ≡ meetBy (now (p .entry)) (now (outcomes .entry)) (now (trace .entry)) (now (work .entry)) room g (n .0) m ⌝ }
+    requires { ⌜ (start ≡ 2 + 20 * methods (now p)) × (8192 ≤ length (now work)) × (n .0 < 8) × (g .lines < 16000000)
+        × (m .sender .0 < 8) × (m .receiver .0 < 8) ⌝ }
+    ensures { λ r. ⌜ afterEntry r (now (trace .exit)) (now (work .exit))
+        ≡ meetBy (now (p .entry)) (now (outcomes .entry)) (now (trace .entry)) (now (work .entry)) room g (n .0) m ⌝ }
 {
     let kind = m.kind;
     match kind {

@@ -40,7 +40,8 @@ pub fn perform(
     used: usize,
 ) -> EventResult
     requires { ⌜ start ≡ 2 + 20 * methods (now p) ⌝ }
-    ensures { λ r. ⌜ afterEvent r (now (w .exit)) ≡ performOp (now (p .entry)) (now (w .entry)) does qubits channels (now (outcomes .entry)) used ⌝ }
+    ensures { λ r. ⌜ afterEvent r (now (w .exit))
+        ≡ performOp (now (p .entry)) (now (w .entry)) does qubits channels (now (outcomes .entry)) used ⌝ }
 {
     let h = read_head(w);
     let a = word_at(p, start + 2 * (h.place as usize) + 1);
@@ -78,7 +79,8 @@ pub fn conclude(
     used: usize,
 ) -> EventResult
     requires { ⌜ start ≡ 2 + 20 * methods (now p) ⌝ }
-    ensures { λ r. ⌜ afterEvent r (now (w .exit)) ≡ concludeOp (now (p .entry)) (now (w .entry)) does qubits channels (now (outcomes .entry)) used ⌝ }
+    ensures { λ r. ⌜ afterEvent r (now (w .exit))
+        ≡ concludeOp (now (p .entry)) (now (w .entry)) does qubits channels (now (outcomes .entry)) used ⌝ }
 {
     let t = perform(p, start, w, does, qubits, channels, outcomes, used);
     update_status(w, t);

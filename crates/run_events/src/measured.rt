@@ -34,7 +34,8 @@ fn measure(w: &mut [u32], h: Head, outcome: u8) -> EventResult
 
 // "24 no outcome left", the first `used` being used.
 fn measure_next(w: &mut [u32], h: Head, outcomes: &[u8], used: usize) -> EventResult
-    ensures { λ r. ⌜ afterEvent r (now (w .exit)) ≡ measuredAs (now (w .entry)) h (nextIn (now (outcomes .entry)) used) ⌝ }
+    ensures { λ r. ⌜ afterEvent r (now (w .exit))
+        ≡ measuredAs (now (w .entry)) h (nextIn (now (outcomes .entry)) used) ⌝ }
 {
     let o = next_outcome(outcomes, used);
     match o {

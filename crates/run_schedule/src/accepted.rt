@@ -19,7 +19,9 @@ pub fn accepted_run(
     work: &mut [u32],
 ) -> RunSummary
     requires { ⌜ questions (now program) (now schedule) (now outcomes) (length (now work)) ≡ accepted ⌝ }
-    ensures { λ r. ⌜ afterRun r (now (trace .exit)) (now (work .exit)) ≡ runLeaves (run (now (program .entry)) (now (outcomes .entry)) (linesIn (length (now (trace .entry)))) (now (schedule .entry))) (now (trace .entry)) (now (work .entry)) ⌝ }
+    ensures { λ r. ⌜ afterRun r (now (trace .exit)) (now (work .exit))
+        ≡ runLeaves (run (now (program .entry)) (now (outcomes .entry)) (linesIn (length (now (trace .entry))))
+        (now (schedule .entry))) (now (trace .entry)) (now (work .entry)) ⌝ }
 {
     begin_run(program, work);
     let methods = word_at(program, 0);

@@ -39,8 +39,8 @@ fn summary(end: u32, entries: usize, lines: u32, used: u32) -> RunSummary
 }
 
 // From the start of a run to its end: a burst of entries that write no line, then the entry at which it stops, again
-// and again. `room` is how many lines the trace holds. The burst is called in one place, so that it is compiled into this
-// loop.
+// and again. `room` is how many lines the trace holds. The burst is called in one place, so that it is compiled into
+// this loop.
 pub fn run_entries(
     p: &[u16],
     start: usize,
@@ -50,9 +50,13 @@ pub fn run_entries(
     work: &mut [u32],
     room: usize,
 ) -> RunSummary
-    requires { ⌜ (start ≡ 2 + 20 * methods (now p)) × (8256 ≤ length (now work)) × (length (now schedule) ≤ 65535) × (room ≡ length (now trace) / 6)
-        × Kept (now p) × (now work ≡ encode (startConfig (now p)) ++ (holderWords [] ++ drop 8256 (now work))) × All (λ o. o ≤ 2) (now outcomes) ⌝ }
-    ensures { λ r. ⌜ afterRun r (now (trace .exit)) (now (work .exit)) ≡ runLeaves (run (now (p .entry)) (now (outcomes .entry)) room (now (schedule .entry))) (now (trace .entry)) (now (work .entry)) ⌝ }
+    requires { ⌜ (start ≡ 2 + 20 * methods (now p)) × (8256 ≤ length (now work)) × (length (now schedule) ≤ 65535)
+        × (room ≡ length (now trace) / 6) × Kept (now p)
+        × (now work ≡ encode (startConfig (now p)) ++ (holderWords [] ++ drop 8256 (now work)))
+        × All (λ o. o ≤ 2) (now outcomes) ⌝ }
+    ensures { λ r. ⌜ afterRun r (now (trace .exit)) (now (work .exit))
+        ≡ runLeaves (run (now (p .entry)) (now (outcomes .entry)) room (now (schedule .entry))) (now (trace .entry))
+        (now (work .entry)) ⌝ }
 {
     let mut t = no_holders();
     let mut lines: u32 = 0;

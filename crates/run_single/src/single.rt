@@ -32,7 +32,8 @@ fn conclude_at(
     used: u32,
 ) -> EventResult
     requires { ⌜ (start ≡ 2 + 20 * methods (now p)) × (8192 ≤ length (now work)) × (n .0 < 8) ⌝ }
-    ensures { λ r. ⌜ afterEvent r (now (work .exit)) ≡ concludedAt (now (p .entry)) (now (work .entry)) (n .0) does (now (outcomes .entry)) used ⌝ }
+    ensures { λ r. ⌜ afterEvent r (now (work .exit))
+        ≡ concludedAt (now (p .entry)) (now (work .entry)) (n .0) does (now (outcomes .entry)) used ⌝ }
 {
     let qubits = get(work, 1);
     let channels = get(work, 2);
@@ -90,8 +91,11 @@ pub fn single(
     n: ProcessNo,
     does: Single,
 ) -> EntryResult
-    requires { ⌜ (start ≡ 2 + 20 * methods (now p)) × (8192 ≤ length (now work)) × (n .0 < 8) × (g .lines < 16000000) ⌝ }
-    ensures { λ r. ⌜ afterEntry r (now (trace .exit)) (now (work .exit)) ≡ singleOp (now (p .entry)) (now (outcomes .entry)) (now (trace .entry)) (now (work .entry)) room g (n .0) does ⌝ }
+    requires { ⌜ (start ≡ 2 + 20 * methods (now p)) × (8192 ≤ length (now work)) × (n .0 < 8)
+        × (g .lines < 16000000) ⌝ }
+    ensures { λ r. ⌜ afterEntry r (now (trace .exit)) (now (work .exit))
+        ≡ singleOp (now (p .entry)) (now (outcomes .entry)) (now (trace .entry)) (now (work .entry))
+        room g (n .0) does ⌝ }
 {
     if room <= g.lines as usize {
         return full(g);

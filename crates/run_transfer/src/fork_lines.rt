@@ -50,7 +50,8 @@ fn write_gift(
     v: Val,
 ) -> u32
     requires { ⌜ line < 16777216 ⌝ }
-    ensures { λ r. ⌜ (gifts r (now (trace .exit)) ≡ giftAdded (gifts line (now (trace .entry))) entry (from .0) (to .0) v) × (r ≤ line + 1) ⌝ }
+    ensures { λ r. ⌜ (gifts r (now (trace .exit))
+        ≡ giftAdded (gifts line (now (trace .entry))) entry (from .0) (to .0) v) × (r ≤ line + 1) ⌝ }
 {
     if v.tag < 3 {
         return line;
@@ -70,7 +71,8 @@ fn write_gifts(
     args: u16,
 ) -> u32
     requires { ⌜ (8192 ≤ length (now work)) × (from .0 < 8) × (line + args < 16777216) ⌝ }
-    ensures { λ r. ⌜ gifts r (now (trace .exit)) ≡ giftsAdded (gifts line (now (trace .entry))) (now (work .entry)) entry (from .0) (to .0) args args ⌝ }
+    ensures { λ r. ⌜ gifts r (now (trace .exit))
+        ≡ giftsAdded (gifts line (now (trace .entry))) (now (work .entry)) entry (from .0) (to .0) args args ⌝ }
 {
     let mut next = line;
     let mut j: u16 = 0;
@@ -108,7 +110,8 @@ pub fn write_fork(
     args: u16,
 ) -> u32
     requires { ⌜ (8192 ≤ length (now work)) × (n .0 < 8) × (line < 16000000) ⌝ }
-    ensures { λ r. ⌜ gifts r (now (trace .exit)) ≡ forkWritten (now (trace .entry)) (now (work .entry)) line entry (n .0) (child .0) m args ⌝ }
+    ensures { λ r. ⌜ gifts r (now (trace .exit))
+        ≡ forkWritten (now (trace .entry)) (now (work .entry)) line entry (n .0) (child .0) m args ⌝ }
 {
     write_line(trace, line, fork_line(entry, n, child, m, args));
     write_gifts(trace, work, line + 1, entry, n, child, args)

@@ -60,7 +60,9 @@ fn hand_args(work: &mut [u32], n: ProcessNo, child: ProcessNo, args: u16)
 
 pub fn begin_at(p: &[u16], work: &mut [u32], child: ProcessNo, m: u16)
     requires { ⌜ (8192 ≤ length (now work)) × (child .0 < 8) ⌝ }
-    ensures { λ r. ⌜ now (work .exit) ≡ withPart (now (work .entry)) (child .0) (beganWords (now (p .entry)) (partOf (now (work .entry)) (child .0)) m) ⌝ }
+    ensures { λ r. ⌜ now (work .exit)
+        ≡ withPart (now (work .entry)) (child .0)
+        (beganWords (now (p .entry)) (partOf (now (work .entry)) (child .0)) m) ⌝ }
 {
     let from = part_at(child);
     let to = from + 512;
@@ -69,7 +71,8 @@ pub fn begin_at(p: &[u16], work: &mut [u32], child: ProcessNo, m: u16)
 
 fn pop_arguments_at(work: &mut [u32], n: ProcessNo, args: u16)
     requires { ⌜ (8192 ≤ length (now work)) × (n .0 < 8) ⌝ }
-    ensures { λ r. ⌜ now (work .exit) ≡ withPart (now (work .entry)) (n .0) (argumentsPopped (partOf (now (work .entry)) (n .0)) args) ⌝ }
+    ensures { λ r. ⌜ now (work .exit)
+        ≡ withPart (now (work .entry)) (n .0) (argumentsPopped (partOf (now (work .entry)) (n .0)) args) ⌝ }
 {
     let from = part_at(n);
     let to = from + 512;
@@ -78,7 +81,8 @@ fn pop_arguments_at(work: &mut [u32], n: ProcessNo, args: u16)
 
 fn give_at(work: &mut [u32], n: ProcessNo, v: Val)
     requires { ⌜ (8192 ≤ length (now work)) × (n .0 < 8) ⌝ }
-    ensures { λ r. ⌜ now (work .exit) ≡ withPart (now (work .entry)) (n .0) (givenWords (partOf (now (work .entry)) (n .0)) v) ⌝ }
+    ensures { λ r. ⌜ now (work .exit)
+        ≡ withPart (now (work .entry)) (n .0) (givenWords (partOf (now (work .entry)) (n .0)) v) ⌝ }
 {
     let from = part_at(n);
     let to = from + 512;

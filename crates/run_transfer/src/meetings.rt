@@ -13,7 +13,8 @@ use run_store::values::Val;
 
 fn send_from(work: &mut [u32], n: ProcessNo, v: Val)
     requires { ⌜ (8192 ≤ length (now work)) × (n .0 < 8) ⌝ }
-    ensures { λ r. ⌜ now (work .exit) ≡ withPart (now (work .entry)) (n .0) (sentWords (partOf (now (work .entry)) (n .0)) v) ⌝ }
+    ensures { λ r. ⌜ now (work .exit)
+        ≡ withPart (now (work .entry)) (n .0) (sentWords (partOf (now (work .entry)) (n .0)) v) ⌝ }
 {
     let from = part_at(n);
     let to = from + 512;
@@ -22,7 +23,8 @@ fn send_from(work: &mut [u32], n: ProcessNo, v: Val)
 
 fn receive_at(work: &mut [u32], n: ProcessNo, v: Val)
     requires { ⌜ (8192 ≤ length (now work)) × (n .0 < 8) ⌝ }
-    ensures { λ r. ⌜ now (work .exit) ≡ withPart (now (work .entry)) (n .0) (receivedWords (partOf (now (work .entry)) (n .0)) v) ⌝ }
+    ensures { λ r. ⌜ now (work .exit)
+        ≡ withPart (now (work .entry)) (n .0) (receivedWords (partOf (now (work .entry)) (n .0)) v) ⌝ }
 {
     let from = part_at(n);
     let to = from + 512;

@@ -63,7 +63,8 @@ fn holder_back(trace: &[u16], n: usize, q: u16) -> QubitHolder
 
 // The answer by the first k lines, all if there are fewer.
 pub fn qubit_holder(trace: &[u16], k: usize, qubit: u16) -> QubitHolder
-    ensures { λ r. ⌜ (r .holder ≡ lookUp (now (trace .entry)) k qubit) × (r .read ≡ countRead (now (trace .entry)) k qubit) ⌝ }
+    ensures { λ r. ⌜ (r .holder ≡ lookUp (now (trace .entry)) k qubit)
+        × (r .read ≡ countRead (now (trace .entry)) k qubit) ⌝ }
 {
     let n = line_count(trace);
     if k < n {
