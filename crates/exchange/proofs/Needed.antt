@@ -11,7 +11,7 @@ use Rattle.machine.specs.Value.{Value, empty, int, bool, ref, thingNo}
 use Rattle.machine.specs.State.{Frame, Config, processAt}
 use Rattle.machine.proofs.Opened.{machine-opened}
 use Rattle.exchange.specs.Exchange.{leftOut, topOp, standsAt, movesAlone, movesOn, bothMoveOn, twoTaken, mayExchange}
-use Rattle.exchange.specs.Needed.{movesButAt, mayExchangeBut, left, twice, makingQubit, makingChannel, measuring, forking, joined, sending, receiving, bothReceiving, gating, Needed}
+use Rattle.exchange.specs.Needed.{movesButAt, mayExchangeBut, left, twice, makingQubit, makingChannel, bothMeasuring, bothForking, overChannel, mainSending, mainReceiving, bothReceiving, bothGating, Needed}
 
 -- numbers that set configurations apart: of the value on top of process 0, of its place, of process 2's method
 abbrev valueNo : Value → ℕ
@@ -38,7 +38,8 @@ differ f i j c d a b ne e = ne (omega (arith, a, b, ap f e))
 
 pub needed : Needed
 unfolding machine-opened leftOut topOp standsAt movesAlone movesOn bothMoveOn twoTaken mayExchange movesButAt
-    mayExchangeBut twice makingQubit makingChannel measuring forking joined sending receiving bothReceiving gating
+    mayExchangeBut twice makingQubit makingChannel bothMeasuring bothForking overChannel mainSending mainReceiving
+    bothReceiving bothGating
 needed = record {
   gates = tt;
   gates-given = refl;
@@ -61,35 +62,36 @@ needed = record {
     accepted = refl;
     kept = tt;
     differs = differ (λ c. top (processAt c 0 .frames)) 0 1
-        (left measuring (0 ∷ 1 ∷ []) 4096 (0 ∷ 0 ∷ 1 ∷ 0 ∷ 1 ∷ []))
-        (left measuring (0 ∷ 1 ∷ []) 4096 (0 ∷ 0 ∷ 1 ∷ 1 ∷ 0 ∷ [])) refl refl (omega arith);
+        (left bothMeasuring (0 ∷ 1 ∷ []) 4096 (0 ∷ 0 ∷ 1 ∷ 0 ∷ 1 ∷ []))
+        (left bothMeasuring (0 ∷ 1 ∷ []) 4096 (0 ∷ 0 ∷ 1 ∷ 1 ∷ 0 ∷ [])) refl refl (omega arith);
   };
   fork = record {
     accepted = refl;
     kept = tt;
     differs =
-        differ (λ c. method (processAt c 2 .frames)) 2 3 (left forking [] 4096 (0 ∷ 0 ∷ 1 ∷ []))
-        (left forking [] 4096 (0 ∷ 1 ∷ 0 ∷ [])) refl refl (omega arith);
+        differ (λ c. method (processAt c 2 .frames)) 2 3 (left bothForking [] 4096 (0 ∷ 0 ∷ 1 ∷ []))
+        (left bothForking [] 4096 (0 ∷ 1 ∷ 0 ∷ [])) refl refl (omega arith);
   };
   send = record {
     accepted = refl;
     kept = tt;
     differs = differ (λ c. place (processAt c 0 .frames)) 11 10
-        (left sending [] 4096 (replicate 10 0 ++ 1 ∷ 0 ∷ [])) (left sending [] 4096 (replicate 10 0 ++ 0 ∷ 1 ∷ [])) refl
+        (left mainSending [] 4096 (replicate 10 0 ++ 1 ∷ 0 ∷ []))
+        (left mainSending [] 4096 (replicate 10 0 ++ 0 ∷ 1 ∷ [])) refl
         refl (omega arith);
   };
   recv = record {
     accepted = refl;
     kept = tt;
     differs = differ (λ c. place (processAt c 0 .frames)) 10 9
-        (left receiving [] 4096 (replicate 9 0 ++ (1 ∷ []) ++ 1 ∷ 0 ∷ []))
-        (left receiving [] 4096 (replicate 9 0 ++ (1 ∷ []) ++ 0 ∷ 1 ∷ [])) refl refl (omega arith);
+        (left mainReceiving [] 4096 (replicate 9 0 ++ (1 ∷ []) ++ 1 ∷ 0 ∷ []))
+        (left mainReceiving [] 4096 (replicate 9 0 ++ (1 ∷ []) ++ 0 ∷ 1 ∷ [])) refl refl (omega arith);
   };
   taken-accepted = refl;
   taken = tt;
   taken-differs =
-      differ (λ c. place (processAt c 0 .frames)) 3 2 (left gating [] 4 (0 ∷ 0 ∷ 1 ∷ 0 ∷ 1 ∷ []))
-      (left gating [] 4 (0 ∷ 0 ∷ 1 ∷ 1 ∷ 0 ∷ [])) refl refl (omega arith);
+      differ (λ c. place (processAt c 0 .frames)) 3 2 (left bothGating [] 4 (0 ∷ 0 ∷ 1 ∷ 0 ∷ 1 ∷ []))
+      (left bothGating [] 4 (0 ∷ 0 ∷ 1 ∷ 1 ∷ 0 ∷ [])) refl refl (omega arith);
   moves-accepted = refl;
   moves = refl;
   moves-differs = refl;

@@ -59,12 +59,12 @@ makingQubit = twice (7 ∷ 0 ∷ 5 ∷ 0 ∷ 13 ∷ 0 ∷ [])
 unfoldable pub makingChannel : List ℕ
 makingChannel = twice (8 ∷ 1 ∷ 5 ∷ 0 ∷ 13 ∷ 0 ∷ [])
 
-unfoldable pub measuring : List ℕ
-measuring = twice (7 ∷ 0 ∷ 11 ∷ 0 ∷ 5 ∷ 0 ∷ 13 ∷ 0 ∷ [])
+unfoldable pub bothMeasuring : List ℕ
+bothMeasuring = twice (7 ∷ 0 ∷ 11 ∷ 0 ∷ 5 ∷ 0 ∷ 13 ∷ 0 ∷ [])
 
 -- main forks method 1 and then method 2, method 1 forks method 3
-unfoldable pub forking : List ℕ
-forking =
+unfoldable pub bothForking : List ℕ
+bothForking =
     tableOf
     (record { returns = 0; params = 0; slots = []; code = 14 ∷ 1 ∷ 14 ∷ 2 ∷ 13 ∷ 0 ∷ [] }
     ∷ record { returns = 0; params = 0; slots = []; code = 14 ∷ 3 ∷ 13 ∷ 0 ∷ [] }
@@ -73,8 +73,8 @@ forking =
     ∷ [])
 
 -- main makes a channel of ints, keeps end 0 and forks method 1 with end 1 (8 entries); then each has its code
-unfoldable pub joined : List ℕ → List ℕ → List ℕ
-joined code code′ =
+unfoldable pub overChannel : List ℕ → List ℕ → List ℕ
+overChannel code code′ =
     tableOf
     (record {
       returns = 0;
@@ -86,46 +86,46 @@ joined code code′ =
     ∷ [])
 
 -- main: GET mine, INT 5, SEND, RET; the other: GET mine, RECV, DROP, RET
-unfoldable pub sending : List ℕ
-sending = joined (3 ∷ 1 ∷ 1 ∷ 5 ∷ 15 ∷ 0 ∷ 13 ∷ 0 ∷ []) (3 ∷ 0 ∷ 16 ∷ 0 ∷ 5 ∷ 0 ∷ 13 ∷ 0 ∷ [])
+unfoldable pub mainSending : List ℕ
+mainSending = overChannel (3 ∷ 1 ∷ 1 ∷ 5 ∷ 15 ∷ 0 ∷ 13 ∷ 0 ∷ []) (3 ∷ 0 ∷ 16 ∷ 0 ∷ 5 ∷ 0 ∷ 13 ∷ 0 ∷ [])
 
 -- main: GET mine, RECV, DROP, RET; the other: GET mine, INT 5, SEND, RET
-unfoldable pub receiving : List ℕ
-receiving = joined (3 ∷ 1 ∷ 16 ∷ 0 ∷ 5 ∷ 0 ∷ 13 ∷ 0 ∷ []) (3 ∷ 0 ∷ 1 ∷ 5 ∷ 15 ∷ 0 ∷ 13 ∷ 0 ∷ [])
+unfoldable pub mainReceiving : List ℕ
+mainReceiving = overChannel (3 ∷ 1 ∷ 16 ∷ 0 ∷ 5 ∷ 0 ∷ 13 ∷ 0 ∷ []) (3 ∷ 0 ∷ 1 ∷ 5 ∷ 15 ∷ 0 ∷ 13 ∷ 0 ∷ [])
 
 -- both: GET mine, RECV, DROP, RET
 unfoldable pub bothReceiving : List ℕ
-bothReceiving = joined (3 ∷ 1 ∷ 16 ∷ 0 ∷ 5 ∷ 0 ∷ 13 ∷ 0 ∷ []) (3 ∷ 0 ∷ 16 ∷ 0 ∷ 5 ∷ 0 ∷ 13 ∷ 0 ∷ [])
+bothReceiving = overChannel (3 ∷ 1 ∷ 16 ∷ 0 ∷ 5 ∷ 0 ∷ 13 ∷ 0 ∷ []) (3 ∷ 0 ∷ 16 ∷ 0 ∷ 5 ∷ 0 ∷ 13 ∷ 0 ∷ [])
 
 -- both: NEWQ, GATE H, RET
-unfoldable pub gating : List ℕ
-gating = twice (7 ∷ 0 ∷ 10 ∷ 4 ∷ 13 ∷ 0 ∷ [])
+unfoldable pub bothGating : List ℕ
+bothGating = twice (7 ∷ 0 ∷ 10 ∷ 4 ∷ 13 ∷ 0 ∷ [])
 
 pub record Needed : Type 0 where
   -- two gates may change places: then their lines do, each with the number of its entry
-  pub gates : T (mayExchange gating [] 4096 (0 ∷ 0 ∷ 1 ∷ []) 0 1)
-  pub gates-given : drop 18 (traceWords (run gating [] 4096 (0 ∷ 0 ∷ 1 ∷ 0 ∷ 1 ∷ []) .state .lines))
+  pub gates : T (mayExchange bothGating [] 4096 (0 ∷ 0 ∷ 1 ∷ []) 0 1)
+  pub gates-given : drop 18 (traceWords (run bothGating [] 4096 (0 ∷ 0 ∷ 1 ∷ 0 ∷ 1 ∷ []) .state .lines))
       ≡ 3 ∷ 0 ∷ 3 ∷ 4 ∷ 0 ∷ 65535
       ∷ 4 ∷ 1 ∷ 3 ∷ 4 ∷ 1 ∷ 65535
       ∷ []
-  pub gates-exchanged : drop 18 (traceWords (run gating [] 4096 (0 ∷ 0 ∷ 1 ∷ 1 ∷ 0 ∷ []) .state .lines))
+  pub gates-exchanged : drop 18 (traceWords (run bothGating [] 4096 (0 ∷ 0 ∷ 1 ∷ 1 ∷ 0 ∷ []) .state .lines))
       ≡ 3 ∷ 1 ∷ 3 ∷ 4 ∷ 1 ∷ 65535
       ∷ 4 ∷ 0 ∷ 3 ∷ 4 ∷ 0 ∷ 65535
       ∷ []
   -- both at NEWQ, NEWC: the numbers go the other way round; both at MEAS: the outcomes
   pub newq : NeededAt 7 makingQubit [] (0 ∷ []) 0 1
   pub newc : NeededAt 8 makingChannel [] (0 ∷ []) 0 1
-  pub meas : NeededAt 11 measuring (0 ∷ 1 ∷ []) (0 ∷ 0 ∷ 1 ∷ []) 0 1
+  pub meas : NeededAt 11 bothMeasuring (0 ∷ 1 ∷ []) (0 ∷ 0 ∷ 1 ∷ []) 0 1
   -- both at FORK: the processes made
-  pub fork : NeededAt 14 forking [] (0 ∷ []) 0 1
+  pub fork : NeededAt 14 bothForking [] (0 ∷ []) 0 1
   -- one comes to RECV, and the other at SEND meets it, or the other way round; with places changed, the other waits
-  pub send : NeededAt 15 sending [] (replicate 10 0) 1 0
-  pub recv : NeededAt 16 receiving [] (replicate 9 0 ++ (1 ∷ [])) 1 0
+  pub send : NeededAt 15 mainSending [] (replicate 10 0) 1 0
+  pub recv : NeededAt 16 mainReceiving [] (replicate 9 0 ++ (1 ∷ [])) 1 0
   -- both are at GATE, and the trace has room for one line more: the entry of process 1, the second, is not taken. With
   -- places changed, it is the one of process 0.
-  pub taken-accepted : Accepted gating
-  pub taken : T (bothMoveOn gating [] 3 (run gating [] 4 (0 ∷ 0 ∷ 1 ∷ []) .state) 0 1)
-  pub taken-differs : left gating [] 4 (0 ∷ 0 ∷ 1 ∷ 0 ∷ 1 ∷ []) ≢ left gating [] 4 (0 ∷ 0 ∷ 1 ∷ 1 ∷ 0 ∷ [])
+  pub taken-accepted : Accepted bothGating
+  pub taken : T (bothMoveOn bothGating [] 3 (run bothGating [] 4 (0 ∷ 0 ∷ 1 ∷ []) .state) 0 1)
+  pub taken-differs : left bothGating [] 4 (0 ∷ 0 ∷ 1 ∷ 0 ∷ 1 ∷ []) ≢ left bothGating [] 4 (0 ∷ 0 ∷ 1 ∷ 1 ∷ 0 ∷ [])
   -- The entry of a process that is not made does not move. The next brings process 1 to RECV, where both wait: end 2.
   -- With places changed, the run ends one entry earlier, so that the entries used differ.
   pub moves-accepted : Accepted bothReceiving
