@@ -157,7 +157,7 @@ typedef struct {
   uint16_t entry, process, kind, a, b, c;
 } LanqLine;
 
-/* What a line tells, by its kind, with a, b and c; those not named are LANQ_UNUSED. */
+/* What a line says, by its kind, with a, b and c; those not named are LANQ_UNUSED. */
 enum LanqKind {
   LANQ_LINE_QUBIT_MADE = 1,   /* a qubit */
   LANQ_LINE_CHANNEL_MADE = 2, /* a channel */

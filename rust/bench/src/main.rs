@@ -22,12 +22,12 @@ use std::env;
 use std::process::exit;
 
 use checks::Check;
-use runs::{Lent, Run, ENTRIES};
+use runs::{Buffers, Run, ENTRIES};
 
 fn times() {
     println!("{:18} {:>8} {:>7}", "", "ns", "idle");
     println!("per entry, of {ENTRIES}");
-    let mut lent = Lent::new();
+    let mut lent = Buffers::new();
     for run in runs::all() {
         println!("{:18} {:8.1} {:5.1} %", run.name, run.timed(20, &mut lent), run.idle());
     }
@@ -42,7 +42,7 @@ fn one(name: &str, count: usize) -> Result<(), String> {
     let runs: Vec<Run> = runs::all().into_iter().chain(runs::growing()).collect();
     let checks: Vec<Check> = checks::all().into_iter().chain(checks::growing()).collect();
     if let Some(run) = runs.iter().find(|run| run.name == name) {
-        let answer = run.once(count.min(ENTRIES), &mut Lent::new());
+        let answer = run.once(count.min(ENTRIES), &mut Buffers::new());
         println!("{name}: {answer:?}");
     } else if let Some(check) = checks.iter().find(|check| check.name == name) {
         check.timed(count);

@@ -5,7 +5,7 @@ use std::time::Instant;
 
 use data::program::{table, Method};
 use lanq::{Answer, End, Refusal};
-use model::machine::{Did, Machine};
+use model::machine::{EntryResult, Machine};
 
 use crate::programs;
 
@@ -103,14 +103,14 @@ pub fn growing() -> Vec<Run> {
 const TRACE: usize = 3 * 6 * ENTRIES;
 
 /// The buffers that a run is lent, made once.
-pub struct Lent {
+pub struct Buffers {
     trace: Vec<u16>,
     work: Vec<u32>,
 }
 
-impl Lent {
-    pub fn new() -> Lent {
-        Lent { trace: vec![0; TRACE], work: vec![0; lanq::WORK_WORDS] }
+impl Buffers {
+    pub fn new() -> Buffers {
+        Buffers { trace: vec![0; TRACE], work: vec![0; lanq::WORK_WORDS] }
     }
 }
 
@@ -121,13 +121,13 @@ impl Run {
     }
 
     /// Runs the schedule's first entries with the library.
-    pub fn once(&self, entries: usize, lent: &mut Lent) -> Result<Answer, Refusal> {
+    pub fn once(&self, entries: usize, lent: &mut Buffers) -> Result<Answer, Refusal> {
         let schedule = black_box(&self.schedule[..entries]);
         lanq::run_in(&self.program, schedule, &self.outcomes, &mut lent.trace, &mut lent.work)
     }
 
     /// Nanoseconds per entry, the best of so many runs.
-    pub fn timed(&self, runs: usize, lent: &mut Lent) -> f64 {
+    pub fn timed(&self, runs: usize, lent: &mut Buffers) -> f64 {
         best(runs, || match self.once(ENTRIES, lent) {
             Ok(Answer { end: End::ScheduleUsed, entries, .. }) => entries,
             other => panic!("{}: {other:?}", self.name),
@@ -140,7 +140,7 @@ impl Run {
         let program = program.expect("a workload passes the questions");
         let mut machine = Machine::new(&program, &self.outcomes, TRACE);
         let did = self.schedule.iter().map(|byte| machine.entry(*byte));
-        let idle = did.filter(|did| *did == Ok(Did::Idle)).count();
+        let idle = did.filter(|did| *did == Ok(EntryResult::Idle)).count();
         100.0 * idle as f64 / ENTRIES as f64
     }
 }

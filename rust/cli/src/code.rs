@@ -11,19 +11,19 @@ use crate::names::{MethodNames, Scope};
 
 /// What the places of names are places of.
 #[derive(Clone, Copy, Debug, PartialEq, Eq)]
-pub enum Written {
+pub enum Origin {
     /// The text that was read.
     Text,
     /// What `lanq list` writes.
     Listing,
 }
 
-/// Methods that tell where each one starts, with their names.
+/// Methods that say where each one starts, with their names.
 #[derive(Clone, Debug, PartialEq, Eq)]
 pub struct Code {
     pub methods: Vec<Method>,
     pub names: Vec<MethodNames>,
-    pub written: Written,
+    pub written: Origin,
 }
 
 /// An instruction, by its method and its number in it, by its number over the
@@ -36,7 +36,7 @@ pub struct Site {
     pub instruction: usize,
     /// Over the table.
     pub place: usize,
-    pub written: Option<(Place, Written)>,
+    pub written: Option<(Place, Origin)>,
     pub text: String,
 }
 
@@ -45,7 +45,7 @@ impl Code {
     /// those of the listing, where it can be listed.
     pub fn of_table(methods: Vec<Method>) -> Code {
         let names = listing(&methods).names;
-        Code { methods, names, written: Written::Listing }
+        Code { methods, names, written: Origin::Listing }
     }
 
     /// An instruction's method and its number in it.
@@ -106,8 +106,8 @@ impl fmt::Display for Site {
     fn fmt(&self, f: &mut fmt::Formatter) -> fmt::Result {
         let Site { method_name, instruction, place, text, .. } = self;
         let line = match self.written {
-            Some((place, Written::Text)) => format!(", line {}", place.line),
-            Some((place, Written::Listing)) => format!(", line {} of the listing", place.line),
+            Some((place, Origin::Text)) => format!(", line {}", place.line),
+            Some((place, Origin::Listing)) => format!(", line {} of the listing", place.line),
             None => String::new(),
         };
         write!(f, "{method_name} {instruction} (table {place}{line}): {text}")

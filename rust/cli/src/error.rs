@@ -3,7 +3,7 @@
 
 use std::fmt;
 
-use crate::refused::Refused;
+use crate::case_refusal::CaseRefusal;
 
 /// A place in a text. Lines and columns count from 1, columns in characters.
 #[derive(Clone, Copy, Debug, PartialEq, Eq)]
@@ -46,13 +46,13 @@ impl fmt::Display for Error {
     }
 }
 
-/// Why a command was not done; told on standard error.
+/// Why a command was not done; printed on standard error.
 #[derive(Clone, Debug, PartialEq, Eq)]
 pub enum Failure {
     /// A wrong call: exit status 2.
     Call(String),
     /// The input is refused: exit status 1.
-    Refused(Box<Refused>),
+    Refused(Box<CaseRefusal>),
     /// Anything else: exit status 1.
     Said(String),
 }

@@ -5,7 +5,7 @@
 use data::{Configuration, Line, Run};
 
 use crate::holders::Holders;
-use crate::input::case::{Case, Given};
+use crate::input::case::{Case, CaseOptions};
 use crate::machine::Runner;
 use crate::progress::Progress;
 
@@ -24,7 +24,7 @@ pub struct Step<'s> {
 }
 
 /// Visits the entries that a run has used, in their order.
-pub fn each_step(given: &Given, case: &Case, run: &Run, mut visit: impl FnMut(&Step)) {
+pub fn each_step(given: &CaseOptions, case: &Case, run: &Run, mut visit: impl FnMut(&Step)) {
     let mut runner = given.runner(case);
     let mut before = configuration(case, &mut runner, 0);
     let mut lines = run.lines.as_slice();

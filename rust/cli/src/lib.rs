@@ -5,9 +5,9 @@
 //! - [`asm`]: the assembler's text; [`names`], [`code`]: a program's names, and
 //!   where each instruction stands
 //! - [`machine`]: the proved library, or the model where it is asked for
-//! - [`refused`]: refusals in words
+//! - [`case_refusal`]: refusals in words
 //! - [`explain`]: a run in words, with [`sentence`], [`holders`], [`history`],
-//!   [`standing`] and [`emptied`]
+//!   [`readiness`] and [`empty_cells`]
 //! - [`timeline`]: a run as a drawing, in [`svg`]
 //! - [`report`]: a run for other programs, in [`json`]
 //! - [`batch`]: every case of a directory; [`progress`]: how far it has come
@@ -18,9 +18,10 @@
 
 pub mod asm;
 pub mod batch;
+pub mod case_refusal;
 pub mod code;
 pub mod commands;
-pub mod emptied;
+pub mod empty_cells;
 pub mod error;
 pub mod explain;
 pub mod history;
@@ -31,9 +32,8 @@ pub mod machine;
 pub mod names;
 pub mod options;
 pub mod progress;
-pub mod refused;
+pub mod readiness;
 pub mod report;
 pub mod sentence;
-pub mod standing;
 pub mod svg;
 pub mod timeline;

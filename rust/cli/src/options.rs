@@ -4,7 +4,7 @@
 use std::path::PathBuf;
 
 use crate::error::{Error, Failure};
-use crate::input::case::{outcomes_file, schedule_file, Given};
+use crate::input::case::{outcomes_file, schedule_file, CaseOptions};
 use crate::input::numbers;
 use crate::machine::Machine;
 
@@ -118,11 +118,11 @@ impl Arguments {
     }
 
     /// The case that the options give; its file or directory is a word.
-    pub fn given(&self, path: Option<&str>) -> Result<Given, Failure> {
+    pub fn given(&self, path: Option<&str>) -> Result<CaseOptions, Failure> {
         let from_text = |name: &str, error: Error| Failure::Call(format!("{name}:{error}"));
         let schedule = self.value("--schedule").map(numbers::schedule).transpose();
         let outcomes = self.value("--outcomes").map(numbers::outcomes).transpose();
-        let mut given = Given {
+        let mut given = CaseOptions {
             path: path.map(PathBuf::from),
             program: self.value("--program").map(PathBuf::from),
             schedule: schedule.map_err(|error| from_text("--schedule", error))?,
@@ -146,7 +146,7 @@ impl Arguments {
     }
 
     /// The case of a command that takes one, by a word or by options alone.
-    pub fn one_case(&self) -> Result<Given, Failure> {
+    pub fn one_case(&self) -> Result<CaseOptions, Failure> {
         match (self.words.as_slice(), self.has("--program")) {
             ([path], _) => self.given(Some(path)),
             ([], true) => self.given(None),

@@ -4,12 +4,12 @@
 use data::{Frame, Line, Process, Run, State, Value};
 
 use crate::asm::list::items;
+use crate::case_refusal::{CaseRefusal, RefusalPlace};
 use crate::code::{Code, Site};
 use crate::holders::Holders;
 use crate::input::case::Case;
 use crate::json::Json;
 use crate::machine::Machine;
-use crate::refused::{At, Refused};
 
 /// Rises where a key changes its meaning.
 pub const FORMAT: u16 = 1;
@@ -17,9 +17,9 @@ pub const FORMAT: u16 = 1;
 pub const VERSION: &str = env!("CARGO_PKG_VERSION");
 
 /// What a case brought about.
-pub type Result<'r> = std::result::Result<&'r Run, &'r Refused>;
+pub type Result<'r> = std::result::Result<&'r Run, &'r CaseRefusal>;
 
-/// How much of a run is told.
+/// How much of a run is reported.
 #[derive(Clone, Copy, Debug, PartialEq, Eq)]
 pub enum Detail {
     /// The answer and the faults.
@@ -60,7 +60,7 @@ pub fn case_json(
 }
 
 /// The object of a file that no case could be read from, being built otherwise.
-pub fn file_json(name: &str, machine: Machine, refused: &Refused) -> Json {
+pub fn file_json(name: &str, machine: Machine, refused: &CaseRefusal) -> Json {
     Json::object([
         ("case", Json::text(name)),
         ("format", Json::number(FORMAT)),
@@ -71,11 +71,13 @@ pub fn file_json(name: &str, machine: Machine, refused: &Refused) -> Json {
 }
 
 /// Number, place and rule, with the method and the instruction.
-fn refused_json(refused: &Refused) -> Json {
+fn refused_json(refused: &CaseRefusal) -> Json {
     let (method, name, instruction, written) = match &refused.at {
-        At::Method { method, name, header } => (Some(*method), Some(name), None, *header),
-        At::Instruction(site) => (Some(site.method), Some(&site.method_name), Some(site.instruction), site.written),
-        At::Nowhere | At::Outcome(_) => (None, None, None, None),
+        RefusalPlace::Method { method, name, header } => (Some(*method), Some(name), None, *header),
+        RefusalPlace::Instruction(site) => {
+            (Some(site.method), Some(&site.method_name), Some(site.instruction), site.written)
+        }
+        RefusalPlace::Nowhere | RefusalPlace::Outcome(_) => (None, None, None, None),
     };
     Json::object([
         ("number", Json::number(refused.refusal.number())),
@@ -129,7 +131,7 @@ fn whole_keys(case: &Case, run: &Run) -> Vec<(&'static str, Json)> {
     ]
 }
 
-/// The six columns, unused ones null, and what the line tells.
+/// The six columns, unused ones null, and what the line says.
 fn line_json(line: &Line) -> Json {
     let [a, b, c] = line.columns().map(|column| Json::or_null(column, Json::number));
     Json::object([
@@ -196,7 +198,7 @@ pub fn digest(case: &Case, room: Option<usize>) -> String {
 }
 
 /// A trace with commas: a line of names, then the six columns and what the line
-/// tells; unused columns are empty.
+/// says; unused columns are empty.
 pub fn csv(lines: &[Line]) -> String {
     let mut text = "entry,process,kind,a,b,c,event\n".to_string();
     for line in lines {

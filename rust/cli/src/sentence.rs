@@ -1,4 +1,4 @@
-//! What a line tells, in a sentence.
+//! What a line says, in a sentence.
 
 use data::{Event, Gate, Line, NO_CLICK};
 
@@ -6,14 +6,14 @@ use crate::code::Code;
 
 /// A line in words.
 pub fn sentence(line: &Line, code: &Code) -> String {
-    let tells = match line.event() {
+    let says = match line.event() {
         None => format!("writes a line of kind {}", line.kind),
-        Some(event) => tells(event, code),
+        Some(event) => words(event, code),
     };
-    format!("process {} {tells}", line.process)
+    format!("process {} {says}", line.process)
 }
 
-fn tells(event: Event, code: &Code) -> String {
+fn words(event: Event, code: &Code) -> String {
     match event {
         Event::QubitMade { qubit } => format!("makes qubit {qubit}"),
         Event::ChannelMade { channel } => format!("makes channel {channel}"),

@@ -203,7 +203,7 @@ impl<'r> Drawing<'r> {
         }
     }
 
-    /// What the lines tell, each at its column.
+    /// What the lines say, each at its column.
     fn marks(&mut self) {
         for line in &self.run.lines {
             if let (Some(column), Some(event)) = (self.column(line), line.event()) {

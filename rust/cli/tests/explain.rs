@@ -7,7 +7,7 @@ use std::fs;
 use cli::code::Code;
 use cli::explain::explain;
 use cli::holders::Holders;
-use cli::input::case::{Case, Given};
+use cli::input::case::{Case, CaseOptions};
 use cli::input::file::Parts;
 use cli::sentence::sentence;
 use common::{assembled, bytes, example, examples, lanq, lanq_in, write};
@@ -41,7 +41,7 @@ fn case_of_file(file: &[u8]) -> Option<Case> {
 }
 
 /// As the printing program runs it.
-const PRINTED: Given = Given {
+const PRINTED: CaseOptions = CaseOptions {
     path: None,
     program: None,
     schedule: None,
@@ -366,7 +366,7 @@ fn who_waits_for_whom() {
     assert!(cut.contains("\nprocess 0 is able to move\n") && cut.contains(waits), "{cut}");
 }
 
-/// Two that wait for each other: end 2, and each is told of.
+/// Two that wait for each other: end 2, and each is explained.
 #[test]
 fn waiting_for_each_other() {
     let text = WAITING.replace(

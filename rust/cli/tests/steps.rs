@@ -6,16 +6,16 @@ mod common;
 use std::collections::BTreeSet;
 
 use cli::code::Code;
-use cli::emptied::{By, Cell, Emptied};
+use cli::empty_cells::{Cause, Cell, EmptyCells};
 use cli::history::each_step;
-use cli::input::case::{Case, Given};
-use cli::input::made::make;
+use cli::input::case::{Case, CaseOptions};
+use cli::input::make::make;
 use cli::input::numbers::Schedule;
-use cli::standing::{standing, Standing};
+use cli::readiness::{readiness, Readiness};
 use data::{Configuration, End, Line, Value};
 use generate::case;
 use lanq::Program;
-use model::machine::{Machine, Standing as Models};
+use model::machine::{Machine, Readiness as Models};
 
 /// A generated case that runs.
 fn running(seed: u64) -> Option<Case> {
@@ -30,7 +30,7 @@ fn running(seed: u64) -> Option<Case> {
         made: None,
         unscheduled: false,
     };
-    Given::default().run(&case).is_ok().then_some(case)
+    CaseOptions::default().run(&case).is_ok().then_some(case)
 }
 
 fn code(case: &Case) -> &Code {
@@ -38,19 +38,19 @@ fn code(case: &Case) -> &Code {
 }
 
 /// The model's word for how a process stands.
-fn as_models(standing: Standing) -> &'static str {
-    match standing {
-        Standing::NotStarted => "not started",
-        Standing::Finished => "finished",
-        Standing::Stopped(_) => "stopped",
-        Standing::Waits(_) => "waits",
-        Standing::Gone(_) => "gone",
-        Standing::Moves => "moves",
+fn as_models(readiness: Readiness) -> &'static str {
+    match readiness {
+        Readiness::NotStarted => "not started",
+        Readiness::Finished => "finished",
+        Readiness::Stopped(_) => "stopped",
+        Readiness::Waits(_) => "waits",
+        Readiness::Gone(_) => "gone",
+        Readiness::Moves => "moves",
     }
 }
 
 fn of_model(machine: &Machine, number: usize) -> &'static str {
-    match machine.standing(number) {
+    match machine.readiness(number) {
         Models::NotStarted => "not started",
         Models::Finished => "finished",
         Models::Stopped => "stopped",
@@ -62,7 +62,7 @@ fn of_model(machine: &Machine, number: usize) -> &'static str {
 
 #[test]
 fn steps_and_standings_are_the_models() {
-    let given = Given::default();
+    let given = CaseOptions::default();
     let mut seen = BTreeSet::new();
     for case in (0..150).filter_map(running) {
         let run = given.run(&case).expect("it runs");
@@ -71,7 +71,7 @@ fn steps_and_standings_are_the_models() {
         each_step(&given, &case, &run, |step| {
             assert_eq!(*step.before, machine.config, "{}", case.name);
             for number in 0..9 {
-                let ours = as_models(standing(code(&case), step.before, step.holders, number));
+                let ours = as_models(readiness(code(&case), step.before, step.holders, number));
                 assert_eq!(ours, of_model(&machine, number), "{}", case.name);
                 seen.insert(ours);
             }
@@ -93,15 +93,15 @@ fn value(configuration: &Configuration, process: usize, frame: usize, cell: Cell
     }
 }
 
-/// What is told to be emptied is empty, was not before that entry, and each
+/// What is said to be emptied is empty, was not before that entry, and each
 /// giving has its line. Nothing that was emptied is left out.
 #[test]
 fn what_is_emptied() {
-    let given = Given::default();
+    let given = CaseOptions::default();
     let mut met = BTreeSet::new();
     for case in (0..150).filter_map(running) {
         let run = given.run(&case).expect("it runs");
-        let mut emptied = Emptied::default();
+        let mut emptied = EmptyCells::default();
         each_step(&given, &case, &run, |step| {
             let old = emptied.clone();
             emptied.read(step);
@@ -120,8 +120,8 @@ fn what_is_emptied() {
                             let why = why.unwrap_or_else(|| panic!("{}: nothing said of {cell:?}", case.name));
                             assert_eq!((why.entry, Some(why.value)), (step.entry, before));
                             met.insert(match why.by {
-                                By::Clear => "clear",
-                                By::Giving { thing, to } => {
+                                Cause::Clear => "clear",
+                                Cause::Giving { thing, to } => {
                                     let line = data::Event::Gave { to, thing }.line(step.entry as u16, process as u16);
                                     assert!(step.lines.contains(&line), "{}", case.name);
                                     "giving"
@@ -147,14 +147,14 @@ fn without_entries(lines: &[Line]) -> Vec<Line> {
 /// that the processes in turn come to, with the same lines at other entries.
 #[test]
 fn until_stuck() {
-    let given = Given::default();
+    let given = CaseOptions::default();
     let mut ends = BTreeSet::new();
     let mut idle_free = 0;
     for mut case in (0..120).filter_map(running) {
-        let Ok(made) = make(&Schedule::UntilStuck, &case, &Given::default()) else {
+        let Ok(made) = make(&Schedule::UntilStuck, &case, &CaseOptions::default()) else {
             continue;
         };
-        let turns = make(&Schedule::RoundRobin(65_535), &case, &Given::default()).expect("a schedule");
+        let turns = make(&Schedule::RoundRobin(65_535), &case, &CaseOptions::default()).expect("a schedule");
         case.schedule = turns.entries;
         let in_turn = given.run(&case).expect("it runs");
         case.schedule = made.entries;
@@ -163,7 +163,7 @@ fn until_stuck() {
         assert_eq!(without_entries(&run.lines), without_entries(&in_turn.lines), "{}", case.name);
         assert_eq!(run.configuration, in_turn.configuration, "{}", case.name);
         each_step(&given, &case, &run, |step| {
-            assert!(standing(code(&case), step.before, step.holders, usize::from(step.process)).is_able());
+            assert!(readiness(code(&case), step.before, step.holders, usize::from(step.process)).is_able());
         });
         ends.insert(run.end);
         idle_free += 1;
@@ -178,7 +178,7 @@ fn made_schedules_can_be_given() {
     for case in (0..60).filter_map(running) {
         for asked in [Schedule::RoundRobin(1), Schedule::RoundRobin(7), Schedule::RoundRobin(100), Schedule::UntilStuck]
         {
-            let Ok(made) = make(&asked, &case, &Given::default()) else { continue };
+            let Ok(made) = make(&asked, &case, &CaseOptions::default()) else { continue };
             let read = cli::input::numbers::schedule(&made.written);
             assert_eq!(read, Ok(Schedule::Entries(made.entries)), "{}", made.written);
         }

@@ -96,7 +96,7 @@ fn marks_of_the_given_run() {
     assert!(svg.contains("<title>17 0 10 20 - -\nprocess 0 stops by fault 20: "));
 }
 
-/// A measurement without a click is told from the outcomes.
+/// A measurement without a click differs from the outcomes.
 #[test]
 fn no_click() {
     let svg = lanq(&["timeline", "teleport.lqa", "--outcomes", "120"]).quiet();

@@ -4,7 +4,7 @@
 
 pub mod inputs;
 pub mod layout;
-pub mod left;
+pub mod result;
 pub mod traces;
 
 use data::Refusal;

@@ -8,9 +8,9 @@ use generate::{case, Random};
 
 /// How often each refusal number was met, 0 for acceptance.
 #[derive(Default)]
-struct Met(BTreeMap<u16, u64>);
+struct Counts(BTreeMap<u16, u64>);
 
-impl Met {
+impl Counts {
     fn compare(&mut self, seed: u64, case: &generate::Case) {
         let (library, model) = verdicts(case);
         assert_eq!(library, model, "seed {seed}");
@@ -26,7 +26,7 @@ impl Met {
 
 #[test]
 fn generated_cases_agree() {
-    let mut met = Met::default();
+    let mut met = Counts::default();
     for seed in 0..12_000 {
         met.compare(seed, &case(seed));
     }
@@ -37,7 +37,7 @@ fn generated_cases_agree() {
 /// special kind: most of these are refused, by every question from 1 to 5.
 #[test]
 fn changed_words_agree() {
-    let mut met = Met::default();
+    let mut met = Counts::default();
     for seed in 0..8_000 {
         let mut case = case(seed);
         if case.program.is_empty() {

@@ -7,7 +7,7 @@ use std::fs;
 use std::path::{Path, PathBuf};
 
 use data::program::op;
-use data::{Carried, End, Event, Fault, Gate, Question, Side, Thing, Type, UNUSED};
+use data::{CarriedType, End, Event, Fault, Gate, Question, Side, Thing, Type, UNUSED};
 
 /// The repository's root.
 fn root() -> PathBuf {
@@ -271,7 +271,7 @@ fn the_machines_numbers_are_ours() {
     assert!(faults.iter().zip(Fault::ALL).all(|(row, fault)| row[1] == fault.to_string()));
     let gates: Vec<String> = Gate::ALL.iter().map(|gate| format!("{} {gate}", gate.number())).collect();
     assert!(machine.contains(&format!("Gates: {}.", gates.join(", "))));
-    for carried in Carried::ALL {
+    for carried in CarriedType::ALL {
         let [channel, end] = [Type::Channel(carried), Type::End(carried)].map(|kind| kind.number().to_string());
         let types = table(&machine, "| type | is |");
         assert!(types.iter().any(|row| row[0].ends_with(&channel) || row[0].contains(&format!("{channel}, "))));

@@ -72,24 +72,24 @@ fn station(forks: &[(u16, u16)], random: &mut Random) -> Method {
 
 /// A run with all that it leaves in its buffers, which held other words before.
 #[derive(Clone, Debug, PartialEq, Eq)]
-struct Ran {
+struct LibraryRun {
     answer: Answer,
     trace: Vec<u16>,
     work: Vec<u32>,
 }
 
-impl Ran {
+impl LibraryRun {
     fn lines(&self) -> &[Line] {
         &lines(&self.trace)[..self.answer.lines]
     }
 }
 
 /// The library's run of a case on a schedule, where the case is not refused.
-fn ran(case: &Case, schedule: &[u8]) -> Option<Ran> {
+fn ran(case: &Case, schedule: &[u8]) -> Option<LibraryRun> {
     let mut trace = vec![9; case.trace_len];
     let mut work = vec![9; case.work_len];
     let answer = run_in(&case.program, schedule, &case.outcomes, &mut trace, &mut work).ok()?;
-    Some(Ran { answer, trace, work })
+    Some(LibraryRun { answer, trace, work })
 }
 
 /// The configuration before an entry: the run on the entries before it leaves it.
@@ -100,13 +100,13 @@ fn before(case: &Case, schedule: &[u8], entry: usize) -> Configuration {
 
 /// What an entry did.
 #[derive(Clone, Copy, Debug, PartialEq, Eq, PartialOrd, Ord)]
-struct Moved {
+struct Move {
     op: u16,
     /// The process runs on.
     goes_on: bool,
 }
 
-impl Moved {
+impl Move {
     /// Whether the paper lets such an entry change places.
     fn may_change_places(self) -> bool {
         self.goes_on && !matches!(self.op, NEWQ | NEWC | MEAS | FORK | SEND | RECV)
@@ -122,18 +122,18 @@ impl Moved {
 
 /// The op at which an entry's process stood, between these configurations. At
 /// SEND and RECV it may have waited; at every other op one that runs moves.
-fn moved(case: &Case, process: u8, before: &Configuration, after: &Configuration) -> Option<Moved> {
+fn moved(case: &Case, process: u8, before: &Configuration, after: &Configuration) -> Option<Move> {
     let number = usize::from(process);
     let runs = before.processes.get(number).filter(|process| process.runs())?;
     let methods = usize::from(case.program[0]);
     let op = case.program[2 + 20 * methods + 2 * runs.top()?.place];
     let moves = !matches!(op, SEND | RECV) || before != after;
-    moves.then(|| Moved { op, goes_on: after.processes[number].runs() })
+    moves.then(|| Move { op, goes_on: after.processes[number].runs() })
 }
 
 /// What two neighbouring entries of different processes did, if both were taken
 /// and both moved.
-fn neighbours(case: &Case, schedule: &[u8], ran: &Ran, first: usize) -> Option<[Moved; 2]> {
+fn neighbours(case: &Case, schedule: &[u8], ran: &LibraryRun, first: usize) -> Option<[Move; 2]> {
     if first + 1 >= ran.answer.entries || schedule[first] == schedule[first + 1] {
         return None;
     }
@@ -163,7 +163,7 @@ fn lines_exchanged(lines: &[Line], first: usize) -> Vec<Line> {
 
 /// The run after an exchange is the run before it, with the lines of the two
 /// entries exchanged.
-fn is_the_same_but_for_two_entries(before: &Ran, after: &Ran, first: usize) {
+fn is_the_same_but_for_two_entries(before: &LibraryRun, after: &LibraryRun, first: usize) {
     assert_eq!(after.answer, before.answer);
     assert!(after.work == before.work, "the work stores differ");
     assert_eq!(after.lines(), lines_exchanged(before.lines(), first));
@@ -173,7 +173,7 @@ fn is_the_same_but_for_two_entries(before: &Ran, after: &Ran, first: usize) {
 
 /// Exchanges random neighbours of a case, each in the schedule that the exchange
 /// before has left. Answers what was exchanged.
-fn exchange_many(case: &Case, random: &mut Random) -> Vec<[Moved; 2]> {
+fn exchange_many(case: &Case, random: &mut Random) -> Vec<[Move; 2]> {
     let mut done = Vec::new();
     let Some(start) = ran(case, &case.schedule) else {
         return done;
@@ -205,7 +205,7 @@ fn exchanged_entries_leave_the_same() {
     for (case, mut random) in cases() {
         let done = exchange_many(&case, &mut random);
         for both in &done {
-            *kinds.entry(both.map(Moved::kind)).or_default() += 1;
+            *kinds.entry(both.map(Move::kind)).or_default() += 1;
             both.iter().for_each(|one| *ops.entry(one.op).or_default() += 1);
         }
         all += done.len();
@@ -217,7 +217,7 @@ fn exchanged_entries_leave_the_same() {
     }
     assert!(most > 20, "at most {most} exchanges one after the other");
     // Every op that the paper leaves took part.
-    for number in (1..=23).filter(|op| Moved { op: *op, goes_on: true }.may_change_places()) {
+    for number in (1..=23).filter(|op| Move { op: *op, goes_on: true }.may_change_places()) {
         let name = op::name(number).expect("a listed op");
         let count = ops.get(&number).copied().unwrap_or(0);
         println!("{count:8} {name}");

@@ -8,7 +8,7 @@ use std::process::Command;
 
 use data::program::{op, MOST_INSTRUCTIONS, MOST_METHODS};
 use data::{
-    Carried, End, Event, Fault, Gate, Question, Side, Thing, Type, LINE_WORDS, NO_CLICK, SLOTS, UNUSED, WORK_WORDS,
+    CarriedType, End, Event, Fault, Gate, Question, Side, Thing, Type, LINE_WORDS, NO_CLICK, SLOTS, UNUSED, WORK_WORDS,
 };
 
 /// What examples/given-whole.c prints: the run that document 01 gives whole,
@@ -154,7 +154,7 @@ fn numbers() -> Vec<(String, usize)> {
     for (name, number) in op::NAMES.iter().zip(1..) {
         add(&format!("OP_{name}"), number);
     }
-    for carried in Carried::ALL {
+    for carried in CarriedType::ALL {
         let name = carried.to_string().to_uppercase();
         add(&format!("CARRIES_{name}"), carried.number().into());
         add(&format!("TYPE_{name}"), carried.as_type().number().into());

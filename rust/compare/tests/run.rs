@@ -11,13 +11,13 @@ use std::ops::Range;
 use std::time::Instant;
 
 use compare::inputs::{input, shortest};
-use compare::left::{by_library, by_model, difference, Buffers};
+use compare::result::{by_library, by_model, difference, Buffers};
 use data::{Answer, Refusal, WORK_WORDS};
-use generate::{observe, Case, Coverage, Mark, Random, Stored};
+use generate::{observe, Case, Coverage, Mark, Random, StoredHolder};
 
 /// What the inputs have brought about.
 #[derive(Default)]
-struct Met {
+struct Totals {
     coverage: Coverage,
     /// Accepted and refused, by how the store's length stands to what is asked.
     lengths: BTreeMap<(bool, std::cmp::Ordering), u64>,
@@ -36,7 +36,7 @@ fn both(number: u64, case: &Case, coverage: &mut Coverage) -> (Result<Answer, Re
     (library.answer, difference)
 }
 
-fn compare(number: u64, case: &Case, met: &mut Met) {
+fn compare(number: u64, case: &Case, met: &mut Totals) {
     let (answer, difference) = both(number, case, &mut met.coverage);
     if let Some(difference) = difference {
         let differs = |case: &Case| both(number, case, &mut Coverage::new()).1.is_some();
@@ -54,9 +54,9 @@ fn compare(number: u64, case: &Case, met: &mut Met) {
 /// among it every op, gate, fault at every op that has it, end, kind of line,
 /// refusal, the meetings of int, boolean and qubit, and the ways in which a
 /// stored holder comes about.
-fn all_met(met: &Met) {
+fn all_met(met: &Totals) {
     assert_eq!(met.coverage.missing(), []);
-    for stored in Stored::ALL {
+    for stored in StoredHolder::ALL {
         assert!(met.coverage.count(Mark::Stored(stored)) > 100, "{stored:?}");
     }
     for op in 1..=23 {
@@ -71,7 +71,7 @@ fn all_met(met: &Met) {
 
 fn agree(numbers: Range<u64>) {
     let count = numbers.end - numbers.start;
-    let mut met = Met::default();
+    let mut met = Totals::default();
     let (first, begun) = (numbers.start, Instant::now());
     for number in numbers {
         compare(number, &input(number), &mut met);

@@ -11,7 +11,7 @@ use model::lookup::{decided, look_up, same_lines, whole_lines};
 
 /// How a look-up came to its answer.
 #[derive(Clone, Copy, Debug, PartialEq, Eq, PartialOrd, Ord)]
-enum Decided {
+enum LookUpCase {
     /// By a line of this kind, the last of the first k or an earlier one.
     By { kind: u16, last: bool },
     /// By a line that names 65535.
@@ -24,9 +24,9 @@ enum Decided {
 
 /// How often each was met, by how k stands to the number of lines.
 #[derive(Default)]
-struct Met(BTreeMap<(Decided, Ordering), u64>);
+struct Counts(BTreeMap<(LookUpCase, Ordering), u64>);
 
-impl Met {
+impl Counts {
     /// Looks up whatever is asked, on both sides.
     fn look_ups_agree(&mut self, trace: &[u16]) {
         let lines = whole_lines(trace);
@@ -36,28 +36,28 @@ impl Met {
             let first = &lines[..k.min(lines.len())];
             let stopped = first.get(first.len() - model.read).filter(|line| decided(line, qubit).is_some());
             let how = match stopped {
-                Some(_) if model.holder.is_none() => Decided::ForNobody,
-                Some(line) => Decided::By { kind: line.kind, last: model.read == 1 },
-                None if first.is_empty() => Decided::NoLine,
-                None => Decided::Never,
+                Some(_) if model.holder.is_none() => LookUpCase::ForNobody,
+                Some(line) => LookUpCase::By { kind: line.kind, last: model.read == 1 },
+                None if first.is_empty() => LookUpCase::NoLine,
+                None => LookUpCase::Never,
             };
             *self.0.entry((how, k.cmp(&lines.len()))).or_default() += 1;
         }
     }
 
-    fn count(&self, how: Decided, k: Ordering) -> u64 {
+    fn count(&self, how: LookUpCase, k: Ordering) -> u64 {
         self.0.get(&(how, k)).copied().unwrap_or(0)
     }
 }
 
 /// Every way to an answer, with too few lines, just enough and too many asked
 /// for.
-fn ways() -> Vec<(Decided, Ordering)> {
-    let mut ways = vec![(Decided::NoLine, Ordering::Less)];
+fn ways() -> Vec<(LookUpCase, Ordering)> {
+    let mut ways = vec![(LookUpCase::NoLine, Ordering::Less)];
     for k in [Ordering::Less, Ordering::Equal, Ordering::Greater] {
-        ways.push((Decided::Never, k));
+        ways.push((LookUpCase::Never, k));
         for kind in [1, 6] {
-            ways.extend([false, true].map(|last| (Decided::By { kind, last }, k)));
+            ways.extend([false, true].map(|last| (LookUpCase::By { kind, last }, k)));
         }
     }
     ways
@@ -71,14 +71,14 @@ fn same_lines_agree(a: &[u16], b: &[u16]) -> bool {
 
 #[test]
 fn look_ups_agree_on_any_words() {
-    let mut met = Met::default();
+    let mut met = Counts::default();
     let mut parts = 0;
     for seed in 0..TRACES {
         let words = trace(seed);
         parts += usize::from(!words.len().is_multiple_of(LINE_WORDS));
         met.look_ups_agree(&words);
     }
-    for (how, k) in ways().into_iter().chain([(Decided::ForNobody, Ordering::Equal)]) {
+    for (how, k) in ways().into_iter().chain([(LookUpCase::ForNobody, Ordering::Equal)]) {
         assert!(met.count(how, k) > 50, "{how:?}, {k:?}: {:?}", met.0);
     }
     assert!(parts > 100, "{parts} traces have a part of a line");
@@ -86,7 +86,7 @@ fn look_ups_agree_on_any_words() {
 
 #[test]
 fn look_ups_agree_on_runs() {
-    let mut met = Met::default();
+    let mut met = Counts::default();
     for seed in 0..400 {
         let case = case(seed);
         let run = model::check_and_run(&case.program, &case.schedule, &case.outcomes, case.trace_len, case.work_len);

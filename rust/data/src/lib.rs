@@ -3,13 +3,13 @@
 //!
 //! Nothing here says what the machine does. A type has the numbers that
 //! document 01 gives to its cases, and words for them; how a run comes about is
-//! told by the model and, apart from it, by the proved library. "01" in a
+//! said by the model and, apart from it, by the proved library. "01" in a
 //! comment means that document, "Paper 3" the third paper of document 02; words
 //! in quotation marks are taken from them.
 //!
 //! - [`refusal`]: the questions, and a refusal
 //! - [`run`]: ends, the answer of a run, and a run with all it leaves
-//! - [`mod@line`]: trace lines and what they tell
+//! - [`mod@line`]: trace lines and what they say
 //! - [`look_up`]: what the look-up of a holder answers
 //! - [`configuration`]: values, frames, processes, holders
 //! - [`fault`]: what stops a process
@@ -39,7 +39,7 @@ pub use line::{Event, Line, LINE_WORDS, NO_CLICK, UNUSED};
 pub use look_up::LookUp;
 pub use refusal::{Question, Refusal};
 pub use run::{Answer, End, Run};
-pub use types::{Carried, Gate, Side, Type};
+pub use types::{CarriedType, Gate, Side, Type};
 
 /// The case of an enum that has this number.
 fn numbered<T: Copy>(all: &[T], number: impl Fn(T) -> u16, wanted: u16) -> Option<T> {

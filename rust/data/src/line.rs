@@ -40,7 +40,7 @@ impl Line {
         Line { entry, process, kind, a, b, c }
     }
 
-    /// What the line tells; nothing where its numbers are not those of a line
+    /// What the line says; nothing where its numbers are not those of a line
     /// that a run writes.
     pub fn event(self) -> Option<Event> {
         let event = Event::read(self)?;
@@ -70,7 +70,7 @@ impl fmt::Display for Line {
     }
 }
 
-/// What a line tells: one case for each of the ten kinds. The process is the
+/// What a line says: one case for each of the ten kinds. The process is the
 /// line's own.
 #[derive(Clone, Copy, Debug, PartialEq, Eq)]
 pub enum Event {
@@ -136,7 +136,7 @@ impl Event {
         }
     }
 
-    /// The event that a line's used columns tell.
+    /// The event that a line's used columns say.
     fn read(line: Line) -> Option<Event> {
         let Line { kind, a, b, c, .. } = line;
         Some(match kind {

@@ -85,7 +85,7 @@ impl Run {
         Answer { end: self.end, entries: self.entries, lines: self.lines.len(), outcomes: self.outcomes }
     }
 
-    /// The lines with what they tell.
+    /// The lines with what they say.
     pub fn events(&self) -> impl Iterator<Item = (Line, Event)> + '_ {
         self.lines.iter().filter_map(|line| Some((*line, line.event()?)))
     }

@@ -11,12 +11,12 @@ pub struct Record {
     /// What it shows.
     pub why: &'static str,
     pub text: Vec<u8>,
-    pub answer: Expected,
+    pub answer: Expectation,
 }
 
 /// What a text is answered.
 #[derive(Clone, Debug, PartialEq, Eq)]
-pub enum Expected {
+pub enum Expectation {
     Refused {
         number: u16,
         place: usize,
@@ -38,7 +38,7 @@ pub fn records() -> Vec<Record> {
 }
 
 fn record(part: &'static str) -> Record {
-    let mut record = Record { point: 0, why: "", text: Vec::new(), answer: Expected::Accepted };
+    let mut record = Record { point: 0, why: "", text: Vec::new(), answer: Expectation::Accepted };
     for line in part.lines() {
         let (key, rest) = line.split_once(' ').unwrap_or((line, ""));
         match key {
@@ -63,18 +63,18 @@ fn numbers(words: &str) -> Vec<u16> {
     words.split_whitespace().map(number).collect()
 }
 
-fn refused(rest: &str) -> Expected {
+fn refused(rest: &str) -> Expectation {
     let (what, place) = rest.split_once(' ').expect("number and place");
-    Expected::Refused { number: number(what), place: number(place) }
+    Expectation::Refused { number: number(what), place: number(place) }
 }
 
-fn with_method(answer: Expected, method: Method) -> Expected {
+fn with_method(answer: Expectation, method: Method) -> Expectation {
     match answer {
-        Expected::Methods(mut methods) => {
+        Expectation::Methods(mut methods) => {
             methods.push(method);
-            Expected::Methods(methods)
+            Expectation::Methods(methods)
         }
-        _ => Expected::Methods(vec![method]),
+        _ => Expectation::Methods(vec![method]),
     }
 }
 

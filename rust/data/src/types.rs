@@ -7,19 +7,19 @@ use crate::numbered;
 
 /// What a channel carries: "T is 1, 2 or 3".
 #[derive(Clone, Copy, Debug, PartialEq, Eq, PartialOrd, Ord, Hash)]
-pub enum Carried {
+pub enum CarriedType {
     Int = 1,
     Bool = 2,
     Qubit = 3,
 }
 
-impl Carried {
+impl CarriedType {
     /// All of them, by their numbers.
-    pub const ALL: [Carried; 3] = [Carried::Int, Carried::Bool, Carried::Qubit];
+    pub const ALL: [CarriedType; 3] = [CarriedType::Int, CarriedType::Bool, CarriedType::Qubit];
 
     /// Reads T.
-    pub fn read(word: u16) -> Option<Carried> {
-        numbered(&Carried::ALL, Carried::number, word)
+    pub fn read(word: u16) -> Option<CarriedType> {
+        numbered(&CarriedType::ALL, CarriedType::number, word)
     }
 
     /// 01's number of it.
@@ -30,14 +30,14 @@ impl Carried {
     /// The type of a carried value.
     pub fn as_type(self) -> Type {
         match self {
-            Carried::Int => Type::Int,
-            Carried::Bool => Type::Bool,
-            Carried::Qubit => Type::Qubit,
+            CarriedType::Int => Type::Int,
+            CarriedType::Bool => Type::Bool,
+            CarriedType::Qubit => Type::Qubit,
         }
     }
 }
 
-impl fmt::Display for Carried {
+impl fmt::Display for CarriedType {
     fn fmt(&self, f: &mut fmt::Formatter) -> fmt::Result {
         self.as_type().fmt(f)
     }
@@ -51,8 +51,8 @@ pub enum Type {
     Int,
     Bool,
     Qubit,
-    Channel(Carried),
-    End(Carried),
+    Channel(CarriedType),
+    End(CarriedType),
 }
 
 impl Type {
@@ -63,8 +63,8 @@ impl Type {
             1 => Some(Type::Int),
             2 => Some(Type::Bool),
             3 => Some(Type::Qubit),
-            16..=31 => Carried::read(word - 16).map(Type::Channel),
-            32..=47 => Carried::read(word - 32).map(Type::End),
+            16..=31 => CarriedType::read(word - 16).map(Type::Channel),
+            32..=47 => CarriedType::read(word - 32).map(Type::End),
             _ => None,
         }
     }

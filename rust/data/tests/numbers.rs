@@ -1,6 +1,6 @@
 //! Numbers and what they stand for, both ways.
 
-use data::{Carried, End, Event, Fault, Gate, Line, Question, Side, Thing, Type};
+use data::{CarriedType, End, Event, Fault, Gate, Line, Question, Side, Thing, Type};
 
 /// Every number of 16 bits is read as the case that has it, or as none.
 fn both_ways<T: Copy + PartialEq + std::fmt::Debug>(
@@ -22,7 +22,7 @@ fn numbers_are_those_of_the_papers() {
     both_ways(Fault::read, Fault::number, (20..=27).chain([33]));
     both_ways(Gate::read, Gate::number, 1..=8);
     both_ways(Side::read, Side::number, 0..=1);
-    both_ways(Carried::read, Carried::number, 1..=3);
+    both_ways(CarriedType::read, CarriedType::number, 1..=3);
     both_ways(Type::read, Type::number, [0, 1, 2, 3, 17, 18, 19, 33, 34, 35]);
     let thing = |code| Thing::read(code, 7);
     both_ways(thing, Thing::code, 3..=6);
@@ -56,7 +56,7 @@ fn lines_and_what_they_tell() {
     }
 }
 
-/// Words that no run writes as a line tell nothing.
+/// Words that no run writes as a line say nothing.
 #[test]
 fn other_words_tell_nothing() {
     let u = 65_535;

@@ -5,13 +5,13 @@ use std::collections::BTreeMap;
 use data::{End, Fault, Holders, Line, Process, Refusal, Run, Side, State, Thing, Type, Value};
 use model::check::{check, read_table};
 use model::gone::gone;
-use model::machine::{Did, Machine};
+use model::machine::{EntryResult, Machine};
 use model::owner::{deciding_line, holder, ownership_since, reach, stored_holders};
 use model::step::{MOST_CHANNELS, MOST_FRAMES, MOST_PROCESSES, MOST_QUBITS};
 use model::table::Op;
-use model::typing::{first_fault, Why, MOST_PENDING};
+use model::typing::{first_fault, TypeFaultKind, MOST_PENDING};
 
-use crate::mark::{all_marks, Mark, Stored};
+use crate::mark::{all_marks, Mark, StoredHolder};
 use crate::Case;
 
 /// Counts of marks.
@@ -54,7 +54,7 @@ impl Coverage {
         if refusal.number() == 5 {
             if let Some((why, op)) = question_5(&case.program) {
                 self.add(Mark::Question5(why));
-                if why == Why::PendingAfter {
+                if why == TypeFaultKind::PendingAfter {
                     self.add(Mark::PendingAfter(op.number()));
                 }
             }
@@ -70,16 +70,16 @@ impl Coverage {
     }
 
     /// Marks of an entry that was taken.
-    fn entry(&mut self, before: &Machine, byte: u8, did: Did, after: &Machine) {
+    fn entry(&mut self, before: &Machine, byte: u8, did: EntryResult, after: &Machine) {
         if before.lines.len() == before.room {
             self.add(Mark::FullTraceGoesOn);
         }
         let process = usize::from(byte);
         match did {
-            Did::Idle => self.idle(before, process),
-            Did::Stopped(fault) => self.fault(before, process, fault),
-            Did::Stepped => self.executed(before, process),
-            Did::Met(partner) => {
+            EntryResult::Idle => self.idle(before, process),
+            EntryResult::Stopped(fault) => self.fault(before, process, fault),
+            EntryResult::Stepped => self.executed(before, process),
+            EntryResult::Met(partner) => {
                 self.executed(before, process);
                 self.executed(before, partner);
             }
@@ -114,7 +114,7 @@ impl Coverage {
     }
 
     fn idle(&mut self, before: &Machine, process: usize) {
-        self.add(Mark::Idle(before.standing(process)));
+        self.add(Mark::Idle(before.readiness(process)));
         if process > 7 {
             self.add(Mark::IdleBeyond);
         }
@@ -248,7 +248,7 @@ impl Coverage {
     /// How a thing comes to its holder at the run's end.
     fn stored(&mut self, run: &Run, thing: Thing) {
         let Some(holder) = run.configuration.holders.of(thing) else {
-            return self.add(Mark::Stored(Stored::NotMade));
+            return self.add(Mark::Stored(StoredHolder::NotMade));
         };
         let given = given_by(&run.lines, thing);
         let alone = match thing {
@@ -257,32 +257,32 @@ impl Coverage {
             }
             _ => true,
         };
-        if alone || !matches!(given, Stored::EndGiven { .. }) {
+        if alone || !matches!(given, StoredHolder::EndGiven { .. }) {
             self.add(Mark::Stored(given));
         }
         match run.configuration.processes[usize::from(holder)].state {
             State::Running => (),
-            State::Finished => self.add(Mark::Stored(Stored::OfFinished)),
-            State::Stopped(_) => self.add(Mark::Stored(Stored::OfStopped)),
+            State::Finished => self.add(Mark::Stored(StoredHolder::OfFinished)),
+            State::Stopped(_) => self.add(Mark::Stored(StoredHolder::OfStopped)),
         }
     }
 }
 
 /// How a thing came to its holder, by the line that decides.
-fn given_by(lines: &[Line], thing: Thing) -> Stored {
+fn given_by(lines: &[Line], thing: Thing) -> StoredHolder {
     let Some(index) = deciding_line(lines, thing).filter(|index| lines[*index].kind == 6) else {
-        return Stored::ByMaking;
+        return StoredHolder::ByMaking;
     };
     match (lines[index].b, thing) {
-        (4, _) => Stored::ChannelGiven,
-        (_, Thing::End(_, side)) => Stored::EndGiven { side: side.number() },
+        (4, _) => StoredHolder::ChannelGiven,
+        (_, Thing::End(_, side)) => StoredHolder::EndGiven { side: side.number() },
         // A meeting's line stands right before the giving's.
-        _ => Stored::QubitGiven { by_fork: lines[index - 1].kind != 7 },
+        _ => StoredHolder::QubitGiven { by_fork: lines[index - 1].kind != 7 },
     }
 }
 
 /// What question 5 found, and at which op.
-fn question_5(words: &[u16]) -> Option<(Why, Op)> {
+fn question_5(words: &[u16]) -> Option<(TypeFaultKind, Op)> {
     let program = read_table(words).ok()?;
     let fault = first_fault(&program)?;
     let mut code = program.methods.iter().flat_map(|method| &method.code);

@@ -28,7 +28,7 @@ mod typed;
 
 pub use coverage::{observe, Answer, Coverage};
 pub use files::file;
-pub use mark::{Mark, Stored};
+pub use mark::{Mark, StoredHolder};
 pub use random::Random;
 pub use texts::{observe_text, text_case, TextCase, TextCoverage, TextMark};
 pub use traces::{pair, trace, Difference, Pair};

@@ -1,8 +1,8 @@
 //! What a case can bring about.
 
-use model::gone::Gone;
-use model::machine::Standing;
-use model::typing::Why;
+use model::gone::NoPartner;
+use model::machine::Readiness;
+use model::typing::TypeFaultKind;
 
 /// Something that a case can bring about. Ops, kinds, faults, ends, types and
 /// gates are named by 01's numbers.
@@ -13,7 +13,7 @@ pub enum Mark {
     /// The same at a place other than 0.
     RefusalFurtherOn(u16),
     /// What question 5 found.
-    Question5(Why),
+    Question5(TypeFaultKind),
     /// An op after which question 5 found something pending.
     PendingAfter(u16),
     /// An op that was executed.
@@ -35,7 +35,7 @@ pub enum Mark {
     },
     /// Fault 33 at SEND or RECV, by why the partner has gone.
     Gone {
-        why: Gone,
+        why: NoPartner,
         op: u16,
     },
     /// Fault 33 because 33 has stopped the partner.
@@ -65,7 +65,7 @@ pub enum Mark {
         by_fork: bool,
     },
     /// An idle entry, by how the process stood.
-    Idle(Standing),
+    Idle(Readiness),
     /// An idle entry of a byte above 7.
     IdleBeyond,
     /// An idle entry at SEND or RECV.
@@ -81,7 +81,7 @@ pub enum Mark {
     /// no longer reaches that end.
     HeldOutOfReach(u16),
     /// How a stored holder stands at a run's end.
-    Stored(Stored),
+    Stored(StoredHolder),
     /// A limit reached without a fault.
     AllProcesses,
     AllQubits,
@@ -102,7 +102,7 @@ pub enum Mark {
 /// How a run's final configuration comes to store the holder of a qubit or an
 /// end, Paper 7.
 #[derive(Clone, Copy, Debug, PartialEq, Eq, PartialOrd, Ord)]
-pub enum Stored {
+pub enum StoredHolder {
     /// The thing was never made.
     NotMade,
     /// Its maker has never given it away.
@@ -122,17 +122,17 @@ pub enum Stored {
     OfStopped,
 }
 
-impl Stored {
-    pub const ALL: [Stored; 9] = [
-        Stored::NotMade,
-        Stored::ByMaking,
-        Stored::QubitGiven { by_fork: false },
-        Stored::QubitGiven { by_fork: true },
-        Stored::ChannelGiven,
-        Stored::EndGiven { side: 0 },
-        Stored::EndGiven { side: 1 },
-        Stored::OfFinished,
-        Stored::OfStopped,
+impl StoredHolder {
+    pub const ALL: [StoredHolder; 9] = [
+        StoredHolder::NotMade,
+        StoredHolder::ByMaking,
+        StoredHolder::QubitGiven { by_fork: false },
+        StoredHolder::QubitGiven { by_fork: true },
+        StoredHolder::ChannelGiven,
+        StoredHolder::EndGiven { side: 0 },
+        StoredHolder::EndGiven { side: 1 },
+        StoredHolder::OfFinished,
+        StoredHolder::OfStopped,
     ];
 }
 
@@ -147,7 +147,7 @@ pub fn all_marks() -> Vec<Mark> {
     marks.extend((0..=2).map(Mark::Measured));
     marks.extend((0..=3).map(Mark::End));
     marks.extend((0..=2).map(Mark::EndAfterLast));
-    marks.extend(Stored::ALL.map(Mark::Stored));
+    marks.extend(StoredHolder::ALL.map(Mark::Stored));
     marks.extend([
         Mark::AllProcesses,
         Mark::AllQubits,
@@ -166,12 +166,12 @@ fn refusal_marks() -> Vec<Mark> {
     let mut marks: Vec<Mark> = (1..=8).map(Mark::Refusal).collect();
     marks.extend((2..=6).map(Mark::RefusalFurtherOn));
     let whys = [
-        Why::PendingAtTarget,
-        Why::OperandMissing,
-        Why::OperandType,
-        Why::TooManyPending,
-        Why::PendingAfter,
-        Why::NotClosed,
+        TypeFaultKind::PendingAtTarget,
+        TypeFaultKind::OperandMissing,
+        TypeFaultKind::OperandType,
+        TypeFaultKind::TooManyPending,
+        TypeFaultKind::PendingAfter,
+        TypeFaultKind::NotClosed,
     ];
     marks.extend(whys.map(Mark::Question5));
     marks.extend([5, 6, 13, 14, 15, 17, 18].map(Mark::PendingAfter));
@@ -213,23 +213,23 @@ fn fault_marks() -> Vec<Mark> {
     marks
 }
 
-/// Paper 6: each reason at each op. An emptied end tells no channel, so at RECV
+/// Paper 6: each reason at each op. An emptied end names no channel, so at RECV
 /// 20 comes alone.
 fn gone_marks() -> Vec<Mark> {
     let mut marks = vec![Mark::GoneByGone, Mark::EmptyBeforeGone(15)];
     for op in [15, 16] {
         marks.push(Mark::HeldOutOfReach(op));
-        marks.extend([Gone::Itself, Gone::Finished, Gone::Stopped].map(|why| Mark::Gone { why, op }));
+        marks.extend([NoPartner::Itself, NoPartner::Finished, NoPartner::Stopped].map(|why| Mark::Gone { why, op }));
     }
     marks
 }
 
 fn meeting_marks() -> Vec<Mark> {
     let mut marks = vec![
-        Mark::Idle(Standing::NotStarted),
-        Mark::Idle(Standing::Finished),
-        Mark::Idle(Standing::Stopped),
-        Mark::Idle(Standing::Waits),
+        Mark::Idle(Readiness::NotStarted),
+        Mark::Idle(Readiness::Finished),
+        Mark::Idle(Readiness::Stopped),
+        Mark::Idle(Readiness::Waits),
         Mark::IdleBeyond,
     ];
     for op in [15, 16] {

@@ -52,7 +52,7 @@ impl Role {
 
 /// How a process gets an end: from a slot, or out of a channel in a slot.
 #[derive(Clone, Copy, Debug)]
-pub struct Way {
+pub struct EndAccess {
     slot: usize,
     through_channel: bool,
     pub channel: u16,
@@ -60,7 +60,7 @@ pub struct Way {
     pub carried: u16,
 }
 
-impl Way {
+impl EndAccess {
     pub fn thing(self) -> Thing {
         Thing::End(self.channel, self.side)
     }
@@ -230,7 +230,7 @@ impl Plan<'_> {
         }
         let mut arguments = Vec::new();
         let ways = self.ways(role).into_iter();
-        let ways: Vec<Way> = ways.filter(|way| Some(way.channel) == channel).collect();
+        let ways: Vec<EndAccess> = ways.filter(|way| Some(way.channel) == channel).collect();
         if let Some(way) = self.random.pick_any(&ways) {
             arguments.push(self.end_argument(role, way));
         }
@@ -245,7 +245,7 @@ impl Plan<'_> {
         self.roles.push(Role::new(kinds, known));
     }
 
-    fn end_argument(&mut self, role: usize, way: Way) -> (u16, Value) {
+    fn end_argument(&mut self, role: usize, way: EndAccess) -> (u16, Value) {
         self.push_end(role, way);
         (32 + way.carried, Value::End(way.channel, way.side))
     }
@@ -284,12 +284,12 @@ impl Plan<'_> {
     // Meetings.
 
     /// All ways in which a process gets an end.
-    pub fn ways(&self, role: usize) -> Vec<Way> {
+    pub fn ways(&self, role: usize) -> Vec<EndAccess> {
         let owner = &self.roles[role];
         let mut ways = Vec::new();
         for (slot, (kind, value)) in owner.kinds.iter().zip(&owner.known).enumerate() {
             let mut add = |through_channel, channel, side| {
-                ways.push(Way { slot, through_channel, channel, side, carried: kind % 16 })
+                ways.push(EndAccess { slot, through_channel, channel, side, carried: kind % 16 })
             };
             match *value {
                 Value::End(channel, side) => add(false, channel, side),
@@ -303,7 +303,7 @@ impl Plan<'_> {
         ways
     }
 
-    pub fn push_end(&mut self, role: usize, way: Way) {
+    pub fn push_end(&mut self, role: usize, way: EndAccess) {
         self.emit(role, &[(GET, way.slot as u16)]);
         if way.through_channel {
             self.emit(role, &[(END, way.side.number())]);
@@ -311,7 +311,7 @@ impl Plan<'_> {
     }
 
     /// Two live processes with the two ends of one channel, and their ways.
-    pub fn opposite_ways(&self) -> Vec<(usize, Way, usize, Way)> {
+    pub fn opposite_ways(&self) -> Vec<(usize, EndAccess, usize, EndAccess)> {
         let live = |role: &usize| !self.roles[*role].over;
         let roles: Vec<usize> = (0..self.roles.len()).filter(live).collect();
         let mut found = Vec::new();
@@ -347,7 +347,7 @@ impl Plan<'_> {
     }
 
     /// Sends over an end; answers the value sent.
-    fn send(&mut self, role: usize, way: Way) -> Value {
+    fn send(&mut self, role: usize, way: EndAccess) -> Value {
         self.push_end(role, way);
         let value = self.push_carried(role, way.carried);
         if self.random.chance(25) {
@@ -388,7 +388,7 @@ impl Plan<'_> {
     }
 
     /// Receives over an end, at times with an int pending meanwhile.
-    pub fn receive(&mut self, role: usize, way: Way, value: Value) {
+    pub fn receive(&mut self, role: usize, way: EndAccess, value: Value) {
         let waiting_int = way.carried == 1 && self.random.chance(30);
         if waiting_int {
             self.emit(role, &[(INT, 3)]);

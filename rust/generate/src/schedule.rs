@@ -1,7 +1,7 @@
 //! Schedules that make processes interleave and meet: the model is driven
 //! along, and mostly a process that is able to move is named.
 
-use model::machine::{Machine, Standing};
+use model::machine::{Machine, Readiness};
 use model::table::{Op, Program};
 
 use crate::random::Random;
@@ -11,7 +11,7 @@ pub const AMPLE_TRACE: usize = 6 * 70_000;
 
 /// How the next process is chosen among those able to move.
 #[derive(Clone, Copy, Debug)]
-enum Manner {
+enum Choice {
     /// Each as often as the others.
     Even,
     Lowest,
@@ -39,26 +39,26 @@ pub fn schedule(program: &Program, outcomes: &[u8], most: usize, random: &mut Ra
     bytes
 }
 
-fn choose_manner(random: &mut Random) -> Manner {
+fn choose_manner(random: &mut Random) -> Choice {
     match random.below(6) {
-        0 => Manner::Lowest,
-        1 => Manner::Highest,
-        2 => Manner::Stay(60),
-        3 => Manner::Stay(90),
-        _ => Manner::Even,
+        0 => Choice::Lowest,
+        1 => Choice::Highest,
+        2 => Choice::Stay(60),
+        3 => Choice::Stay(90),
+        _ => Choice::Even,
     }
 }
 
-fn next_byte(machine: &Machine, manner: Manner, stray: usize, before: &[u8], random: &mut Random) -> u8 {
+fn next_byte(machine: &Machine, manner: Choice, stray: usize, before: &[u8], random: &mut Random) -> u8 {
     let able = able_bytes(machine, random);
     if able.is_empty() || random.chance(stray) {
         return waiting_byte(machine, random).unwrap_or_else(|| stray_byte(random));
     }
     match manner {
-        Manner::Even => random.pick(&able),
-        Manner::Lowest => able[0],
-        Manner::Highest => able[able.len() - 1],
-        Manner::Stay(percent) => match before.last() {
+        Choice::Even => random.pick(&able),
+        Choice::Lowest => able[0],
+        Choice::Highest => able[able.len() - 1],
+        Choice::Stay(percent) => match before.last() {
             Some(last) if able.contains(last) && random.chance(percent) => *last,
             _ => random.pick(&able),
         },
@@ -68,12 +68,12 @@ fn next_byte(machine: &Machine, manner: Manner, stray: usize, before: &[u8], ran
 /// The processes able to move. Mostly those are left out that would be stopped
 /// at SEND or RECV: others are to find them not ready, or to go before them.
 fn able_bytes(machine: &Machine, random: &mut Random) -> Vec<u8> {
-    let standing = |byte: &u8| machine.standing(usize::from(*byte));
-    let able: Vec<u8> = (0..8).filter(|byte| standing(byte).is_able()).collect();
+    let readiness = |byte: &u8| machine.readiness(usize::from(*byte));
+    let able: Vec<u8> = (0..8).filter(|byte| readiness(byte).is_able()).collect();
     let not_ready = |byte: &u8| {
         let op = machine.op_of(usize::from(*byte));
         let meets = matches!(op, Some(Op::Send | Op::Receive));
-        meets && standing(byte) == Standing::Steps
+        meets && readiness(byte) == Readiness::Steps
     };
     let others = able.iter().copied().filter(|byte| !not_ready(byte));
     let others: Vec<u8> = others.collect();
@@ -85,7 +85,7 @@ fn able_bytes(machine: &Machine, random: &mut Random) -> Vec<u8> {
 
 /// Mostly a process that waits, where there is one: it is named in vain.
 fn waiting_byte(machine: &Machine, random: &mut Random) -> Option<u8> {
-    let waits = |byte: &u8| machine.standing(usize::from(*byte)) == Standing::Waits;
+    let waits = |byte: &u8| machine.readiness(usize::from(*byte)) == Readiness::Waits;
     let waiting: Vec<u8> = (0..8).filter(waits).collect();
     let byte = random.pick_any(&waiting)?;
     random.chance(70).then_some(byte)

@@ -61,7 +61,7 @@ fn the_rules_beside_the_grammar() {
 
 /// Every place that breaks a rule.
 fn broken(tree: &Tree) -> Vec<Refusal> {
-    let mut rules = Broken { tree, withends: Vec::new(), found: Vec::new() };
+    let mut rules = RuleScan { tree, withends: Vec::new(), found: Vec::new() };
     for Method { parameters, body, .. } in &tree.methods {
         rules.withends = vec![parameters.iter().map(|parameter| (parameter.name.bytes, false)).collect()];
         rules.block(body, 1);
@@ -69,13 +69,13 @@ fn broken(tree: &Tree) -> Vec<Refusal> {
     rules.found
 }
 
-struct Broken<'t> {
+struct RuleScan<'t> {
     tree: &'t Tree<'t>,
     withends: Vec<BTreeMap<&'t [u8], bool>>,
     found: Vec<Refusal>,
 }
 
-impl<'t> Broken<'t> {
+impl<'t> RuleScan<'t> {
     fn too_deep(&mut self, depth: usize, statement: &Statement) {
         if depth > MOST_NESTING {
             self.found.push(Refusal::new(Reason::Nesting, statement.at));

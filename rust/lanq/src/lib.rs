@@ -48,11 +48,11 @@ mod trace;
 
 pub use data::program::{op, Method};
 pub use data::{
-    Answer, Carried, Configuration, End, Event, Fault, Frame, Gate, Holders, Line, LookUp, Process, Question, Refusal,
-    Run, Side, State, Thing, Type, Value, LINE_WORDS, NO_CLICK, SLOTS, UNUSED, WORK_WORDS,
+    Answer, CarriedType, Configuration, End, Event, Fault, Frame, Gate, Holders, Line, LookUp, Process, Question,
+    Refusal, Run, Side, State, Thing, Type, Value, LINE_WORDS, NO_CLICK, SLOTS, UNUSED, WORK_WORDS,
 };
 pub use layout::{decode, stored_holder};
 pub use program::Program;
-pub use reason::{reason, reason_in, Reason, Rule, Wanted};
+pub use reason::{reason, reason_in, OperandKind, Reason, Rule};
 pub use run::{check, check_in, left, most_lines, run, run_in};
 pub use trace::{holder, lines, same_lines, Trace};

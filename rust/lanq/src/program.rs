@@ -5,7 +5,7 @@ use data::program::{table, Method};
 use crate::reason::{methods, Reason};
 
 /// A program table: its words, right or wrong. Whether it is a program the
-/// questions tell.
+/// questions say.
 ///
 /// ```
 /// use lanq::op::RET;
@@ -37,7 +37,7 @@ impl Program {
     }
 
     /// The methods, as plain numbers. A table that question 1 or 2 refuses does
-    /// not tell where a method starts; the error is its reason.
+    /// not say where a method starts; the error is its reason.
     ///
     /// ```
     /// use lanq::op::RET;

@@ -3,14 +3,14 @@
 use data::{Configuration, End, Fault, Line, Process, Refusal, Run, Side, State, Value, LINE_WORDS};
 
 use crate::check::check;
-use crate::gone::{gone, Gone};
+use crate::gone::{gone, NoPartner};
 use crate::state::start;
 use crate::step::{self, operands_full, Effect, Entry};
 use crate::table::{Op, Program};
 
 /// What an entry that was taken did.
 #[derive(Clone, Copy, Debug, PartialEq, Eq, PartialOrd, Ord)]
-pub enum Did {
+pub enum EntryResult {
     /// The process "has not started, has finished or stopped, or waits".
     Idle,
     /// The process stepped.
@@ -23,7 +23,7 @@ pub enum Did {
 
 /// How a process number stands before an entry.
 #[derive(Clone, Copy, Debug, PartialEq, Eq, PartialOrd, Ord)]
-pub enum Standing {
+pub enum Readiness {
     NotStarted,
     Finished,
     Stopped,
@@ -34,10 +34,10 @@ pub enum Standing {
     Meets(usize),
 }
 
-impl Standing {
+impl Readiness {
     /// "able to move (to step, meet or fault)"
     pub fn is_able(self) -> bool {
-        matches!(self, Standing::Steps | Standing::Meets(_))
+        matches!(self, Readiness::Steps | Readiness::Meets(_))
     }
 }
 
@@ -76,23 +76,23 @@ impl<'a> Machine<'a> {
     ///
     /// # Panics
     /// At an entry beyond 65,535, which question 7 rules out.
-    pub fn entry(&mut self, byte: u8) -> Result<Did, End> {
+    pub fn entry(&mut self, byte: u8) -> Result<EntryResult, End> {
         if let Some(end) = self.end_reached() {
             return Err(end);
         }
         let process = usize::from(byte);
-        let standing = self.standing(process);
-        let did = match standing {
-            Standing::Steps => self.take(process, None)?,
-            Standing::Meets(partner) => self.take(process, Some(partner))?,
-            _ => Did::Idle,
+        let readiness = self.readiness(process);
+        let did = match readiness {
+            Readiness::Steps => self.take(process, None)?,
+            Readiness::Meets(partner) => self.take(process, Some(partner))?,
+            _ => EntryResult::Idle,
         };
         self.entries += 1;
         Ok(did)
     }
 
     /// Takes the entry of a process able to move, if its lines fit.
-    fn take(&mut self, process: usize, partner: Option<usize>) -> Result<Did, End> {
+    fn take(&mut self, process: usize, partner: Option<usize>) -> Result<EntryResult, End> {
         let effect = self.effect(process, partner);
         if self.lines.len() + effect.lines.len() > self.room {
             return Err(End::TraceFull);
@@ -101,9 +101,9 @@ impl<'a> Machine<'a> {
         self.lines.extend(effect.lines);
         self.outcomes_used += effect.outcomes_used;
         Ok(match (effect.fault, partner) {
-            (Some(fault), _) => Did::Stopped(fault),
-            (None, Some(partner)) => Did::Met(partner),
-            (None, None) => Did::Stepped,
+            (Some(fault), _) => EntryResult::Stopped(fault),
+            (None, Some(partner)) => EntryResult::Met(partner),
+            (None, None) => EntryResult::Stepped,
         })
     }
 
@@ -125,7 +125,7 @@ impl<'a> Machine<'a> {
         let mut numbers = 0..self.config.processes.len();
         if !self.config.processes.iter().any(Process::runs) {
             Some(End::AllOver)
-        } else if !numbers.any(|number| self.standing(number).is_able()) {
+        } else if !numbers.any(|number| self.readiness(number).is_able()) {
             Some(End::Stuck)
         } else {
             None
@@ -135,37 +135,37 @@ impl<'a> Machine<'a> {
     /// Whether a process is able to move, and with whom. It follows from the
     /// configuration and, of what has gone, from the lines: being named in vain
     /// before makes no difference.
-    pub fn standing(&self, number: usize) -> Standing {
+    pub fn readiness(&self, number: usize) -> Readiness {
         let Some(process) = self.config.processes.get(number) else {
-            return Standing::NotStarted;
+            return Readiness::NotStarted;
         };
         match process.state {
-            State::Finished => Standing::Finished,
-            State::Stopped(_) => Standing::Stopped,
+            State::Finished => Readiness::Finished,
+            State::Stopped(_) => Readiness::Stopped,
             State::Running => self.standing_of_running(number, process),
         }
     }
 
-    fn standing_of_running(&self, number: usize, process: &Process) -> Standing {
+    fn standing_of_running(&self, number: usize, process: &Process) -> Readiness {
         let Some(offer) = self.offer_of(process) else {
             // Another op, or SEND or RECV with an emptied operand: fault 20
             // comes "before waiting".
-            return Standing::Steps;
+            return Readiness::Steps;
         };
         // Fault 33 is "judged after fault 20 and before waiting", and "a process
         // with this fault counts as able to move".
         if gone(&self.config, &self.lines, number, offer.channel, offer.side).is_some() {
-            return Standing::Steps;
+            return Readiness::Steps;
         }
         match self.partner_for(number, offer) {
-            Some(partner) => Standing::Meets(partner),
-            None => Standing::Waits,
+            Some(partner) => Readiness::Meets(partner),
+            None => Readiness::Waits,
         }
     }
 
     /// Why a process has nobody left to meet, where it stands at SEND or RECV
     /// with its operands present.
-    pub fn gone_for(&self, number: usize) -> Option<Gone> {
+    pub fn gone_for(&self, number: usize) -> Option<NoPartner> {
         let offer = self.offer_of(self.config.processes.get(number)?)?;
         gone(&self.config, &self.lines, number, offer.channel, offer.side)
     }

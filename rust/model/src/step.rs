@@ -171,7 +171,7 @@ impl<'a> Step<'a> {
     }
 
     /// Writes a line under the process named.
-    fn tell(&mut self, event: Event) {
+    fn write_own(&mut self, event: Event) {
         self.write(self.entry.process, event);
     }
 
@@ -206,7 +206,7 @@ impl<'a> Step<'a> {
         self.config.qubits += 1;
         self.hold(self.entry.process, Thing::Qubit(number));
         self.push(Value::Qubit(number));
-        self.tell(Event::QubitMade { qubit: number });
+        self.write_own(Event::QubitMade { qubit: number });
         Ok(())
     }
 
@@ -218,7 +218,7 @@ impl<'a> Step<'a> {
         self.config.channels += 1;
         self.hold(self.entry.process, Thing::Channel(number));
         self.push(Value::Channel(number));
-        self.tell(Event::ChannelMade { channel: number });
+        self.write_own(Event::ChannelMade { channel: number });
         Ok(())
     }
 
@@ -238,14 +238,14 @@ impl<'a> Step<'a> {
     fn gate(&mut self, gate: Gate) -> Result<(), Fault> {
         let upper = self.pop_qubit()?;
         if !gate.takes_two() {
-            self.tell(Event::Gate { gate, qubit: upper, second: None });
+            self.write_own(Event::Gate { gate, qubit: upper, second: None });
             return Ok(());
         }
         let deeper = self.pop_qubit()?;
         if deeper == upper {
             return Err(Fault::OneQubit);
         }
-        self.tell(Event::Gate { gate, qubit: deeper, second: Some(upper) });
+        self.write_own(Event::Gate { gate, qubit: deeper, second: Some(upper) });
         Ok(())
     }
 
@@ -255,7 +255,7 @@ impl<'a> Step<'a> {
         let qubit = self.pop_qubit()?;
         let outcome = self.next_outcome()?;
         self.push(Value::Int(i32::from(outcome)));
-        self.tell(Event::Measured { qubit, outcome });
+        self.write_own(Event::Measured { qubit, outcome });
         Ok(())
     }
 
@@ -291,7 +291,7 @@ impl<'a> Step<'a> {
         self.process().frames.pop();
         if self.process().frames.is_empty() {
             self.process().state = State::Finished;
-            self.tell(Event::Finished);
+            self.write_own(Event::Finished);
         } else if let Some(value) = returned {
             self.push(value);
         }
@@ -306,7 +306,7 @@ impl<'a> Step<'a> {
         if child >= MOST_PROCESSES {
             return Err(Fault::Processes);
         }
-        self.tell(Event::Forked {
+        self.write_own(Event::Forked {
             child: number_of(child),
             method: number_of(method),
             arguments: number_of(arguments.len()),

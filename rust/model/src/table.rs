@@ -1,6 +1,6 @@
 //! "Program table": sixteen-bit words, numbered from 0.
 
-use data::{Carried, Gate, Side, Type, SLOTS};
+use data::{CarriedType, Gate, Side, Type, SLOTS};
 
 /// "Word 0: methods M, 1 to 32."
 pub const MOST_METHODS: usize = 32;
@@ -57,7 +57,7 @@ pub enum Op {
     Drop,
     Clear(usize),
     NewQubit,
-    NewChannel(Carried),
+    NewChannel(CarriedType),
     End(Side),
     Gate(Gate),
     Measure,
@@ -87,7 +87,7 @@ impl Op {
             3 => Some(Op::Get(place)),
             4 => Some(Op::Put(place)),
             6 => Some(Op::Clear(place)),
-            8 => Carried::read(argument).map(Op::NewChannel),
+            8 => CarriedType::read(argument).map(Op::NewChannel),
             9 => Side::read(argument).map(Op::End),
             10 => Gate::read(argument).map(Op::Gate),
             12 => Some(Op::Call(place)),

@@ -14,7 +14,7 @@ pub const MOST_PENDING: usize = 8;
 
 /// What question 5 found at fault.
 #[derive(Clone, Copy, Debug, PartialEq, Eq, PartialOrd, Ord)]
-pub enum Why {
+pub enum TypeFaultKind {
     /// Something is pending before an instruction that a jump has as target.
     PendingAtTarget,
     /// Fewer values pending than the op takes.
@@ -33,7 +33,7 @@ pub enum Why {
 #[derive(Clone, Copy, Debug, PartialEq, Eq)]
 pub struct TypeFault {
     pub place: usize,
-    pub why: Why,
+    pub why: TypeFaultKind,
 }
 
 /// The "first instruction at fault". Methods stand in the table's order, so
@@ -55,11 +55,11 @@ fn read_method(program: &Program, method: &Method) -> Result<(), TypeFault> {
     for (index, op) in method.code.iter().enumerate() {
         let fault = |why| TypeFault { place: method.offset + index, why };
         if !pending.is_empty() && is_target(method, index) {
-            return Err(fault(Why::PendingAtTarget));
+            return Err(fault(TypeFaultKind::PendingAtTarget));
         }
         read_instruction(program, &method.row, *op, &mut pending).map_err(fault)?;
         if index + 1 == method.code.len() && !closes(*op) {
-            return Err(fault(Why::NotClosed));
+            return Err(fault(TypeFaultKind::NotClosed));
         }
     }
     Ok(())
@@ -76,13 +76,13 @@ fn closes(op: Op) -> bool {
 }
 
 /// Takes the operands off, puts the results on, looks at what is pending.
-fn read_instruction(program: &Program, row: &Row, op: Op, pending: &mut Vec<Type>) -> Result<(), Why> {
+fn read_instruction(program: &Program, row: &Row, op: Op, pending: &mut Vec<Type>) -> Result<(), TypeFaultKind> {
     take_and_put(program, row, op, pending)?;
     if pending.len() > MOST_PENDING {
-        return Err(Why::TooManyPending);
+        return Err(TypeFaultKind::TooManyPending);
     }
     if leaves_nothing(op) && !pending.is_empty() {
-        return Err(Why::PendingAfter);
+        return Err(TypeFaultKind::PendingAfter);
     }
     Ok(())
 }
@@ -93,7 +93,7 @@ fn leaves_nothing(op: Op) -> bool {
 }
 
 /// The op's operands and results, as the table of ops gives them.
-fn take_and_put(program: &Program, row: &Row, op: Op, pending: &mut Vec<Type>) -> Result<(), Why> {
+fn take_and_put(program: &Program, row: &Row, op: Op, pending: &mut Vec<Type>) -> Result<(), TypeFaultKind> {
     use Type::{Bool, Int, Qubit};
     match op {
         Op::Int(_) => put(pending, Int),
@@ -120,35 +120,35 @@ fn take_and_put(program: &Program, row: &Row, op: Op, pending: &mut Vec<Type>) -
     }
 }
 
-fn put(pending: &mut Vec<Type>, kind: Type) -> Result<(), Why> {
+fn put(pending: &mut Vec<Type>, kind: Type) -> Result<(), TypeFaultKind> {
     pending.push(kind);
     Ok(())
 }
 
-fn take_any(pending: &mut Vec<Type>) -> Result<Type, Why> {
-    pending.pop().ok_or(Why::OperandMissing)
+fn take_any(pending: &mut Vec<Type>) -> Result<Type, TypeFaultKind> {
+    pending.pop().ok_or(TypeFaultKind::OperandMissing)
 }
 
-fn take(pending: &mut Vec<Type>, wanted: Type) -> Result<(), Why> {
+fn take(pending: &mut Vec<Type>, wanted: Type) -> Result<(), TypeFaultKind> {
     if take_any(pending)? != wanted {
-        return Err(Why::OperandType);
+        return Err(TypeFaultKind::OperandType);
     }
     Ok(())
 }
 
 /// Takes operands off, "last on top".
-fn take_all(pending: &mut Vec<Type>, wanted: &[Type]) -> Result<(), Why> {
+fn take_all(pending: &mut Vec<Type>, wanted: &[Type]) -> Result<(), TypeFaultKind> {
     let mut from_top = wanted.iter().rev();
     from_top.try_for_each(|kind| take(pending, *kind))
 }
 
-fn trade(pending: &mut Vec<Type>, wanted: &[Type], result: Type) -> Result<(), Why> {
+fn trade(pending: &mut Vec<Type>, wanted: &[Type], result: Type) -> Result<(), TypeFaultKind> {
     take_all(pending, wanted)?;
     put(pending, result)
 }
 
 /// "return value off unless void"
-fn take_unless_void(pending: &mut Vec<Type>, return_type: Type) -> Result<(), Why> {
+fn take_unless_void(pending: &mut Vec<Type>, return_type: Type) -> Result<(), TypeFaultKind> {
     match return_type {
         Type::None => Ok(()),
         wanted => take(pending, wanted),
@@ -156,7 +156,7 @@ fn take_unless_void(pending: &mut Vec<Type>, return_type: Type) -> Result<(), Wh
 }
 
 /// "its P arguments off"; "its RET pushes a value unless void".
-fn call(pending: &mut Vec<Type>, row: &Row) -> Result<(), Why> {
+fn call(pending: &mut Vec<Type>, row: &Row) -> Result<(), TypeFaultKind> {
     take_all(pending, row.parameter_types())?;
     match row.return_type {
         Type::None => Ok(()),
@@ -165,26 +165,26 @@ fn call(pending: &mut Vec<Type>, row: &Row) -> Result<(), Why> {
 }
 
 /// "channel off, that end on"
-fn end(pending: &mut Vec<Type>) -> Result<(), Why> {
+fn end(pending: &mut Vec<Type>) -> Result<(), TypeFaultKind> {
     match take_any(pending)? {
         Type::Channel(carried) => put(pending, Type::End(carried)),
-        _ => Err(Why::OperandType),
+        _ => Err(TypeFaultKind::OperandType),
     }
 }
 
 /// "off: end, then value above it"
-fn send(pending: &mut Vec<Type>) -> Result<(), Why> {
+fn send(pending: &mut Vec<Type>) -> Result<(), TypeFaultKind> {
     let value = take_any(pending)?;
     match take_any(pending)? {
         Type::End(carried) if carried.as_type() == value => Ok(()),
-        _ => Err(Why::OperandType),
+        _ => Err(TypeFaultKind::OperandType),
     }
 }
 
 /// "end off, received value on"
-fn receive(pending: &mut Vec<Type>) -> Result<(), Why> {
+fn receive(pending: &mut Vec<Type>) -> Result<(), TypeFaultKind> {
     match take_any(pending)? {
         Type::End(carried) => put(pending, carried.as_type()),
-        _ => Err(Why::OperandType),
+        _ => Err(TypeFaultKind::OperandType),
     }
 }

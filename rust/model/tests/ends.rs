@@ -5,7 +5,7 @@ mod common;
 use common::*;
 use data::program::{op::*, Method};
 use data::{End, Side, Value};
-use model::machine::{run, Did, Machine, Standing};
+use model::machine::{run, EntryResult, Machine, Readiness};
 
 /// Main makes a channel, keeps end 0 and forks a child with end 1. Main's
 /// entries 0 to 7; then both go on with their own code, the end in slot 1 of
@@ -153,13 +153,13 @@ fn meeting_without_having_been_named_there_before() {
     let program = program(&pair(1, &send, &child));
     let mut machine = Machine::new(&program, &[], AMPLE);
     drive(&mut machine, &after_making(&[0, 0]));
-    assert_eq!(machine.standing(0), Standing::Waits);
-    assert_eq!(machine.standing(1), Standing::Steps);
-    assert_eq!(drive(&mut machine, &[0, 0, 1]), [Did::Idle, Did::Idle, Did::Stepped]);
-    assert_eq!(machine.standing(0), Standing::Meets(1));
-    assert_eq!(machine.standing(1), Standing::Meets(0));
-    assert_eq!(drive(&mut machine, &[1]), [Did::Met(0)]);
-    assert_eq!(machine.standing(2), Standing::NotStarted);
+    assert_eq!(machine.readiness(0), Readiness::Waits);
+    assert_eq!(machine.readiness(1), Readiness::Steps);
+    assert_eq!(drive(&mut machine, &[0, 0, 1]), [EntryResult::Idle, EntryResult::Idle, EntryResult::Stepped]);
+    assert_eq!(machine.readiness(0), Readiness::Meets(1));
+    assert_eq!(machine.readiness(1), Readiness::Meets(0));
+    assert_eq!(drive(&mut machine, &[1]), [EntryResult::Met(0)]);
+    assert_eq!(machine.readiness(2), Readiness::NotStarted);
     assert_eq!(drive(&mut machine, &[0, 0, 1, 1]).len(), 4);
     assert_eq!(machine.entry(0), Err(End::AllOver));
     assert_eq!(machine.entries, 8 + 2 + 3 + 1 + 4);
@@ -252,11 +252,11 @@ fn a_partner_with_an_emptied_operand_is_not_ready() {
         drive(&mut machine, &after_making(&[0]));
         drive(&mut machine, &vec![1; steps]);
         assert_eq!(machine.op_of(1), Some(model::table::Op::Send));
-        assert_eq!(machine.standing(0), Standing::Waits);
-        assert_eq!(machine.standing(1), Standing::Steps);
-        assert_eq!(drive(&mut machine, &[0]), [Did::Idle]);
+        assert_eq!(machine.readiness(0), Readiness::Waits);
+        assert_eq!(machine.readiness(1), Readiness::Steps);
+        assert_eq!(drive(&mut machine, &[0]), [EntryResult::Idle]);
         let fault = data::Fault::Empty;
-        assert_eq!(drive(&mut machine, &[1]), [Did::Stopped(fault)]);
+        assert_eq!(drive(&mut machine, &[1]), [EntryResult::Stopped(fault)]);
     }
 }
 
@@ -271,11 +271,11 @@ fn a_receiver_with_an_emptied_end_is_not_ready() {
     let mut machine = Machine::new(&program, &[], AMPLE);
     drive(&mut machine, &after_making(&[0, 0, 1, 1, 1, 1, 1, 1]));
     assert_eq!(machine.op_of(1), Some(model::table::Op::Receive));
-    assert_eq!(machine.standing(0), Standing::Waits);
+    assert_eq!(machine.readiness(0), Readiness::Waits);
     // The grandchild has the end: main meets it, not the child.
     drive(&mut machine, &[2]);
-    assert_eq!(machine.standing(0), Standing::Meets(2));
-    assert_eq!(drive(&mut machine, &[0]), [Did::Met(2)]);
+    assert_eq!(machine.readiness(0), Readiness::Meets(2));
+    assert_eq!(drive(&mut machine, &[0]), [EntryResult::Met(2)]);
 }
 
 #[test]
@@ -289,5 +289,5 @@ fn an_entry_not_taken_changes_nothing() {
     assert_eq!(machine.lines, before.lines);
     assert_eq!((machine.entries, machine.outcomes_used), (1, 0));
     // An idle entry is still taken.
-    assert_eq!(machine.entry(5), Ok(Did::Idle));
+    assert_eq!(machine.entry(5), Ok(EntryResult::Idle));
 }

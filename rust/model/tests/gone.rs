@@ -5,10 +5,10 @@ mod common;
 use common::*;
 use data::program::{op::*, Method};
 use data::{End, Fault, Side, State, Value};
-use model::gone::Gone;
-use model::machine::{Did, Machine, Standing};
+use model::gone::NoPartner;
+use model::machine::{EntryResult, Machine, Readiness};
 
-const STOPPED: Did = Did::Stopped(Fault::Gone);
+const STOPPED: EntryResult = EntryResult::Stopped(Fault::Gone);
 
 /// Main makes a channel of ints, keeps end 0 in slot 1 and forks a child with
 /// end 1, in eight entries; then both go on with their own code.
@@ -31,15 +31,17 @@ fn at_both_ops() -> [(&'static [(u16, u16)], usize); 2] {
 fn the_holder_has_finished_or_stopped() {
     for (code, entries) in at_both_ops() {
         // A GET of an empty slot stops the child.
-        for (child, why) in [(&[(RET, 0)][..], Gone::Finished), (&[(GET, 1), (DROP, 0), (RET, 0)], Gone::Stopped)] {
+        for (child, why) in
+            [(&[(RET, 0)][..], NoPartner::Finished), (&[(GET, 1), (DROP, 0), (RET, 0)], NoPartner::Stopped)]
+        {
             let program = program(&pair(code, child));
             let mut machine = Machine::new(&program, &[], AMPLE);
             drive(&mut machine, &vec![0; entries]);
             // The child runs: main waits, for ever if need be.
-            assert_eq!((machine.standing(0), machine.gone_for(0)), (Standing::Waits, None));
-            assert_eq!(drive(&mut machine, &[0, 0]), [Did::Idle, Did::Idle]);
+            assert_eq!((machine.readiness(0), machine.gone_for(0)), (Readiness::Waits, None));
+            assert_eq!(drive(&mut machine, &[0, 0]), [EntryResult::Idle, EntryResult::Idle]);
             drive(&mut machine, &[1]);
-            assert_eq!((machine.standing(0), machine.gone_for(0)), (Standing::Steps, Some(why)));
+            assert_eq!((machine.readiness(0), machine.gone_for(0)), (Readiness::Steps, Some(why)));
             assert_eq!(machine.end_reached(), None);
             let before = machine.config.processes[0].frames.clone();
             assert_eq!(drive(&mut machine, &[0]), [STOPPED]);
@@ -87,8 +89,11 @@ fn a_holder_that_lost_its_reference_is_there() {
     drive(&mut machine, &[0, 0, 0, 0, 0, 0, 0, 0, 0, 0, 1]);
     let reached = model::owner::reach(&machine.config.processes[0]);
     assert_eq!(reached, []);
-    assert_eq!(machine.standing(1), Standing::Waits);
-    assert_eq!(drive(&mut machine, &[1, 0, 0, 1]), [Did::Idle, Did::Stepped, Did::Stepped, Did::Idle]);
+    assert_eq!(machine.readiness(1), Readiness::Waits);
+    assert_eq!(
+        drive(&mut machine, &[1, 0, 0, 1]),
+        [EntryResult::Idle, EntryResult::Stepped, EntryResult::Stepped, EntryResult::Idle]
+    );
     // When it goes, the child does.
     let methods = pair(&[(CLEAR, 1), (RET, 0)], &RECEIVE);
     let run = run_all(&methods, &[0, 0, 0, 0, 0, 0, 0, 0, 0, 1, 1, 0, 1], &[]);
@@ -105,8 +110,8 @@ fn the_holder_is_the_last_one() {
     let mut machine = Machine::new(&program, &[], AMPLE);
     drive(&mut machine, &[&[0; 10][..], &[1, 1, 1]].concat());
     assert_eq!(machine.config.processes[1].state, State::Finished);
-    assert_eq!(machine.standing(0), Standing::Waits);
-    assert_eq!(drive(&mut machine, &[2, 0]), [Did::Stepped, Did::Met(2)]);
+    assert_eq!(machine.readiness(0), Readiness::Waits);
+    assert_eq!(drive(&mut machine, &[2, 0]), [EntryResult::Stepped, EntryResult::Met(2)]);
 }
 
 /// "judged after fault 20": an emptied operand is 20, whoever has gone.

@@ -5,7 +5,7 @@ mod common;
 use common::*;
 use data::program::{op::*, Method};
 use data::{Fault, Side, State, Value};
-use model::machine::{Did, Machine};
+use model::machine::{EntryResult, Machine};
 
 /// Runs main alone on as many entries as its code is long, less the RET.
 fn pending_after(slots: &[u16], code: &[(u16, u16)], outcomes: &[u8]) -> Vec<Value> {
@@ -430,9 +430,9 @@ fn a_stopped_process_is_idle_and_keeps_all() {
     let program = program(&methods);
     let mut machine = Machine::new(&program, &[], AMPLE);
     let did = drive(&mut machine, &[0, 1, 1]);
-    assert_eq!(did[2], Did::Stopped(Fault::Outcomes));
+    assert_eq!(did[2], EntryResult::Stopped(Fault::Outcomes));
     let before = machine.config.clone();
-    assert_eq!(drive(&mut machine, &[1, 1]), [Did::Idle, Did::Idle]);
+    assert_eq!(drive(&mut machine, &[1, 1]), [EntryResult::Idle, EntryResult::Idle]);
     assert_eq!(machine.config, before);
     assert_eq!(machine.config.processes[1].frames[0].pending, [Value::Qubit(0)]);
     assert_eq!(machine.entries, 5);

@@ -33,7 +33,7 @@ fn names() -> Vec<String> {
 }
 
 /// The schedule and the outcomes of an example: numbers under two headings, `0*3` for three
-/// of one kind, comments behind `#`.
+/// of one kind, comments after `#`.
 fn inputs(name: &str) -> (Vec<u8>, Vec<u8>) {
     let file = read(name, "lanq.run");
     let mut lists: BTreeMap<String, Vec<u8>> = BTreeMap::new();

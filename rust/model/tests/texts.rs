@@ -2,24 +2,24 @@
 //! that docs and other tests share.
 
 use data::program::table;
-use data::texts::{records, Expected, Record};
+use data::texts::{records, Expectation, Record};
 use data::WORK_WORDS;
 use model::check;
 use model::text::grammar::Grammar;
 use model::text::{translate, Reason};
 
 /// What the model answers, in the records' words.
-fn answer(record: &Record) -> Expected {
+fn answer(record: &Record) -> Expectation {
     match translate(&record.text) {
-        Err(refusal) => Expected::Refused { number: refusal.number, place: refusal.place },
+        Err(refusal) => Expectation::Refused { number: refusal.number, place: refusal.place },
         Ok(words) => {
             check(&words, &[], &[], WORK_WORDS).expect("a table that is given out passes the questions");
             match &record.answer {
-                Expected::Methods(methods) if table(methods) == words => record.answer.clone(),
-                Expected::Methods(_) => {
+                Expectation::Methods(methods) if table(methods) == words => record.answer.clone(),
+                Expectation::Methods(_) => {
                     panic!("{}: {:?}\n{words:?}", record.why, String::from_utf8_lossy(&record.text))
                 }
-                _ => Expected::Accepted,
+                _ => Expectation::Accepted,
             }
         }
     }

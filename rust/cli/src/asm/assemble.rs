@@ -1,5 +1,5 @@
 //! A text's names looked up, its table written. Questions 1 and 2 are seen to
-//! here, because a refusal would tell too little; the questions from 3 on are
+//! here, because a refusal would say too little; the questions from 3 on are
 //! left to the machine.
 
 use std::collections::BTreeMap;
@@ -8,22 +8,22 @@ use data::program::{self, MOST_INSTRUCTIONS, MOST_METHODS};
 use data::SLOTS;
 
 use crate::asm::lex::Token;
-use crate::asm::parse::{parse, Instruction, Method, Source, What};
-use crate::code::{Code, Written};
+use crate::asm::parse::{parse, Instruction, InstructionForm, Method, Source};
+use crate::code::{Code, Origin};
 use crate::error::Error;
 use crate::names::{MethodNames, Scope};
 
 /// What a text stands for, with its names. Schedule and outcomes are none where
 /// the text has no such section.
 #[derive(Clone, Debug, PartialEq, Eq)]
-pub struct Assembled {
+pub struct Assembly {
     pub code: Code,
     pub schedule: Option<Vec<u8>>,
     pub outcomes: Option<Vec<u8>>,
 }
 
 /// Assembles a text.
-pub fn assemble(text: &str) -> Result<Assembled, Error> {
+pub fn assemble(text: &str) -> Result<Assembly, Error> {
     let source = parse(text)?;
     check_sizes(&source)?;
     let names: Result<Vec<MethodNames>, Error> = source.methods.iter().map(names_of).collect();
@@ -35,8 +35,8 @@ pub fn assemble(text: &str) -> Result<Assembled, Error> {
         write_method(method, Scope { methods, here })
     });
     let methods: Vec<program::Method> = methods.collect::<Result<_, Error>>()?;
-    let code = Code { methods, names, written: Written::Text };
-    Ok(Assembled { code, schedule: source.schedule, outcomes: source.outcomes })
+    let code = Code { methods, names, written: Origin::Text };
+    Ok(Assembly { code, schedule: source.schedule, outcomes: source.outcomes })
 }
 
 /// Questions 1 and 2: the numbers of methods and instructions.
@@ -132,9 +132,9 @@ fn write_method(method: &Method, scope: Scope) -> Result<program::Method, Error>
 }
 
 fn write_instruction(instruction: &Instruction, scope: Scope) -> Result<(u16, u16), Error> {
-    let (op, phrases) = match &instruction.what {
-        What::Raw(op, argument) => return Ok((*op, *argument)),
-        What::Named(op, phrases) => (op, phrases),
+    let (op, phrases) = match &instruction.form {
+        InstructionForm::Raw(op, argument) => return Ok((*op, *argument)),
+        InstructionForm::Named(op, phrases) => (op, phrases),
     };
     let fields = op.fields.iter().zip(phrases);
     let numbers = fields.map(|(field, phrase)| {

@@ -1,7 +1,7 @@
 //! The ops' arguments, one row each, for the assembler and the lister alike.
 
 use data::program::op;
-use data::{Carried, Gate};
+use data::{CarriedType, Gate};
 
 use crate::asm::types::RAW;
 use crate::names::Scope;
@@ -18,7 +18,7 @@ pub enum Part {
     },
     Bool,
     Gate,
-    Carried,
+    CarriedType,
     Slot,
     Method,
     Label,
@@ -36,7 +36,7 @@ impl Part {
                 let number: u16 = text.parse().ok()?;
                 (low..=high).contains(&number).then_some(number)
             }
-            Part::Bool | Part::Gate | Part::Carried => {
+            Part::Bool | Part::Gate | Part::CarriedType => {
                 let words = self.words();
                 words.iter().find(|(word, _)| word == text).map(|(_, number)| *number)
             }
@@ -57,7 +57,7 @@ impl Part {
                 let listed = (low..=high).contains(&number);
                 listed.then(|| number.to_string())
             }
-            Part::Bool | Part::Gate | Part::Carried => {
+            Part::Bool | Part::Gate | Part::CarriedType => {
                 let mut words = self.words().into_iter();
                 words.find(|(_, one)| *one == number).map(|(word, _)| word)
             }
@@ -72,14 +72,14 @@ impl Part {
         match self {
             Part::Bool => [false, true].map(|value| (value.to_string(), u16::from(value))).to_vec(),
             Part::Gate => Gate::ALL.map(|gate| (gate.to_string(), gate.number())).to_vec(),
-            Part::Carried => Carried::ALL.map(|carried| (carried.to_string(), carried.number())).to_vec(),
+            Part::CarriedType => CarriedType::ALL.map(|carried| (carried.to_string(), carried.number())).to_vec(),
             _ => Vec::new(),
         }
     }
 
     /// Whether a word of this part may have parentheses.
     pub fn opens(self) -> bool {
-        matches!(self, Part::Carried)
+        matches!(self, Part::CarriedType)
     }
 
     /// What was expected, without the names of a program.
@@ -92,7 +92,7 @@ impl Part {
             Part::Label => return "a label".to_string(),
             Part::Bool => "a boolean",
             Part::Gate => "a gate",
-            Part::Carried => "a type that channels carry",
+            Part::CarriedType => "a type that channels carry",
         };
         let names: Vec<String> = self.words().into_iter().map(|(word, _)| word).collect();
         format!("{what} ({})", names.join(", "))
@@ -183,7 +183,7 @@ const fn row(number: u16, fields: &'static [Field]) -> Op {
 const INT: &[Field] = &[whole(Part::Int)];
 const BOOLEAN: &[Field] = &[whole(Part::Bool)];
 const SLOT: &[Field] = &[whole(Part::Slot)];
-const CARRIED: &[Field] = &[whole(Part::Carried)];
+const CARRIED: &[Field] = &[whole(Part::CarriedType)];
 const SIDE: &[Field] = &[whole(Part::Number { low: 0, high: 1 })];
 const GATE: &[Field] = &[whole(Part::Gate)];
 const METHOD: &[Field] = &[whole(Part::Method)];

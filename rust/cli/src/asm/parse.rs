@@ -49,11 +49,11 @@ pub struct Label<'t> {
 #[derive(Debug)]
 pub struct Instruction {
     pub place: Place,
-    pub what: What,
+    pub form: InstructionForm,
 }
 
 #[derive(Debug)]
-pub enum What {
+pub enum InstructionForm {
     /// An op with one phrase for each field of its argument.
     Named(&'static Op, Vec<Phrase>),
     /// Op and argument as they are.
@@ -254,14 +254,14 @@ fn read_instruction(line: &mut Cursor) -> Result<Instruction, Error> {
         return Err(unknown_op(line, word, expected));
     }
     line.take(Kind::Word, expected)?;
-    let what = match op {
-        Some(op) => What::Named(op, read_fields(line, op)?),
+    let form = match op {
+        Some(op) => InstructionForm::Named(op, read_fields(line, op)?),
         None => {
             let number = read_number(line, "the op as a number from 0 to 65535")?;
-            What::Raw(number, read_number(line, "the argument as a number from 0 to 65535")?)
+            InstructionForm::Raw(number, read_number(line, "the argument as a number from 0 to 65535")?)
         }
     };
-    Ok(Instruction { place, what })
+    Ok(Instruction { place, form })
 }
 
 fn read_fields(line: &mut Cursor, op: &Op) -> Result<Vec<Phrase>, Error> {

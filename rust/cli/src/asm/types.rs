@@ -1,6 +1,6 @@
 //! The types by name.
 
-use data::{Carried, Type};
+use data::{CarriedType, Type};
 
 /// The mark of a slot of type 0.
 pub const UNUSED: &str = "-";
@@ -18,8 +18,8 @@ pub fn void() -> String {
 /// The types that a slot can have.
 fn slot_types() -> impl Iterator<Item = Type> {
     let plain = [Type::Int, Type::Bool, Type::Qubit];
-    let channels = Carried::ALL.map(Type::Channel);
-    let ends = Carried::ALL.map(Type::End);
+    let channels = CarriedType::ALL.map(Type::Channel);
+    let ends = CarriedType::ALL.map(Type::End);
     plain.into_iter().chain(channels).chain(ends)
 }
 

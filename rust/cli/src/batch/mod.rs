@@ -14,7 +14,7 @@ use std::sync::mpsc::{channel, Sender};
 
 use crate::batch::journal::{read_results, Journal, Results};
 use crate::error::Failure;
-use crate::input::case::{is_case, Given};
+use crate::input::case::{is_case, CaseOptions};
 use crate::json::Json;
 use crate::progress::Progress;
 use crate::report::{case_json, digest, file_json, Detail, FORMAT, VERSION};
@@ -34,11 +34,11 @@ pub struct Batch {
     pub others: Vec<PathBuf>,
     pub detail: Detail,
     /// What the options give for every case.
-    pub given: Given,
+    pub given: CaseOptions,
 }
 
 /// A result, with the number of its case.
-struct Found {
+struct CaseResult {
     number: usize,
     json: Json,
     /// Whether it was there already.
@@ -116,7 +116,7 @@ impl Batch {
         &self,
         names: &[String],
         old: &HashMap<String, Vec<Json>>,
-        mut take: impl FnMut(Found) -> Result<(), Failure>,
+        mut take: impl FnMut(CaseResult) -> Result<(), Failure>,
     ) -> Result<(), Failure> {
         let next = AtomicUsize::new(0);
         let (sender, receiver) = channel();
@@ -134,12 +134,12 @@ impl Batch {
     }
 
     /// Takes one case after the other until there is none left.
-    fn work(&self, names: &[String], old: &HashMap<String, Vec<Json>>, next: &AtomicUsize, sender: Sender<Found>) {
+    fn work(&self, names: &[String], old: &HashMap<String, Vec<Json>>, next: &AtomicUsize, sender: Sender<CaseResult>) {
         loop {
             let number = next.fetch_add(1, Ordering::Relaxed);
             let Some(name) = names.get(number) else { return };
             let (json, old) = self.result(name, old.get(name).map(Vec::as_slice).unwrap_or_default());
-            if sender.send(Found { number, json, old }).is_err() {
+            if sender.send(CaseResult { number, json, old }).is_err() {
                 return;
             }
         }
@@ -147,7 +147,7 @@ impl Batch {
 
     /// A case's result, and whether it was there already.
     fn result(&self, name: &str, old: &[Json]) -> (Json, bool) {
-        let given = Given { path: Some(self.directory.join(name)), silent: true, ..self.given.clone() };
+        let given = CaseOptions { path: Some(self.directory.join(name)), silent: true, ..self.given.clone() };
         let case = match given.case() {
             Ok(case) => case,
             Err(Failure::Refused(refused)) => return (file_json(name, given.machine, &refused), false),
@@ -165,7 +165,7 @@ impl Batch {
     }
 
     /// Whether an old result is of these inputs, by this machine and version, and
-    /// tells enough.
+    /// says enough.
     fn is_of(&self, json: &Json, digest: &str) -> bool {
         let text = |key| json.get(key).and_then(Json::as_text);
         let format = json.get("format").and_then(Json::as_number);

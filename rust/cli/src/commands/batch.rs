@@ -3,7 +3,7 @@
 use std::path::PathBuf;
 
 use crate::batch::{default_out, Batch};
-use crate::commands::{Command, Done};
+use crate::commands::{Command, CommandResult};
 use crate::error::Failure;
 use crate::options::{flag, valued, Arguments, Opt, INPUTS, RUN};
 use crate::report::Detail;
@@ -28,7 +28,7 @@ const OPTIONS: &[Opt] = &[
     flag("--full", "with the trace and the final configuration of each run"),
 ];
 
-fn run(arguments: &Arguments) -> Result<Done, Failure> {
+fn run(arguments: &Arguments) -> Result<CommandResult, Failure> {
     let [directory] = arguments.exactly("a directory")?;
     let directory = PathBuf::from(directory);
     let cores = std::thread::available_parallelism().map_or(1, usize::from);
@@ -43,7 +43,7 @@ fn run(arguments: &Arguments) -> Result<Done, Failure> {
         part,
     };
     let summary = batch.run()?;
-    Ok(Done {
+    Ok(CommandResult {
         out: summary.to_string().into_bytes(),
         notes: summary.unread.iter().map(|why| format!("{why}\n")).collect(),
         status: u8::from(!summary.all_ran()),

@@ -1,6 +1,6 @@
 //! `lanq check`
 
-use crate::commands::{Command, Done};
+use crate::commands::{Command, CommandResult};
 use crate::error::Failure;
 use crate::options::{Arguments, INPUTS, MODEL};
 
@@ -16,14 +16,14 @@ line in the text, or in what lanq list writes.",
     run,
 };
 
-fn run(arguments: &Arguments) -> Result<Done, Failure> {
+fn run(arguments: &Arguments) -> Result<CommandResult, Failure> {
     let given = arguments.one_case()?;
     let case = given.case()?;
     let checked = given.machine.check(&case.program, &case.schedule, &case.outcomes);
     checked.map_err(|refusal| case.refused(refusal))?;
     let methods = case.program.first().copied().unwrap_or_default();
     let instructions = case.program.get(1).copied().unwrap_or_default();
-    Ok(Done::said(format!(
+    Ok(CommandResult::said(format!(
         "{}: accepted; methods {methods}, instructions {instructions}, entries {}, outcomes {}\n",
         case.name,
         case.schedule.len(),

@@ -4,7 +4,7 @@ use std::path::Path;
 
 use data::{Event, Holders, Line, LookUp, Run, State, Thing};
 
-use crate::commands::{schedule_note, Command, Done};
+use crate::commands::{schedule_note, Command, CommandResult};
 use crate::error::{Error, Failure};
 use crate::input::case::Case;
 use crate::input::source::text;
@@ -14,12 +14,12 @@ use crate::options::{valued, Arguments, Opt, INPUTS, RUN};
 pub const COMMAND: Command = Command {
     name: "holder",
     usage: "CASE|TRACE [--qubit Q] [--lines K | --after N] [options]",
-    about: "tells who holds a qubit by the first lines of a trace, or everything after an entry",
+    about: "shows who holds a qubit by the first lines of a trace, or everything after an entry",
     more: "\
 A TRACE is what lanq run printed, in a file that ends in .trace, or with --csv in one that ends in
-.csv. Of a case the trace of its run is taken. Without --qubit all qubits made are told of, each
+.csv. Of a case the trace of its run is taken. Without --qubit all qubits made are shown, each
 with the line that decides, counted from 0. With --after no trace is read: the run of a case on its
-first entries has stored who holds each qubit and each channel end, and they are told of.",
+first entries has stored who holds each qubit and each channel end, and these are shown.",
     options: &[OPTIONS, INPUTS, RUN],
     run,
 };
@@ -30,7 +30,7 @@ const OPTIONS: &[Opt] = &[
     valued("--after", "N", "after the first N entries, by what the run has stored; ends too"),
 ];
 
-fn run(arguments: &Arguments) -> Result<Done, Failure> {
+fn run(arguments: &Arguments) -> Result<CommandResult, Failure> {
     if arguments.words.len() > 1 {
         return Err(Failure::Call("wants one case or trace".to_string()));
     }
@@ -44,9 +44,9 @@ fn run(arguments: &Arguments) -> Result<Done, Failure> {
     let machine = arguments.machine();
     let out = match qubit {
         Some(qubit) => alone(machine.holder(&lines, k, qubit).holder),
-        None => made(&lines).map(|qubit| told(&lines, k, qubit, machine.holder(&lines, k, qubit))).collect(),
+        None => made(&lines).map(|qubit| sentence(&lines, k, qubit, machine.holder(&lines, k, qubit))).collect(),
     };
-    Ok(Done { notes, ..Done::said(out) })
+    Ok(CommandResult { notes, ..CommandResult::said(out) })
 }
 
 /// The holder's number or nobody, for other programs.
@@ -55,7 +55,7 @@ fn alone(holder: Option<u16>) -> String {
 }
 
 /// Who holds what after so many entries, as the run on them has stored it.
-fn after(arguments: &Arguments, entries: usize, qubit: Option<u16>) -> Result<Done, Failure> {
+fn after(arguments: &Arguments, entries: usize, qubit: Option<u16>) -> Result<CommandResult, Failure> {
     let path = arguments.words.first().map(String::as_str);
     if arguments.value("--lines").is_some() {
         return Err(Failure::Call("--lines and --after exclude each other".to_string()));
@@ -72,7 +72,7 @@ fn after(arguments: &Arguments, entries: usize, qubit: Option<u16>) -> Result<Do
         Some(qubit) => alone(run.configuration.holders.of(Thing::Qubit(qubit))),
         None => Holders::things().filter_map(|thing| stored(&run, thing)).collect(),
     };
-    Ok(Done::of_case(&whole, out))
+    Ok(CommandResult::of_case(&whole, out))
 }
 
 /// A thing that was made, its holder, and whether that one still runs.
@@ -88,7 +88,7 @@ fn stored(run: &Run, thing: Thing) -> Option<String> {
 
 /// The holder, and the line that decides: of the first `k` lines so many were
 /// read, from the last one backwards.
-fn told(lines: &[Line], k: usize, qubit: u16, LookUp { holder, read }: LookUp) -> String {
+fn sentence(lines: &[Line], k: usize, qubit: u16, LookUp { holder, read }: LookUp) -> String {
     match holder {
         Some(process) => {
             let line = k.min(lines.len()) - read;

@@ -27,7 +27,7 @@ pub struct Command {
     /// What else there is to say.
     pub more: &'static str,
     pub options: &'static [&'static [Opt]],
-    pub run: fn(&Arguments) -> Result<Done, Failure>,
+    pub run: fn(&Arguments) -> Result<CommandResult, Failure>,
 }
 
 pub static COMMANDS: &[Command] = &[
@@ -44,7 +44,7 @@ pub static COMMANDS: &[Command] = &[
 
 /// What a command leaves.
 #[derive(Clone, Debug, Default, PartialEq, Eq)]
-pub struct Done {
+pub struct CommandResult {
     /// For standard output.
     pub out: Vec<u8>,
     /// For standard error.
@@ -53,14 +53,14 @@ pub struct Done {
     pub status: u8,
 }
 
-impl Done {
-    fn said(out: impl Into<Vec<u8>>) -> Done {
-        Done { out: out.into(), ..Done::default() }
+impl CommandResult {
+    fn said(out: impl Into<Vec<u8>>) -> CommandResult {
+        CommandResult { out: out.into(), ..CommandResult::default() }
     }
 
     /// With what is to be said of how the case was scheduled.
-    fn of_case(case: &Case, out: impl Into<Vec<u8>>) -> Done {
-        Done { notes: schedule_note(case), ..Done::said(out) }
+    fn of_case(case: &Case, out: impl Into<Vec<u8>>) -> CommandResult {
+        CommandResult { notes: schedule_note(case), ..CommandResult::said(out) }
     }
 }
 
@@ -77,7 +77,7 @@ fn schedule_note(case: &Case) -> String {
 }
 
 /// Does what the words of a call ask for.
-pub fn call(words: &[String]) -> Done {
+pub fn call(words: &[String]) -> CommandResult {
     let (name, rest) = match words.split_first() {
         None => return failed(None, Failure::Call("wants a command".to_string())),
         Some((name, rest)) => (name.as_str(), rest),
@@ -86,13 +86,13 @@ pub fn call(words: &[String]) -> Done {
         return help(rest);
     }
     if ["version", "--version"].contains(&name) && rest.is_empty() {
-        return Done::said(format!("lanq {VERSION}\n"));
+        return CommandResult::said(format!("lanq {VERSION}\n"));
     }
     let Some(command) = COMMANDS.iter().find(|command| command.name == name) else {
         return failed(None, Failure::Call(format!("no command {name}")));
     };
     if rest.iter().any(|word| word == "--help") {
-        return Done::said(command_help(command));
+        return CommandResult::said(command_help(command));
     }
     let options: Vec<&Opt> = command.options.iter().copied().flatten().collect();
     let done = Arguments::read(rest, &options).and_then(|arguments| (command.run)(&arguments));
@@ -100,24 +100,26 @@ pub fn call(words: &[String]) -> Done {
 }
 
 /// What is said of a failure, and its exit status.
-fn failed(command: Option<&Command>, failure: Failure) -> Done {
+fn failed(command: Option<&Command>, failure: Failure) -> CommandResult {
     match failure {
         Failure::Call(why) => {
             let name = command.map(|command| format!(" {}", command.name)).unwrap_or_default();
             let usage =
                 command.map_or_else(overview, |command| format!("usage: lanq {} {}\n", command.name, command.usage));
-            Done { notes: format!("lanq{name}: {why}\n{usage}"), status: 2, ..Done::default() }
+            CommandResult { notes: format!("lanq{name}: {why}\n{usage}"), status: 2, ..CommandResult::default() }
         }
-        Failure::Refused(refused) => Done { notes: refused.to_string(), status: 1, ..Done::default() },
-        Failure::Said(why) => Done { notes: format!("{why}\n"), status: 1, ..Done::default() },
+        Failure::Refused(refused) => {
+            CommandResult { notes: refused.to_string(), status: 1, ..CommandResult::default() }
+        }
+        Failure::Said(why) => CommandResult { notes: format!("{why}\n"), status: 1, ..CommandResult::default() },
     }
 }
 
-fn help(words: &[String]) -> Done {
+fn help(words: &[String]) -> CommandResult {
     match words {
-        [] => Done::said(overview()),
+        [] => CommandResult::said(overview()),
         [name] => match COMMANDS.iter().find(|command| command.name == name) {
-            Some(command) => Done::said(command_help(command)),
+            Some(command) => CommandResult::said(command_help(command)),
             None => failed(None, Failure::Call(format!("no command {name}"))),
         },
         _ => failed(None, Failure::Call("help wants one command".to_string())),
@@ -139,7 +141,7 @@ outcomes.txt. Options give each part in place of the case's own.
         text += &format!("    {:9} {}\n", command.name, command.about);
     }
     text += "
-lanq help COMMAND tells more of one, lanq version which version this is. The exit status is 0, or 1
+lanq help COMMAND says more of one, lanq version which version this is. The exit status is 0, or 1
 after a refusal or an error, or 2 after a wrong call.
 ";
     text

@@ -1,10 +1,10 @@
 //! `lanq run`
 
-use crate::commands::{schedule_note, Command, Done};
+use crate::case_refusal::CaseRefusal;
+use crate::commands::{schedule_note, Command, CommandResult};
 use crate::error::Failure;
-use crate::input::case::Given;
+use crate::input::case::CaseOptions;
 use crate::options::{flag, Arguments, Opt, INPUTS, RUN};
-use crate::refused::Refused;
 use crate::report::{case_json, csv, file_json, Detail};
 
 pub const COMMAND: Command = Command {
@@ -23,7 +23,7 @@ const OPTIONS: &[Opt] = &[
     flag("--csv", "print the trace with commas and a line of names"),
 ];
 
-fn run(arguments: &Arguments) -> Result<Done, Failure> {
+fn run(arguments: &Arguments) -> Result<CommandResult, Failure> {
     let given = arguments.one_case()?;
     match (arguments.has("--json"), arguments.has("--csv")) {
         (true, true) => Err(Failure::Call("--json and --csv exclude each other".to_string())),
@@ -37,15 +37,15 @@ fn run(arguments: &Arguments) -> Result<Done, Failure> {
 }
 
 /// A text of the run; a refusal is printed as the printing program does.
-fn plain(given: &Given, text: impl Fn(&data::Run) -> String) -> Result<Done, Failure> {
-    let ran = given.case().and_then(|case| given.run(&case).map(|run| Done::of_case(&case, text(&run))));
+fn plain(given: &CaseOptions, text: impl Fn(&data::Run) -> String) -> Result<CommandResult, Failure> {
+    let ran = given.case().and_then(|case| given.run(&case).map(|run| CommandResult::of_case(&case, text(&run))));
     match ran {
         Err(Failure::Refused(refused)) => Ok(refusal(&refused, format!("{}\n", refused.refusal))),
         other => other,
     }
 }
 
-fn json(given: &Given) -> Result<Done, Failure> {
+fn json(given: &CaseOptions) -> Result<CommandResult, Failure> {
     let case = match given.case() {
         Err(Failure::Refused(refused)) => {
             let object = file_json(&refused.name, given.machine, &refused);
@@ -56,15 +56,15 @@ fn json(given: &Given) -> Result<Done, Failure> {
     let object =
         |result| format!("{}\n", case_json(&case.name, &case, given.machine, given.room, result, Detail::Whole));
     match given.run(&case) {
-        Ok(run) => Ok(Done::of_case(&case, object(Ok(&run)))),
+        Ok(run) => Ok(CommandResult::of_case(&case, object(Ok(&run)))),
         Err(Failure::Refused(refused)) => {
             let done = refusal(&refused, object(Err(&refused)));
-            Ok(Done { notes: schedule_note(&case) + &done.notes, ..done })
+            Ok(CommandResult { notes: schedule_note(&case) + &done.notes, ..done })
         }
         Err(failure) => Err(failure),
     }
 }
 
-fn refusal(refused: &Refused, out: String) -> Done {
-    Done { out: out.into_bytes(), notes: refused.to_string(), status: 1 }
+fn refusal(refused: &CaseRefusal, out: String) -> CommandResult {
+    CommandResult { out: out.into_bytes(), notes: refused.to_string(), status: 1 }
 }

@@ -3,14 +3,14 @@
 use data::Line;
 
 use crate::commands::holder::lines;
-use crate::commands::{Command, Done};
+use crate::commands::{Command, CommandResult};
 use crate::error::Failure;
 use crate::options::{Arguments, MODEL};
 
 pub const COMMAND: Command = Command {
     name: "same",
     usage: "CASE|TRACE CASE|TRACE [--model]",
-    about: "tells whether two traces have the same lines, with the same gaps between their entries",
+    about: "says whether two traces have the same lines, with the same gaps between their entries",
     more: "\
 A TRACE is what lanq run printed, in a file that ends in .trace, or with --csv in one that ends in
 .csv. Of a case the trace of its run is taken. Lines are the same where they differ in nothing but
@@ -20,16 +20,18 @@ the entry; from each line to the next the entry has to change by the same amount
     run,
 };
 
-fn run(arguments: &Arguments) -> Result<Done, Failure> {
+fn run(arguments: &Arguments) -> Result<CommandResult, Failure> {
     let [one, other] = arguments.exactly("two cases or traces")?;
     let (one, mut notes) = lines(arguments, Some(one))?;
     let (other, more) = lines(arguments, Some(other))?;
     notes += &more;
     let done = match arguments.machine().same(&one, &other) {
-        true => Done::said(format!("same: {} lines\n", one.len())),
-        false => Done { status: 1, ..Done::said(format!("different: {}\n", difference(&one, &other))) },
+        true => CommandResult::said(format!("same: {} lines\n", one.len())),
+        false => {
+            CommandResult { status: 1, ..CommandResult::said(format!("different: {}\n", difference(&one, &other))) }
+        }
     };
-    Ok(Done { notes, ..done })
+    Ok(CommandResult { notes, ..done })
 }
 
 /// The first lines that differ in another column than the entry's, else the

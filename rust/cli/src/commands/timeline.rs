@@ -2,7 +2,7 @@
 
 use std::ops::RangeInclusive;
 
-use crate::commands::{Command, Done};
+use crate::commands::{Command, CommandResult};
 use crate::error::Failure;
 use crate::options::{valued, Arguments, Opt, INPUTS, RUN};
 use crate::timeline::timeline;
@@ -22,14 +22,14 @@ ends that were used, a cross is a fault.",
 
 const OPTIONS: &[Opt] = &[valued("--entries", "FROM-TO", "only these entries of the run")];
 
-fn run(arguments: &Arguments) -> Result<Done, Failure> {
+fn run(arguments: &Arguments) -> Result<CommandResult, Failure> {
     let given = arguments.one_case()?;
     let entries = arguments.value("--entries").map(range).transpose()?;
     let case = given.case()?;
     let run = given.run(&case)?;
     let Some(code) = &case.code else { return Err(Failure::of(&case.name, "has no methods")) };
     let drawn = timeline(&case.name, code, &run, entries.unwrap_or(0..=usize::MAX));
-    Ok(Done::of_case(&case, drawn))
+    Ok(CommandResult::of_case(&case, drawn))
 }
 
 fn range(text: &str) -> Result<RangeInclusive<usize>, Failure> {

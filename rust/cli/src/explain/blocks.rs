@@ -4,14 +4,14 @@
 use std::collections::BTreeMap;
 
 use crate::code::{Code, Site};
-use crate::emptied::Emptied;
+use crate::empty_cells::EmptyCells;
 use crate::explain::processes::how;
-use crate::explain::{Told, INDENT};
+use crate::explain::{RunContext, INDENT};
 use crate::history::{each_step, Step};
 use crate::holders::Holders;
-use crate::input::case::Given;
+use crate::input::case::CaseOptions;
+use crate::readiness::readiness;
 use crate::sentence::sentence;
-use crate::standing::standing;
 
 /// So many instructions of a row of them are written out.
 const MOST_INSTRUCTIONS: usize = 8;
@@ -19,27 +19,27 @@ const MOST_INSTRUCTIONS: usize = 8;
 const MOST_ROWS: usize = 4;
 
 /// All entries in words, and what they have emptied.
-pub fn entries(given: &Given, told: Told) -> (String, Emptied) {
+pub fn entries(given: &CaseOptions, context: RunContext) -> (String, EmptyCells) {
     let mut text = String::new();
-    let mut emptied = Emptied::default();
+    let mut emptied = EmptyCells::default();
     let mut holders = Holders::default();
     let mut block = Block::default();
-    each_step(given, told.case, told.run, |step| {
+    each_step(given, context.case, context.run, |step| {
         emptied.read(step);
         if step.lines.is_empty() {
-            block.read(told.code, step);
+            block.read(context.code, step);
             return;
         }
         text += &std::mem::take(&mut block).text();
-        text += &format!("entry {}: process {}, {}\n", step.entry, step.process, at(told.code, step));
+        text += &format!("entry {}: process {}, {}\n", step.entry, step.process, at(context.code, step));
         for line in step.lines {
             holders.read(line);
-            text += &format!("{line:INDENT$} {}\n", sentence(line, told.code));
+            text += &format!("{line:INDENT$} {}\n", sentence(line, context.code));
         }
         text += &format!("{:INDENT$} held {}\n", "", holders.text());
     });
     text += &block.text();
-    let (used, all) = (told.run.entries, told.case.schedule.len());
+    let (used, all) = (context.run.entries, context.case.schedule.len());
     if used < all {
         text += &format!("{} not used\n", spans(&(used..all).collect::<Vec<usize>>()));
     }
@@ -58,12 +58,12 @@ fn at(code: &Code, step: &Step) -> String {
 #[derive(Debug, Default)]
 struct Block {
     entries: Vec<usize>,
-    processes: BTreeMap<u8, Silent>,
+    processes: BTreeMap<u8, SilentEntries>,
 }
 
 /// What one process did in them.
 #[derive(Debug, Default)]
-struct Silent {
+struct SilentEntries {
     steps: Vec<Site>,
     idle: Vec<usize>,
     /// Why it was idle first.
@@ -75,7 +75,7 @@ impl Block {
         self.entries.push(step.entry);
         let number = usize::from(step.process);
         let silent = self.processes.entry(step.process).or_default();
-        if standing(code, step.before, step.holders, number).is_able() {
+        if readiness(code, step.before, step.holders, number).is_able() {
             let frame = step.before.processes[number].top();
             silent.steps.extend(frame.and_then(|frame| code.site(frame.place)));
             return;

@@ -7,10 +7,10 @@ mod processes;
 use data::Run;
 
 use crate::code::Code;
-use crate::emptied::Emptied;
+use crate::empty_cells::EmptyCells;
 use crate::history::each_step;
 use crate::holders::Holders;
-use crate::input::case::{Case, Given};
+use crate::input::case::{Case, CaseOptions};
 use crate::sentence::sentence;
 
 /// Sentences start after the numbers of most lines.
@@ -20,33 +20,33 @@ const INDENT: usize = 22;
 /// are asked for.
 pub const MOST_STEPPED: usize = 5_000;
 
-/// A run with what is needed to tell of it.
+/// A run with what is needed to explain it.
 #[derive(Clone, Copy)]
-struct Told<'r> {
+struct RunContext<'r> {
     case: &'r Case,
     code: &'r Code,
     run: &'r Run,
 }
 
 /// Explains a run of a case. With `all`, every entry is shown, idle ones too.
-pub fn explain(given: &Given, case: &Case, code: &Code, run: &Run, all: bool) -> String {
-    let told = Told { case, code, run };
+pub fn explain(given: &CaseOptions, case: &Case, code: &Code, run: &Run, all: bool) -> String {
+    let context = RunContext { case, code, run };
     let mut text = LEGEND.to_string();
     let mut emptied = None;
     if all {
-        let (entries, last) = blocks::entries(given, told);
+        let (entries, last) = blocks::entries(given, context);
         text += &entries;
         emptied = Some(last);
     } else {
-        text += &lines(told);
+        text += &lines(context);
         if run.entries <= MOST_STEPPED {
-            let mut last = Emptied::default();
+            let mut last = EmptyCells::default();
             each_step(given, case, run, |step| last.read(step));
             emptied = Some(last);
         }
     }
-    text += &counts(told);
-    text += &processes::processes(told, emptied.as_ref());
+    text += &counts(context);
+    text += &processes::processes(context, emptied.as_ref());
     text
 }
 
@@ -56,19 +56,19 @@ q0 is qubit 0, c1.0 is end 0 of channel 1, bob 2 (table 20) is instruction 2 of 
 ";
 
 /// Each line with a sentence and the holders so far.
-fn lines(told: Told) -> String {
+fn lines(context: RunContext) -> String {
     let mut holders = Holders::default();
-    let lines = told.run.lines.iter().map(|line| {
+    let lines = context.run.lines.iter().map(|line| {
         holders.read(line);
-        let sentence = sentence(line, told.code);
+        let sentence = sentence(line, context.code);
         format!("{line:INDENT$} {sentence}\n{:INDENT$} held {}\n", "", holders.text())
     });
     lines.collect()
 }
 
 /// The last printed line, and the same in words.
-fn counts(told: Told) -> String {
-    let answer = told.run.answer();
+fn counts(context: RunContext) -> String {
+    let answer = context.run.answer();
     format!(
         "{answer}\n\n\
          end {}: {}\n\
@@ -76,9 +76,9 @@ fn counts(told: Told) -> String {
         answer.end.number(),
         answer.end,
         answer.entries,
-        told.case.schedule.len(),
+        context.case.schedule.len(),
         answer.lines,
         answer.outcomes,
-        told.case.outcomes.len()
+        context.case.outcomes.len()
     )
 }

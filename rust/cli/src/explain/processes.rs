@@ -4,32 +4,32 @@
 use data::{Configuration, Fault, Frame, Process, State, Value};
 
 use crate::code::Code;
-use crate::emptied::{Cell, Emptied};
-use crate::explain::Told;
+use crate::empty_cells::{Cell, EmptyCells};
+use crate::explain::RunContext;
 use crate::holders::Holders;
-use crate::standing::{partner, standing, stands_with, Offer, Standing};
+use crate::readiness::{partner, readiness, stands_with, Offer, Readiness};
 
 /// The processes at the end of a run.
-pub fn processes(told: Told, emptied: Option<&Emptied>) -> String {
-    let configuration = &told.run.configuration;
-    let holders = Holders::by(&told.run.lines);
+pub fn processes(context: RunContext, emptied: Option<&EmptyCells>) -> String {
+    let configuration = &context.run.configuration;
+    let holders = Holders::by(&context.run.lines);
     let mut text = String::new();
     for (number, process) in configuration.processes.iter().enumerate() {
-        let how = how(told.code, configuration, &holders, number);
+        let how = how(context.code, configuration, &holders, number);
         let why = match process.state {
             State::Stopped(fault) => format!(": {fault}"),
             _ => String::new(),
         };
         text += &format!("process {number} {how}{why}\n");
-        if let (State::Stopped(Fault::Gone), Some(offer)) = (process.state, stands_with(told.code, process)) {
+        if let (State::Stopped(Fault::Gone), Some(offer)) = (process.state, stands_with(context.code, process)) {
             text += &format!("    {}\n", gone(configuration, &holders, number, offer));
         }
         for (f, frame) in process.frames.iter().enumerate() {
             // A caller's place is after its CALL.
             let verb = if f + 1 == process.frames.len() { "stands at" } else { "goes on at" };
-            let site = told.code.site(frame.place).map(|site| site.to_string()).unwrap_or_default();
+            let site = context.code.site(frame.place).map(|site| site.to_string()).unwrap_or_default();
             text += &format!("    frame {f} {verb} {site}\n");
-            text += &values(told.code, frame, |cell| emptied?.why(number, f, cell).map(|why| why.to_string()));
+            text += &values(context.code, frame, |cell| emptied?.why(number, f, cell).map(|why| why.to_string()));
         }
     }
     if emptied.is_none() {
@@ -40,16 +40,16 @@ pub fn processes(told: Told, emptied: Option<&Emptied>) -> String {
 
 /// How a process stands.
 pub fn how(code: &Code, configuration: &Configuration, holders: &Holders, number: usize) -> String {
-    match standing(code, configuration, holders, number) {
-        Standing::NotStarted => "has not started".to_string(),
-        Standing::Finished => "has finished".to_string(),
-        Standing::Stopped(fault) => format!("was stopped by fault {}", fault.number()),
-        Standing::Moves => "is able to move".to_string(),
-        Standing::Gone(offer) => {
+    match readiness(code, configuration, holders, number) {
+        Readiness::NotStarted => "has not started".to_string(),
+        Readiness::Finished => "has finished".to_string(),
+        Readiness::Stopped(fault) => format!("was stopped by fault {}", fault.number()),
+        Readiness::Moves => "is able to move".to_string(),
+        Readiness::Gone(offer) => {
             let why = gone(configuration, holders, number, offer);
             format!("is able to move, to be stopped by fault {}: {why}", Fault::Gone.number())
         }
-        Standing::Waits(offer) => format!("waits {}", waits(code, configuration, holders, offer)),
+        Readiness::Waits(offer) => format!("waits {}", waits(code, configuration, holders, offer)),
     }
 }
 
@@ -96,8 +96,8 @@ fn does(code: &Code, configuration: &Configuration, holders: &Holders, number: u
     let top = configuration.processes.get(number).and_then(Process::top);
     let site = top.and_then(|frame| code.site(frame.place));
     let site = site.map(|site| site.to_string()).unwrap_or_default();
-    match standing(code, configuration, holders, number) {
-        Standing::Waits(_) => format!("waits too, at {site}"),
+    match readiness(code, configuration, holders, number) {
+        Readiness::Waits(_) => format!("waits too, at {site}"),
         _ => format!("stands at {site}"),
     }
 }

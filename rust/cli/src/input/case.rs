@@ -5,13 +5,13 @@ use std::path::{Path, PathBuf};
 
 use data::Run;
 
+use crate::case_refusal::CaseRefusal;
 use crate::code::Code;
 use crate::error::Failure;
-use crate::input::made::make;
+use crate::input::make::make;
 use crate::input::numbers::{self, Schedule};
 use crate::input::source::{self, Source, ASSEMBLER, LANQ, TABLE};
 use crate::machine::{Machine, Runner};
-use crate::refused::Refused;
 
 /// What a directory calls its program, before the ending.
 const PROGRAM: &str = "program";
@@ -24,7 +24,7 @@ pub struct Case {
     /// The program's file.
     pub name: String,
     pub program: Vec<u16>,
-    /// None where the table does not tell where its methods start.
+    /// None where the table does not say where its methods start.
     pub code: Option<Code>,
     pub schedule: Vec<u8>,
     pub outcomes: Vec<u8>,
@@ -36,7 +36,7 @@ pub struct Case {
 
 /// Where the parts of a case come from, besides the file or directory named.
 #[derive(Clone, Debug, Default, PartialEq, Eq)]
-pub struct Given {
+pub struct CaseOptions {
     /// The case's file or directory.
     pub path: Option<PathBuf>,
     pub program: Option<PathBuf>,
@@ -49,13 +49,13 @@ pub struct Given {
     pub silent: bool,
 }
 
-impl Given {
+impl CaseOptions {
     /// Reads the case.
     pub fn case(&self) -> Result<Case, Failure> {
         let found = match &self.path {
             Some(path) if path.is_dir() => read_directory(path, self.program.is_none())?,
-            Some(path) => Found { source: Some(source::read(path)?), ..Found::default() },
-            None => Found::default(),
+            Some(path) => DirectoryParts { source: Some(source::read(path)?), ..DirectoryParts::default() },
+            None => DirectoryParts::default(),
         };
         let source = match &self.program {
             Some(path) => Some(source::read(path)?),
@@ -106,19 +106,19 @@ impl Given {
 impl Case {
     /// A refusal of the case, in words.
     pub fn refused(&self, refusal: data::Refusal) -> Failure {
-        Failure::Refused(Box::new(Refused::new(self, refusal)))
+        Failure::Refused(Box::new(CaseRefusal::new(self, refusal)))
     }
 }
 
 /// What a directory holds.
 #[derive(Debug, Default)]
-struct Found {
+struct DirectoryParts {
     source: Option<Source>,
     schedule: Option<Schedule>,
     outcomes: Option<Vec<u8>>,
 }
 
-fn read_directory(path: &Path, needs_program: bool) -> Result<Found, Failure> {
+fn read_directory(path: &Path, needs_program: bool) -> Result<DirectoryParts, Failure> {
     let name = path.display().to_string();
     let programs = [ASSEMBLER, LANQ, TABLE].map(|ending| path.join(PROGRAM).with_extension(ending));
     let mut programs = programs.into_iter().filter(|path| path.exists());
@@ -133,7 +133,7 @@ fn read_directory(path: &Path, needs_program: bool) -> Result<Found, Failure> {
         }
         (None, _) => None,
     };
-    Ok(Found {
+    Ok(DirectoryParts {
         source,
         schedule: read_if_there(&path.join(SCHEDULE_FILE), schedule_file)?,
         outcomes: read_if_there(&path.join(OUTCOMES_FILE), outcomes_file)?,

@@ -3,13 +3,13 @@
 //! - [`case`]: all three, from a file, a directory or options
 //! - [`source`]: a program from a file, by the file's ending
 //! - [`numbers`]: schedules and outcomes as they are written
-//! - [`made`]: schedules that are made and not given
+//! - [`make`]: schedules that are made and not given
 //! - [`mod@file`]: the input file of the printing program
 //! - [`trace`]: traces as they are printed
 
 pub mod case;
 pub mod file;
-pub mod made;
+pub mod make;
 pub mod numbers;
 pub mod source;
 pub mod trace;

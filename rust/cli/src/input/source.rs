@@ -6,12 +6,12 @@ use std::path::Path;
 use data::program;
 use data::{Question, Refusal};
 
-use crate::asm::assemble::{assemble, Assembled};
+use crate::asm::assemble::{assemble, Assembly};
 use crate::asm::lex;
+use crate::case_refusal::{CaseRefusal, RefusalPlace};
 use crate::code::Code;
 use crate::error::Failure;
 use crate::input::file::Parts;
-use crate::refused::{At, Refused};
 
 /// A text of the assembler.
 pub const ASSEMBLER: &str = "lqa";
@@ -27,7 +27,7 @@ pub struct Source {
     /// The file.
     pub name: String,
     pub program: Vec<u16>,
-    /// None where the table does not tell where its methods start.
+    /// None where the table does not say where its methods start.
     pub code: Option<Code>,
     pub schedule: Option<Vec<u8>>,
     pub outcomes: Option<Vec<u8>>,
@@ -61,7 +61,7 @@ pub fn text(path: &Path) -> Result<String, Failure> {
 
 fn read_assembler(name: String, bytes: &[u8]) -> Result<Source, Failure> {
     let assembled = lex::text(bytes).and_then(assemble);
-    let Assembled { code, schedule, outcomes } = assembled.map_err(|error| Failure::in_text(&name, &error))?;
+    let Assembly { code, schedule, outcomes } = assembled.map_err(|error| Failure::in_text(&name, &error))?;
     let program = program::table(&code.methods);
     Ok(Source { name, program, code: Some(code), schedule, outcomes })
 }
@@ -69,7 +69,7 @@ fn read_assembler(name: String, bytes: &[u8]) -> Result<Source, Failure> {
 fn read_table(name: String, bytes: &[u8]) -> Result<Source, Failure> {
     let parts = Parts::read(bytes).map_err(|why| {
         let refusal = Refusal::new(Question::File, 0);
-        Failure::Refused(Box::new(Refused { name: name.clone(), refusal, rule: why, at: At::Nowhere }))
+        Failure::Refused(Box::new(CaseRefusal { name: name.clone(), refusal, rule: why, at: RefusalPlace::Nowhere }))
     })?;
     let methods = lanq::Program::from(parts.program.as_slice()).methods();
     Ok(Source {

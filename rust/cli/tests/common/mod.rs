@@ -5,7 +5,7 @@ use std::fs;
 use std::path::{Path, PathBuf};
 use std::process::{Command, Output};
 
-use cli::asm::assemble::{assemble, Assembled};
+use cli::asm::assemble::{assemble, Assembly};
 use data::file::file;
 use data::program::table;
 
@@ -56,13 +56,13 @@ pub fn example(name: &str) -> Example {
 }
 
 /// Assembles a text that has no error.
-pub fn assembled(text: &str) -> Assembled {
+pub fn assembled(text: &str) -> Assembly {
     assemble(text).unwrap_or_else(|error| panic!("{error}\n{text}"))
 }
 
 /// The input file of a text.
 pub fn bytes(text: &str) -> Vec<u8> {
-    let Assembled { code, schedule, outcomes } = assembled(text);
+    let Assembly { code, schedule, outcomes } = assembled(text);
     file(&table(&code.methods), &schedule.unwrap_or_default(), &outcomes.unwrap_or_default())
 }
 
@@ -88,26 +88,26 @@ pub fn write(folder: &Path, name: &str, content: impl AsRef<[u8]>) -> PathBuf {
 
 /// What a call of `lanq` left.
 #[derive(Debug)]
-pub struct Called {
+pub struct CommandOutput {
     pub status: Option<i32>,
     pub out: String,
     pub notes: String,
 }
 
 /// Calls `lanq` in a folder.
-pub fn lanq_in(folder: &Path, words: &[&str]) -> Called {
+pub fn lanq_in(folder: &Path, words: &[&str]) -> CommandOutput {
     let Output { status, stdout, stderr } =
         Command::new(env!("CARGO_BIN_EXE_lanq")).args(words).current_dir(folder).output().expect("lanq starts");
     let text = |bytes: Vec<u8>| String::from_utf8_lossy(&bytes).into_owned();
-    Called { status: status.code(), out: text(stdout), notes: text(stderr) }
+    CommandOutput { status: status.code(), out: text(stdout), notes: text(stderr) }
 }
 
 /// Calls `lanq` where the examples are.
-pub fn lanq(words: &[&str]) -> Called {
+pub fn lanq(words: &[&str]) -> CommandOutput {
     lanq_in(&repository("examples"), words)
 }
 
-impl Called {
+impl CommandOutput {
     /// What was printed by a call that went well and had nothing to note.
     pub fn quiet(self) -> String {
         assert_eq!((self.status, self.notes.as_str()), (Some(0), ""), "{}", self.out);

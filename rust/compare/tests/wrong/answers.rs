@@ -1,6 +1,6 @@
 //! Wrong about the answer and the words left in the buffers.
 
-use compare::left::{by_model, Buffers, Left};
+use compare::result::{by_model, Buffers, RunResult};
 use data::{Answer, Refusal, Run, WORK_WORDS};
 use generate::Case;
 use model::table::pair_place;
@@ -25,10 +25,15 @@ pub const WRONG: [Wrong; 14] = [
     ("lines are counted in words", Rules { leave: words_for_lines, ..RIGHT }),
 ];
 
-type Ran = Result<Run, Refusal>;
+type ModelRun = Result<Run, Refusal>;
 
 /// The right leavings, changed after a run. The words before are there too.
-fn after_run(case: &Case, ran: &Ran, buffers: Buffers, change: fn(&Case, &Run, &mut Buffers, Buffers)) -> Left {
+fn after_run(
+    case: &Case,
+    ran: &ModelRun,
+    buffers: Buffers,
+    change: fn(&Case, &Run, &mut Buffers, Buffers),
+) -> RunResult {
     let mut left = by_model(ran, buffers.clone());
     if let Ok(run) = ran {
         change(case, run, &mut left.buffers, buffers);
@@ -37,7 +42,7 @@ fn after_run(case: &Case, ran: &Ran, buffers: Buffers, change: fn(&Case, &Run, &
 }
 
 /// The right answer, changed after a run.
-fn answered(case: &Case, ran: &Ran, buffers: Buffers, change: fn(&Case, &mut Answer)) -> Left {
+fn answered(case: &Case, ran: &ModelRun, buffers: Buffers, change: fn(&Case, &mut Answer)) -> RunResult {
     let mut left = by_model(ran, buffers);
     if let Ok(answer) = &mut left.answer {
         change(case, answer);
@@ -45,7 +50,7 @@ fn answered(case: &Case, ran: &Ran, buffers: Buffers, change: fn(&Case, &mut Ans
     left
 }
 
-fn refusal_clears(_: &Case, ran: &Ran, buffers: Buffers) -> Left {
+fn refusal_clears(_: &Case, ran: &ModelRun, buffers: Buffers) -> RunResult {
     let mut left = by_model(ran, buffers);
     if ran.is_err() {
         left.buffers.lent().1.fill(0);
@@ -53,7 +58,7 @@ fn refusal_clears(_: &Case, ran: &Ran, buffers: Buffers) -> Left {
     left
 }
 
-fn refusal_writes(_: &Case, ran: &Ran, buffers: Buffers) -> Left {
+fn refusal_writes(_: &Case, ran: &ModelRun, buffers: Buffers) -> RunResult {
     let mut left = by_model(ran, buffers);
     if let (Err(refusal), Some(word)) = (ran, left.buffers.lent().0.first_mut()) {
         *word = refusal.number();
@@ -61,7 +66,7 @@ fn refusal_writes(_: &Case, ran: &Ran, buffers: Buffers) -> Left {
     left
 }
 
-fn unused_kept(case: &Case, ran: &Ran, buffers: Buffers) -> Left {
+fn unused_kept(case: &Case, ran: &ModelRun, buffers: Buffers) -> RunResult {
     after_run(case, ran, buffers, |_, _, left, mut before| {
         let old = before.lent().1[..8_192].iter();
         for (word, old) in left.lent().1.iter_mut().zip(old).skip(4_608) {
@@ -70,26 +75,26 @@ fn unused_kept(case: &Case, ran: &Ran, buffers: Buffers) -> Left {
     })
 }
 
-fn beyond_cleared(case: &Case, ran: &Ran, buffers: Buffers) -> Left {
+fn beyond_cleared(case: &Case, ran: &ModelRun, buffers: Buffers) -> RunResult {
     after_run(case, ran, buffers, |_, _, left, _| left.lent().1[WORK_WORDS..].fill(0))
 }
 
-fn tail_cleared(case: &Case, ran: &Ran, buffers: Buffers) -> Left {
+fn tail_cleared(case: &Case, ran: &ModelRun, buffers: Buffers) -> RunResult {
     after_run(case, ran, buffers, |_, run, left, _| left.lent().0[6 * run.lines.len()..].fill(0))
 }
 
-fn one_after(case: &Case, ran: &Ran, buffers: Buffers) -> Left {
+fn one_after(case: &Case, ran: &ModelRun, buffers: Buffers) -> RunResult {
     after_run(case, ran, buffers, |_, _, left, _| left.after_trace()[0] ^= 1)
 }
 
-fn columns_0(case: &Case, ran: &Ran, buffers: Buffers) -> Left {
+fn columns_0(case: &Case, ran: &ModelRun, buffers: Buffers) -> RunResult {
     after_run(case, ran, buffers, |_, run, left, _| {
         let written = &mut left.lent().0[..6 * run.lines.len()];
         written.iter_mut().filter(|word| **word == 65_535).for_each(|word| *word = 0);
     })
 }
 
-fn from_1(case: &Case, ran: &Ran, buffers: Buffers) -> Left {
+fn from_1(case: &Case, ran: &ModelRun, buffers: Buffers) -> RunResult {
     after_run(case, ran, buffers, |_, run, left, _| {
         let written = left.lent().0[..6 * run.lines.len()].iter_mut();
         written.step_by(6).for_each(|word| *word = word.wrapping_add(1));
@@ -102,7 +107,7 @@ fn parts<'a>(run: &Run, left: &'a mut Buffers) -> impl Iterator<Item = &'a mut [
     left.lent().1[..WORK_WORDS].chunks_exact_mut(512).skip(1).take(made)
 }
 
-fn place_in_method(case: &Case, ran: &Ran, buffers: Buffers) -> Left {
+fn place_in_method(case: &Case, ran: &ModelRun, buffers: Buffers) -> RunResult {
     after_run(case, ran, buffers, |case, run, left, _| {
         for (process, part) in run.configuration.processes.iter().zip(parts(run, left)) {
             for (f, frame) in process.frames.iter().enumerate() {
@@ -112,7 +117,7 @@ fn place_in_method(case: &Case, ran: &Ran, buffers: Buffers) -> Left {
     })
 }
 
-fn highest_first(case: &Case, ran: &Ran, buffers: Buffers) -> Left {
+fn highest_first(case: &Case, ran: &ModelRun, buffers: Buffers) -> RunResult {
     after_run(case, ran, buffers, |_, run, left, _| {
         for part in parts(run, left) {
             for f in 0..part[2] as usize {
@@ -125,11 +130,11 @@ fn highest_first(case: &Case, ran: &Ran, buffers: Buffers) -> Left {
     })
 }
 
-fn no_fault(case: &Case, ran: &Ran, buffers: Buffers) -> Left {
+fn no_fault(case: &Case, ran: &ModelRun, buffers: Buffers) -> RunResult {
     after_run(case, ran, buffers, |_, run, left, _| parts(run, left).for_each(|part| part[1] = 0))
 }
 
-fn one_tag(case: &Case, ran: &Ran, buffers: Buffers) -> Left {
+fn one_tag(case: &Case, ran: &ModelRun, buffers: Buffers) -> RunResult {
     after_run(case, ran, buffers, |_, run, left, _| {
         for part in parts(run, left) {
             part[64..448].iter_mut().step_by(2).filter(|tag| **tag == 6).for_each(|tag| *tag = 5);
@@ -137,10 +142,10 @@ fn one_tag(case: &Case, ran: &Ran, buffers: Buffers) -> Left {
     })
 }
 
-fn all_outcomes(case: &Case, ran: &Ran, buffers: Buffers) -> Left {
+fn all_outcomes(case: &Case, ran: &ModelRun, buffers: Buffers) -> RunResult {
     answered(case, ran, buffers, |case, answer| answer.outcomes = case.outcomes.len())
 }
 
-fn words_for_lines(case: &Case, ran: &Ran, buffers: Buffers) -> Left {
+fn words_for_lines(case: &Case, ran: &ModelRun, buffers: Buffers) -> RunResult {
     answered(case, ran, buffers, |_, answer| answer.lines *= 6)
 }

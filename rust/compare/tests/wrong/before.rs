@@ -2,7 +2,7 @@
 
 use data::{Question, Refusal, Value};
 use generate::Case;
-use model::machine::{Machine, Standing};
+use model::machine::{Machine, Readiness};
 use model::step::Effect;
 use model::table::Op;
 use model::Program;
@@ -10,23 +10,23 @@ use model::Program;
 use crate::rules::{effect, end_by, End, Rules, RIGHT};
 
 /// The rules before a paper.
-pub struct Before {
+pub struct EarlierRules {
     pub paper: u16,
     pub rules: Rules,
     /// Whether the paper may change what a case leaves.
     pub touches: fn(&Case) -> bool,
 }
 
-pub const ALL: [Before; 2] = [
-    Before {
+pub const ALL: [EarlierRules; 2] = [
+    EarlierRules {
         paper: 3,
         rules: Rules { check: outcomes_0_and_1, effect: measures_0_or_1, ..RIGHT },
         touches: |case| case.outcomes.contains(&2),
     },
-    Before {
+    EarlierRules {
         paper: 6,
         rules: Rules {
-            standing: gone_waits,
+            readiness: gone_waits,
             end: |machine| end_by(machine, gone_waits),
             last_end: |machine| end_by(machine, gone_waits).unwrap_or(End::ScheduleUsed),
             ..RIGHT
@@ -61,10 +61,10 @@ fn measures_0_or_1(machine: &Machine, process: usize, partner: Option<usize>) ->
 
 /// "SEND waits unless another process stands at RECV with the opposite end as
 /// its operand, and RECV likewise".
-pub fn gone_waits(machine: &Machine, number: usize) -> Standing {
+pub fn gone_waits(machine: &Machine, number: usize) -> Readiness {
     match machine.gone_for(number) {
-        Some(_) => Standing::Waits,
-        None => machine.standing(number),
+        Some(_) => Readiness::Waits,
+        None => machine.readiness(number),
     }
 }
 

@@ -1,7 +1,7 @@
 //! Wrong about entries and ends.
 
 use data::Process;
-use model::machine::{Machine, Standing};
+use model::machine::{Machine, Readiness};
 use model::step::Effect;
 
 use crate::rules::{effect, End, Rules, RIGHT};
@@ -26,10 +26,10 @@ pub const WRONG: [Wrong; 12] = [
 /// Some process waits and none can meet: those that could step are forgotten.
 fn stuck_by_waiting(machine: &Machine) -> Option<End> {
     let numbers = 0..machine.config.processes.len();
-    let standings: Vec<Standing> = numbers.map(|number| machine.standing(number)).collect();
-    let meets = standings.iter().any(|standing| matches!(standing, Standing::Meets(_)));
+    let all: Vec<Readiness> = numbers.map(|number| machine.readiness(number)).collect();
+    let meets = all.iter().any(|readiness| matches!(readiness, Readiness::Meets(_)));
     match machine.end_reached() {
-        None if standings.contains(&Standing::Waits) && !meets => Some(End::Stuck),
+        None if all.contains(&Readiness::Waits) && !meets => Some(End::Stuck),
         end => end,
     }
 }
@@ -47,9 +47,9 @@ fn over_is_stuck(machine: &Machine) -> Option<End> {
 
 fn faults_are_stuck(machine: &Machine) -> Option<End> {
     let numbers = 0..machine.config.processes.len();
-    let moves = |number: usize| match machine.standing(number) {
-        Standing::Meets(_) => true,
-        Standing::Steps => effect(machine, number, None).fault.is_none(),
+    let moves = |number: usize| match machine.readiness(number) {
+        Readiness::Meets(_) => true,
+        Readiness::Steps => effect(machine, number, None).fault.is_none(),
         _ => false,
     };
     match machine.config.processes.iter().any(Process::runs) && !numbers.into_iter().any(moves) {

@@ -1,6 +1,6 @@
 //! Wrong about the stored holders, Paper 7.
 
-use compare::left::{by_model, Buffers, Left};
+use compare::result::{by_model, Buffers, RunResult};
 use data::{Holders, Line, Process, Refusal, Run, Side, State, Thing, WORK_WORDS};
 use generate::Case;
 use model::owner::{holder, reach};
@@ -23,7 +23,7 @@ pub const WRONG: [Wrong; 11] = [
     ("the ends stand by side and not by channel", Rules { leave: by_side, ..RIGHT }),
 ];
 
-type Ran = Result<Run, Refusal>;
+type ModelRun = Result<Run, Refusal>;
 
 fn old_length(case: &Case) -> Result<Program, Refusal> {
     match case.work_len {
@@ -33,15 +33,15 @@ fn old_length(case: &Case) -> Result<Program, Refusal> {
 }
 
 /// The holders do not fit.
-fn short_store(case: &Case, ran: &Ran, buffers: Buffers) -> Left {
+fn short_store(case: &Case, ran: &ModelRun, buffers: Buffers) -> RunResult {
     match ran {
-        Ok(run) if case.work_len < WORK_WORDS => Left { answer: Ok(run.answer()), buffers, configuration: None },
+        Ok(run) if case.work_len < WORK_WORDS => RunResult { answer: Ok(run.answer()), buffers, configuration: None },
         _ => by_model(ran, buffers),
     }
 }
 
 /// The right leavings, with other words for the holders.
-fn storing(ran: &Ran, buffers: Buffers, word: impl Fn(&Run, Thing, Option<u32>) -> Option<u32>) -> Left {
+fn storing(ran: &ModelRun, buffers: Buffers, word: impl Fn(&Run, Thing, Option<u32>) -> Option<u32>) -> RunResult {
     let mut left = by_model(ran, buffers);
     if let Ok(run) = ran {
         let words = &mut left.buffers.lent().1[8_192..WORK_WORDS];
@@ -53,11 +53,11 @@ fn storing(ran: &Ran, buffers: Buffers, word: impl Fn(&Run, Thing, Option<u32>) 
     left
 }
 
-fn not_made_0(_: &Case, ran: &Ran, buffers: Buffers) -> Left {
+fn not_made_0(_: &Case, ran: &ModelRun, buffers: Buffers) -> RunResult {
     storing(ran, buffers, |_, _, stored| Some(stored.unwrap_or(0)))
 }
 
-fn not_made_kept(_: &Case, ran: &Ran, mut buffers: Buffers) -> Left {
+fn not_made_kept(_: &Case, ran: &ModelRun, mut buffers: Buffers) -> RunResult {
     let mut old = buffers.lent().1.get(8_192..).unwrap_or_default().to_vec().into_iter();
     let mut left = by_model(ran, buffers);
     if ran.is_ok() {
@@ -72,28 +72,28 @@ fn not_made_kept(_: &Case, ran: &Ran, mut buffers: Buffers) -> Left {
 }
 
 /// Nobody, where the holder is so.
-fn dropped(ran: &Ran, buffers: Buffers, drops: fn(&Process) -> bool) -> Left {
+fn dropped(ran: &ModelRun, buffers: Buffers, drops: fn(&Process) -> bool) -> RunResult {
     storing(ran, buffers, |run, _, stored| {
         stored.filter(|number| !drops(&run.configuration.processes[*number as usize]))
     })
 }
 
-fn finished_drops(_: &Case, ran: &Ran, buffers: Buffers) -> Left {
+fn finished_drops(_: &Case, ran: &ModelRun, buffers: Buffers) -> RunResult {
     dropped(ran, buffers, |process| process.state == State::Finished)
 }
 
-fn stopped_drops(_: &Case, ran: &Ran, buffers: Buffers) -> Left {
+fn stopped_drops(_: &Case, ran: &ModelRun, buffers: Buffers) -> RunResult {
     dropped(ran, buffers, |process| matches!(process.state, State::Stopped(_)))
 }
 
-fn by_reach(_: &Case, ran: &Ran, buffers: Buffers) -> Left {
+fn by_reach(_: &Case, ran: &ModelRun, buffers: Buffers) -> RunResult {
     storing(ran, buffers, |run, thing, stored| {
         stored.filter(|number| reach(&run.configuration.processes[*number as usize]).contains(&thing))
     })
 }
 
 /// The holder by those lines alone that pass.
-fn by_lines(ran: &Ran, buffers: Buffers, passes: fn(&[Line], usize) -> bool) -> Left {
+fn by_lines(ran: &ModelRun, buffers: Buffers, passes: fn(&[Line], usize) -> bool) -> RunResult {
     storing(ran, buffers, |run, thing, _| {
         let lines = run.lines.iter().enumerate();
         let lines = lines.filter(|(index, _)| passes(&run.lines, *index)).map(|(_, line)| *line);
@@ -101,11 +101,11 @@ fn by_lines(ran: &Ran, buffers: Buffers, passes: fn(&[Line], usize) -> bool) -> 
     })
 }
 
-fn channel_given(_: &Case, ran: &Ran, buffers: Buffers) -> Left {
+fn channel_given(_: &Case, ran: &ModelRun, buffers: Buffers) -> RunResult {
     by_lines(ran, buffers, |lines, index| lines[index].kind != 6 || lines[index].b != 4)
 }
 
-fn both_ends(_: &Case, ran: &Ran, buffers: Buffers) -> Left {
+fn both_ends(_: &Case, ran: &ModelRun, buffers: Buffers) -> RunResult {
     storing(ran, buffers, |run, thing, stored| match thing {
         Thing::End(channel, _) => {
             // The last line of either end.
@@ -119,15 +119,15 @@ fn both_ends(_: &Case, ran: &Ran, buffers: Buffers) -> Left {
     })
 }
 
-fn no_meeting(_: &Case, ran: &Ran, buffers: Buffers) -> Left {
+fn no_meeting(_: &Case, ran: &ModelRun, buffers: Buffers) -> RunResult {
     by_lines(ran, buffers, |lines, index| index == 0 || lines[index].kind != 6 || lines[index - 1].kind != 7)
 }
 
-fn no_fork(_: &Case, ran: &Ran, buffers: Buffers) -> Left {
+fn no_fork(_: &Case, ran: &ModelRun, buffers: Buffers) -> RunResult {
     by_lines(ran, buffers, |lines, index| lines[index].kind != 6 || index > 0 && lines[index - 1].kind == 7)
 }
 
-fn by_side(_: &Case, ran: &Ran, buffers: Buffers) -> Left {
+fn by_side(_: &Case, ran: &ModelRun, buffers: Buffers) -> RunResult {
     let mut left = by_model(ran, buffers);
     if ran.is_ok() {
         let ends = &mut left.buffers.lent().1[8_224..WORK_WORDS];

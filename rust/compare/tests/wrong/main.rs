@@ -19,7 +19,7 @@ mod rules;
 mod same_lines;
 
 use compare::inputs::{input, shortest};
-use compare::left::{by_library, by_model, difference, Buffers, Left};
+use compare::result::{by_library, by_model, difference, Buffers, RunResult};
 use generate::{Case, Random};
 use rules::{left, Rules, RIGHT};
 
@@ -44,7 +44,7 @@ fn all() -> Vec<Wrong> {
 const INPUTS: u64 = 20_000;
 
 /// What the model leaves.
-fn right(case: &Case, buffers: Buffers) -> Left {
+fn right(case: &Case, buffers: Buffers) -> RunResult {
     let ran = model::check_and_run(&case.program, &case.schedule, &case.outcomes, case.trace_len, case.work_len);
     by_model(&ran, buffers)
 }
@@ -61,12 +61,12 @@ fn every_wrong_machine_is_told_apart() {
         let buffers = Buffers::dirty(&case, &mut Random::new(number));
         let right = right(&case, buffers.clone());
         hidden.retain(|(name, rules)| {
-            let told = difference(&left(rules, &case, buffers.clone()), &right);
-            if let Some(difference) = &told {
+            let differs = difference(&left(rules, &case, buffers.clone()), &right);
+            if let Some(difference) = &differs {
                 let difference: String = difference.chars().take(90).collect();
                 println!("input {number:5}: {name}: {difference}");
             }
-            told.is_none()
+            differs.is_none()
         });
     }
     let names: Vec<&str> = hidden.iter().map(|(name, _)| *name).collect();
@@ -76,7 +76,7 @@ fn every_wrong_machine_is_told_apart() {
 }
 
 /// How the model and a machine of these rules differ on a case.
-fn told(rules: &Rules, case: &Case) -> Option<String> {
+fn differs(rules: &Rules, case: &Case) -> Option<String> {
     let buffers = Buffers::dirty(case, &mut Random::new(1));
     difference(&left(rules, case, buffers.clone()), &right(case, buffers))
 }
@@ -85,7 +85,7 @@ fn told(rules: &Rules, case: &Case) -> Option<String> {
 #[test]
 fn the_right_rules_are_the_model() {
     for number in 0..2_000 {
-        assert_eq!(told(&RIGHT, &input(number)), None, "input {number}");
+        assert_eq!(differs(&RIGHT, &input(number)), None, "input {number}");
     }
 }
 
@@ -93,11 +93,11 @@ fn the_right_rules_are_the_model() {
 #[test]
 fn a_difference_is_shown_small() {
     let rules = Rules { idle: |_| (), ..RIGHT };
-    let case = (0..).map(input).find(|case| told(&rules, case).is_some());
+    let case = (0..).map(input).find(|case| differs(&rules, case).is_some());
     let case = case.expect("an input with an idle entry");
-    let small = shortest(&case, |case| told(&rules, case).is_some());
+    let small = shortest(&case, |case| differs(&rules, case).is_some());
     let without_last = Case { schedule: small.schedule[..small.schedule.len() - 1].to_vec(), ..small.clone() };
-    assert!(told(&rules, &small).is_some() && told(&rules, &without_last).is_none());
+    assert!(differs(&rules, &small).is_some() && differs(&rules, &without_last).is_none());
 }
 
 /// On inputs that a paper does not touch, the library is the machine that was
@@ -109,7 +109,7 @@ fn what_a_paper_does_not_touch_is_as_it_was() {
         for number in 0..4_000 {
             let case = input(number);
             if (before.touches)(&case) {
-                changed += usize::from(told(&before.rules, &case).is_some());
+                changed += usize::from(differs(&before.rules, &case).is_some());
                 continue;
             }
             let buffers = Buffers::dirty(&case, &mut Random::new(number));

@@ -1,8 +1,8 @@
 //! Wrong about meetings.
 
 use data::{Event, Fault, Frame, Line, Side, State, Thing, Value};
-use model::gone::Gone;
-use model::machine::{Machine, Standing};
+use model::gone::NoPartner;
+use model::machine::{Machine, Readiness};
 use model::owner::{holder, reach};
 use model::step::Effect;
 use model::table::Op;
@@ -13,22 +13,22 @@ use crate::Wrong;
 
 pub const WRONG: [Wrong; 15] = [
     // Named in document 01 as an error that has been seen.
-    ("a process meets itself", Rules { standing: with_itself, effect: to_itself, ..RIGHT }),
-    ("a partner with an emptied value is ready", Rules { standing: never_mind_value, ..RIGHT }),
-    ("an emptied operand waits", Rules { standing: emptied_waits, ..RIGHT }),
-    ("only the sender can be named", Rules { standing: sender_only, ..RIGHT }),
+    ("a process meets itself", Rules { readiness: with_itself, effect: to_itself, ..RIGHT }),
+    ("a partner with an emptied value is ready", Rules { readiness: never_mind_value, ..RIGHT }),
+    ("an emptied operand waits", Rules { readiness: emptied_waits, ..RIGHT }),
+    ("only the sender can be named", Rules { readiness: sender_only, ..RIGHT }),
     ("only the process named moves on", Rules { effect: one_moves, ..RIGHT }),
     ("a meeting's lines are under the process named", Rules { effect: under_named, ..RIGHT }),
     ("a meeting's line has the receiver's side", Rules { effect: other_side, ..RIGHT }),
     ("an int is passed by its low 16 bits", Rules { effect: low_bits, ..RIGHT }),
     ("the receiver gets nothing", Rules { effect: nothing_received, ..RIGHT }),
     // Paper 6.
-    ("who waits for itself waits", Rules { standing: waits_for_itself, end: itself_is_stuck, ..RIGHT }),
-    ("a holder that has stopped is there", Rules { standing: waits_for_stopped, end: stopped_is_stuck, ..RIGHT }),
+    ("who waits for itself waits", Rules { readiness: waits_for_itself, end: itself_is_stuck, ..RIGHT }),
+    ("a holder that has stopped is there", Rules { readiness: waits_for_stopped, end: stopped_is_stuck, ..RIGHT }),
     ("33 does not make able to move", Rules { end: gone_is_stuck, ..RIGHT }),
-    ("a holder that has lost its reference has gone", Rules { standing: by_reach, effect: by_reach_33, ..RIGHT }),
+    ("a holder that has lost its reference has gone", Rules { readiness: by_reach, effect: by_reach_33, ..RIGHT }),
     ("33 comes before 20", Rules { effect: gone_before_empty, ..RIGHT }),
-    ("whoever made the channel is waited for", Rules { standing: by_maker, effect: by_maker_33, ..RIGHT }),
+    ("whoever made the channel is waited for", Rules { readiness: by_maker, effect: by_maker_33, ..RIGHT }),
 ];
 
 fn top<'a>(machine: &'a Machine, number: usize) -> Option<&'a Frame> {
@@ -45,19 +45,19 @@ fn end_at_send(machine: &Machine, number: usize) -> Option<(u16, Side)> {
 }
 
 /// At SEND, with the opposite end in reach.
-fn with_itself(machine: &Machine, number: usize) -> Standing {
-    let standing = machine.standing(number);
+fn with_itself(machine: &Machine, number: usize) -> Readiness {
+    let readiness = machine.readiness(number);
     match end_at_send(machine, number) {
-        Some((channel, side)) if !matches!(standing, Standing::Meets(_)) => {
+        Some((channel, side)) if !matches!(readiness, Readiness::Meets(_)) => {
             let opposite = Value::End(channel, side.other());
             let both = machine.config.processes[number].values().any(|value| value == opposite);
             if both {
-                Standing::Meets(number)
+                Readiness::Meets(number)
             } else {
-                standing
+                readiness
             }
         }
-        _ => standing,
+        _ => readiness,
     }
 }
 
@@ -75,29 +75,30 @@ fn to_itself(machine: &Machine, process: usize, partner: Option<usize>) -> Effec
     Effect { config, lines: vec![met], outcomes_used: 0, fault: None }
 }
 
-fn never_mind_value(machine: &Machine, number: usize) -> Standing {
-    let standing = machine.standing(number);
+fn never_mind_value(machine: &Machine, number: usize) -> Readiness {
+    let readiness = machine.readiness(number);
     let own = top(machine, number).and_then(|frame| frame.pending.last().copied());
-    let (Standing::Waits, Some(Op::Receive), Some(Value::End(channel, side))) = (standing, machine.op_of(number), own)
+    let (Readiness::Waits, Some(Op::Receive), Some(Value::End(channel, side))) =
+        (readiness, machine.op_of(number), own)
     else {
-        return standing;
+        return readiness;
     };
     let mut others = 0..machine.config.processes.len();
     let ready = others.find(|other| end_at_send(machine, *other) == Some((channel, side.other())) && *other != number);
-    ready.map_or(standing, Standing::Meets)
+    ready.map_or(readiness, Readiness::Meets)
 }
 
-fn emptied_waits(machine: &Machine, number: usize) -> Standing {
-    match (machine.standing(number), machine.op_of(number)) {
-        (Standing::Steps, Some(Op::Send | Op::Receive)) if machine.gone_for(number).is_none() => Standing::Waits,
-        (standing, _) => standing,
+fn emptied_waits(machine: &Machine, number: usize) -> Readiness {
+    match (machine.readiness(number), machine.op_of(number)) {
+        (Readiness::Steps, Some(Op::Send | Op::Receive)) if machine.gone_for(number).is_none() => Readiness::Waits,
+        (readiness, _) => readiness,
     }
 }
 
-fn sender_only(machine: &Machine, number: usize) -> Standing {
-    match (machine.standing(number), machine.op_of(number)) {
-        (Standing::Meets(_), Some(Op::Receive)) => Standing::Waits,
-        (standing, _) => standing,
+fn sender_only(machine: &Machine, number: usize) -> Readiness {
+    match (machine.readiness(number), machine.op_of(number)) {
+        (Readiness::Meets(_), Some(Op::Receive)) => Readiness::Waits,
+        (readiness, _) => readiness,
     }
 }
 
@@ -140,23 +141,23 @@ fn nothing_received(machine: &Machine, process: usize, partner: Option<usize>) -
 }
 
 /// Waits where the partner has gone in this way.
-fn waits_for(machine: &Machine, number: usize, gone: Gone) -> Standing {
+fn waits_for(machine: &Machine, number: usize, gone: NoPartner) -> Readiness {
     match machine.gone_for(number) == Some(gone) {
-        true => Standing::Waits,
-        false => machine.standing(number),
+        true => Readiness::Waits,
+        false => machine.readiness(number),
     }
 }
 
-fn waits_for_itself(machine: &Machine, number: usize) -> Standing {
-    waits_for(machine, number, Gone::Itself)
+fn waits_for_itself(machine: &Machine, number: usize) -> Readiness {
+    waits_for(machine, number, NoPartner::Itself)
 }
 
 fn itself_is_stuck(machine: &Machine) -> Option<End> {
     end_by(machine, waits_for_itself)
 }
 
-fn waits_for_stopped(machine: &Machine, number: usize) -> Standing {
-    waits_for(machine, number, Gone::Stopped)
+fn waits_for_stopped(machine: &Machine, number: usize) -> Readiness {
+    waits_for(machine, number, NoPartner::Stopped)
 }
 
 fn stopped_is_stuck(machine: &Machine) -> Option<End> {
@@ -177,12 +178,12 @@ fn own_end(machine: &Machine, number: usize) -> Option<(u16, Side)> {
     }
 }
 
-/// The model's standing, but for who waits and whose partner has gone by this
+/// The model's readiness, but for who waits and whose partner has gone by this
 /// rule.
-fn standing_by(machine: &Machine, number: usize, has_gone: fn(&Machine, usize) -> bool) -> Standing {
-    match machine.standing(number) {
-        Standing::Waits if has_gone(machine, number) => Standing::Steps,
-        standing => standing,
+fn standing_by(machine: &Machine, number: usize, has_gone: fn(&Machine, usize) -> bool) -> Readiness {
+    match machine.readiness(number) {
+        Readiness::Waits if has_gone(machine, number) => Readiness::Steps,
+        readiness => readiness,
     }
 }
 
@@ -193,7 +194,7 @@ fn effect_by(
     partner: Option<usize>,
     has_gone: fn(&Machine, usize) -> bool,
 ) -> Effect {
-    match machine.standing(process) == Standing::Waits && has_gone(machine, process) {
+    match machine.readiness(process) == Readiness::Waits && has_gone(machine, process) {
         true => stopped_by_33(machine, process),
         false => effect(machine, process, partner),
     }
@@ -216,7 +217,7 @@ fn out_of_reach(machine: &Machine, number: usize) -> bool {
     !others.any(|(_, other)| other.runs() && reach(other).contains(&opposite))
 }
 
-fn by_reach(machine: &Machine, number: usize) -> Standing {
+fn by_reach(machine: &Machine, number: usize) -> Readiness {
     standing_by(machine, number, out_of_reach)
 }
 
@@ -234,7 +235,7 @@ fn maker_gone(machine: &Machine, number: usize) -> bool {
     maker.is_some_and(|maker| maker != number && !machine.config.processes[maker].runs())
 }
 
-fn by_maker(machine: &Machine, number: usize) -> Standing {
+fn by_maker(machine: &Machine, number: usize) -> Readiness {
     standing_by(machine, number, maker_gone)
 }
 

@@ -1,10 +1,10 @@
 //! A machine made of replaceable rules. With `RIGHT` it is the model; a wrong
 //! machine has one rule of its own.
 
-use compare::left::{by_model, Buffers, Left};
+use compare::result::{by_model, Buffers, RunResult};
 use data::{Process, Refusal, Run};
 use generate::Case;
-use model::machine::{Machine, Standing};
+use model::machine::{Machine, Readiness};
 use model::step::{self, Effect, Entry};
 use model::Program;
 
@@ -23,7 +23,7 @@ pub struct Rules {
     /// The end after the last entry.
     pub last_end: fn(&Machine) -> End,
     /// How the process named stands.
-    pub standing: fn(&Machine, usize) -> Standing,
+    pub readiness: fn(&Machine, usize) -> Readiness,
     /// What the entry of a process that is able to move does.
     pub effect: fn(&Machine, usize, Option<usize>) -> Effect,
     /// Whether the entry's lines fit.
@@ -33,7 +33,7 @@ pub struct Rules {
     /// What an entry that is not taken for want of room changes.
     pub untaken: fn(&mut Machine, Effect),
     /// What a run or a refusal leaves in the buffers.
-    pub leave: fn(&Case, &Result<Run, Refusal>, Buffers) -> Left,
+    pub leave: fn(&Case, &Result<Run, Refusal>, Buffers) -> RunResult,
 }
 
 pub const RIGHT: Rules = Rules {
@@ -42,7 +42,7 @@ pub const RIGHT: Rules = Rules {
     named: usize::from,
     end: |machine| machine.end_reached(),
     last_end: |machine| machine.end_reached().unwrap_or(End::ScheduleUsed),
-    standing: |machine, number| machine.standing(number),
+    readiness: |machine, number| machine.readiness(number),
     effect,
     fits: |machine, effect| machine.lines.len() + effect.lines.len() <= machine.room,
     idle: |machine| machine.entries += 1,
@@ -64,16 +64,16 @@ pub fn effect(machine: &Machine, process: usize, partner: Option<usize>) -> Effe
 }
 
 /// Ends 1 and 2, where processes stand by this rule.
-pub fn end_by(machine: &Machine, standing: fn(&Machine, usize) -> Standing) -> Option<End> {
+pub fn end_by(machine: &Machine, readiness: fn(&Machine, usize) -> Readiness) -> Option<End> {
     let mut numbers = 0..machine.config.processes.len();
     if !machine.config.processes.iter().any(Process::runs) {
         return Some(End::AllOver);
     }
-    (!numbers.any(|number| standing(machine, number).is_able())).then_some(End::Stuck)
+    (!numbers.any(|number| readiness(machine, number).is_able())).then_some(End::Stuck)
 }
 
 /// The lent trace and work store after a machine of these rules.
-pub fn left(rules: &Rules, case: &Case, buffers: Buffers) -> Left {
+pub fn left(rules: &Rules, case: &Case, buffers: Buffers) -> RunResult {
     let ran = (rules.check)(case).map(|program| run(rules, &program, case));
     (rules.leave)(case, &ran, buffers)
 }
@@ -106,9 +106,9 @@ fn entry(rules: &Rules, machine: &mut Machine, byte: u8) -> Result<(), End> {
         return Err(end);
     }
     let process = (rules.named)(byte);
-    let partner = match (rules.standing)(machine, process) {
-        Standing::Steps => None,
-        Standing::Meets(partner) => Some(partner),
+    let partner = match (rules.readiness)(machine, process) {
+        Readiness::Steps => None,
+        Readiness::Meets(partner) => Some(partner),
         _ => {
             (rules.idle)(machine);
             return Ok(());

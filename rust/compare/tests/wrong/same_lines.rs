@@ -66,11 +66,11 @@ fn every_wrong_same_lines_answer_is_told_apart() {
         let pair = pair(seed);
         let right = same_lines(&pair.first, &pair.second);
         hidden.retain(|(name, wrong)| {
-            let told = wrong(&pair.first, &pair.second) != right;
-            if told {
+            let differs = wrong(&pair.first, &pair.second) != right;
+            if differs {
                 println!("pair {seed:3}, {:?}: {name}", pair.difference);
             }
-            !told
+            !differs
         });
     }
     let names: Vec<&str> = hidden.iter().map(|(name, _)| *name).collect();

@@ -14,7 +14,7 @@ pub struct Variable {
     pub kind: u16,
     /// Whether it holds a value, as far as one can tell.
     pub full: bool,
-    /// The two variables behind it are its ends.
+    /// The two variables after it are its ends.
     pub withends: bool,
 }
 

@@ -4,7 +4,7 @@ use std::collections::BTreeMap;
 
 use data::{Gate, Value, WORK_WORDS};
 use model::check::check;
-use model::machine::{Did, Machine};
+use model::machine::{EntryResult, Machine};
 use model::table::{Op, Program};
 use model::text::names;
 use model::text::read::{read, read_by, Rules, PAPER_1};
@@ -13,7 +13,7 @@ use model::text::tree::Tree;
 use model::text::{translate, Reason};
 
 use super::mark::{all_marks, Limit, Part, TextMark};
-use super::seen::parts;
+use super::scan::parts;
 use super::sizes::{brackets, sizes};
 use super::TextCase;
 
@@ -64,13 +64,13 @@ impl TextCoverage {
 
     // The run.
 
-    fn entry(&mut self, before: &Machine, byte: u8, did: Did, after: &Machine) {
+    fn entry(&mut self, before: &Machine, byte: u8, did: EntryResult, after: &Machine) {
         let process = usize::from(byte);
         match did {
-            Did::Idle => {}
-            Did::Stopped(fault) => self.add(TextMark::Fault(fault.number())),
-            Did::Stepped => self.executed(before, process),
-            Did::Met(partner) => {
+            EntryResult::Idle => {}
+            EntryResult::Stopped(fault) => self.add(TextMark::Fault(fault.number())),
+            EntryResult::Stepped => self.executed(before, process),
+            EntryResult::Met(partner) => {
                 self.executed(before, process);
                 self.executed(before, partner);
             }

@@ -67,7 +67,7 @@ fn retype(tokens: &mut [String], random: &mut Random) {
     }
 }
 
-/// One argument or name less: a comma and what stands behind it.
+/// One argument or name less: a comma and what stands after it.
 fn fewer(tokens: &mut Vec<String>, random: &mut Random) {
     let commas = places(tokens, |token| token == ",");
     if let Some(place) = random.pick_any(&commas) {
@@ -75,7 +75,7 @@ fn fewer(tokens: &mut Vec<String>, random: &mut Random) {
     }
 }
 
-/// One argument or name more, behind an opening bracket.
+/// One argument or name more, after an opening bracket.
 fn more(tokens: &mut Vec<String>, random: &mut Random) {
     let brackets = places(tokens, |token| token == "(");
     if let Some(place) = random.pick_any(&brackets) {
@@ -91,8 +91,8 @@ fn repeat(tokens: &mut Vec<String>, random: &mut Random) {
         return;
     };
     let passage: Vec<String> = tokens[one.min(other)..one.max(other)].to_vec();
-    let behind = one.max(other);
-    tokens.splice(behind..behind, passage);
+    let later = one.max(other);
+    tokens.splice(later..later, passage);
 }
 
 /// Damages a byte.

@@ -9,7 +9,7 @@ mod limits;
 mod mark;
 mod passed;
 mod program;
-mod seen;
+mod scan;
 mod sizes;
 mod stations;
 mod words;

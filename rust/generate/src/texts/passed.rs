@@ -1,5 +1,5 @@
 //! Texts that pass one limit by one, or break one rule, with a valid text before or
-//! behind.
+//! after.
 
 use super::limits::{instructions, methods, nesting, parameters, slots};
 use super::program::program;
@@ -28,7 +28,7 @@ pub fn passed(random: &mut Random) -> Vec<String> {
     }
 }
 
-/// A method at fault, before or behind a valid text.
+/// A method at fault, before or after a valid text.
 fn beside(method: &str, random: &mut Random) -> Vec<String> {
     let valid = program(random);
     match random.chance(50) {

@@ -42,10 +42,10 @@ fn number(expression: &Expression) -> usize {
 }
 
 /// The most values that wait at once while an expression is evaluated: each operand waits
-/// while those behind it are evaluated.
+/// while those after it are evaluated.
 fn most_pending(tree: &Tree) -> usize {
     let mut most = vec![0; tree.expressions.len()];
-    // An expression stands behind its parts.
+    // An expression stands after its parts.
     for (id, expression) in tree.expressions.iter().enumerate() {
         let parts = expression.parts.iter().enumerate();
         let waiting = parts.map(|(before, part): (usize, &Id)| before + most[*part]).max();

@@ -6,7 +6,7 @@ mod rule;
 mod table;
 mod types;
 
-pub use rule::{Rule, Wanted};
+pub use rule::{OperandKind, Rule};
 pub(crate) use table::methods;
 
 use data::program::op;

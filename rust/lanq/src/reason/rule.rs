@@ -6,7 +6,7 @@ use data::Type;
 
 /// What an op wants in an operand's place.
 #[derive(Clone, Copy, Debug, PartialEq, Eq)]
-pub enum Wanted {
+pub enum OperandKind {
     /// Any value.
     Any,
     /// Any channel.
@@ -16,13 +16,13 @@ pub enum Wanted {
     Type(Type),
 }
 
-impl fmt::Display for Wanted {
+impl fmt::Display for OperandKind {
     fn fmt(&self, f: &mut fmt::Formatter) -> fmt::Result {
         match self {
-            Wanted::Any => f.write_str("a value"),
-            Wanted::Channel => f.write_str("a channel"),
-            Wanted::End => f.write_str("a channel end"),
-            Wanted::Type(kind) => kind.fmt(f),
+            OperandKind::Any => f.write_str("a value"),
+            OperandKind::Channel => f.write_str("a channel"),
+            OperandKind::End => f.write_str("a channel end"),
+            OperandKind::Type(kind) => kind.fmt(f),
         }
     }
 }
@@ -113,7 +113,7 @@ pub enum Rule {
     },
     /// The operand so far below the top is of another type.
     Operand {
-        wanted: Wanted,
+        wanted: OperandKind,
         below: usize,
         found: Type,
     },

@@ -1,7 +1,7 @@
 //! Questions 1 to 4: sizes, pairs, rows, instructions.
 
 use data::program::{op, Method, MOST_INSTRUCTIONS, MOST_METHODS};
-use data::{Carried, Gate, Question, Type, SLOTS};
+use data::{CarriedType, Gate, Question, Type, SLOTS};
 
 use crate::reason::rule::Rule;
 use crate::reason::{types, Reason};
@@ -21,7 +21,7 @@ pub fn reason(words: &[u16]) -> Option<Reason> {
     }
 }
 
-/// The methods of a table that passes questions 1 and 2, which tell where each
+/// The methods of a table that passes questions 1 and 2, which say where each
 /// method starts.
 pub fn methods(words: &[u16]) -> Result<Vec<Method>, Reason> {
     let (methods, instructions) = sizes(words).map_err(|rule| Reason::new(Question::Sizes, 0, rule))?;
@@ -131,7 +131,7 @@ fn instruction_rule(methods: &[Method], method: &Method, (number, argument): (u1
         op::BOOL => unless(argument <= 1, Rule::Argument { expected: "0 or 1" }),
         op::GET | op::PUT | op::CLEAR => slot_rule(method, index),
         op::NEWC => {
-            unless(Carried::read(argument).is_some(), Rule::Argument { expected: "1, 2 or 3, what it carries" })
+            unless(CarriedType::read(argument).is_some(), Rule::Argument { expected: "1, 2 or 3, what it carries" })
         }
         op::END => unless(argument <= 1, Rule::Argument { expected: "0 or 1, the side" }),
         op::GATE => unless(Gate::read(argument).is_some(), Rule::Argument { expected: "a gate, 1 to 8" }),

@@ -3,7 +3,7 @@
 use data::program::{op, Method};
 use data::{Gate, Question, Type};
 
-use crate::reason::rule::{Rule, Wanted};
+use crate::reason::rule::{OperandKind, Rule};
 use crate::reason::Reason;
 
 /// The most values pending.
@@ -75,18 +75,18 @@ impl Reader<'_> {
             op::GET => self.puts(self.slot(index)),
             op::PUT => self.trade(&[self.slot(index)], self.slot(index))?,
             op::DROP => {
-                self.take(1, &[Wanted::Any])?;
+                self.take(1, &[OperandKind::Any])?;
             }
             op::NEWQ => self.puts(Qubit),
             op::NEWC => self.puts(read(16 + argument)),
             op::END => {
                 // A channel's number is 16 below its end's.
-                let channel = self.take(1, &[Wanted::Channel])?;
+                let channel = self.take(1, &[OperandKind::Channel])?;
                 self.puts(read(channel[0].number() + 16));
             }
             op::GATE => {
                 let count = 1 + usize::from(Gate::read(argument).is_some_and(Gate::takes_two));
-                self.take(count, &[Wanted::Type(Qubit), Wanted::Type(Qubit)])?;
+                self.take(count, &[OperandKind::Type(Qubit), OperandKind::Type(Qubit)])?;
             }
             op::MEAS => self.trade(&[Qubit], Int)?,
             op::CALL => {
@@ -98,11 +98,11 @@ impl Reader<'_> {
             op::RET => self.returned()?,
             op::SEND => self.send()?,
             op::RECV => {
-                let end = self.take(1, &[Wanted::End])?;
+                let end = self.take(1, &[OperandKind::End])?;
                 self.puts(carried(end[0]));
             }
             op::JFALSE => {
-                self.take(1, &[Wanted::Type(Bool)])?;
+                self.take(1, &[OperandKind::Type(Bool)])?;
             }
             op::ADD | op::SUB => self.trade(&[Int, Int], Int)?,
             op::EQ | op::LESS => self.trade(&[Int, Int], Bool)?,
@@ -122,7 +122,7 @@ impl Reader<'_> {
     }
 
     /// Takes so many values off, of which `wanted` are asked, the top first.
-    fn take(&mut self, count: usize, wanted: &[Wanted]) -> Result<Vec<Type>, Rule> {
+    fn take(&mut self, count: usize, wanted: &[OperandKind]) -> Result<Vec<Type>, Rule> {
         if self.pending.len() < count {
             return Err(Rule::TooFew { wanted: count, pending: self.pending.len() });
         }
@@ -136,7 +136,7 @@ impl Reader<'_> {
 
     fn trade(&mut self, wanted: &[Type], result: Type) -> Result<(), Rule> {
         // Ops that take two take the same type twice.
-        let asked: Vec<Wanted> = wanted.iter().map(|kind| Wanted::Type(*kind)).collect();
+        let asked: Vec<OperandKind> = wanted.iter().map(|kind| OperandKind::Type(*kind)).collect();
         self.take(wanted.len(), &asked)?;
         self.puts(result);
         Ok(())
@@ -163,13 +163,13 @@ impl Reader<'_> {
     fn returned(&mut self) -> Result<(), Rule> {
         match read(self.method.return_type) {
             Type::None => Ok(()),
-            kind => self.take(1, &[Wanted::Type(kind)]).map(|_| ()),
+            kind => self.take(1, &[OperandKind::Type(kind)]).map(|_| ()),
         }
     }
 
     /// An end, and above it a value that it carries.
     fn send(&mut self) -> Result<(), Rule> {
-        let operands = self.take(2, &[Wanted::Any, Wanted::End])?;
+        let operands = self.take(2, &[OperandKind::Any, OperandKind::End])?;
         let (carried, found) = (carried(operands[0]), operands[1]);
         match carried == found {
             true => Ok(()),
@@ -178,12 +178,12 @@ impl Reader<'_> {
     }
 }
 
-fn fits(wanted: Wanted, found: Type) -> bool {
+fn fits(wanted: OperandKind, found: Type) -> bool {
     match wanted {
-        Wanted::Any => true,
-        Wanted::Channel => matches!(found, Type::Channel(_)),
-        Wanted::End => matches!(found, Type::End(_)),
-        Wanted::Type(kind) => kind == found,
+        OperandKind::Any => true,
+        OperandKind::Channel => matches!(found, Type::Channel(_)),
+        OperandKind::End => matches!(found, Type::End(_)),
+        OperandKind::Type(kind) => kind == found,
     }
 }
 

@@ -3,7 +3,7 @@
 use data::program::op::*;
 use data::{Side, Type};
 
-use super::names::{called, Called};
+use super::names::{called, Callee};
 use super::scope::Scopes;
 use super::tree::{Block, Code, Id, Kind, Method, Name, Operator, Statement, Tree, Variable};
 
@@ -14,7 +14,7 @@ const NO_OP: u16 = 0;
 /// A method's translation, of any size: whether it passes a limit is asked
 /// afterwards.
 #[derive(Clone, Debug, Default, PartialEq, Eq)]
-pub struct Translated {
+pub struct Translation {
     /// "parameters, then every declared variable of the method in text order,
     /// each its own ..; a method that returns a value has one slot more at the
     /// end"
@@ -25,8 +25,8 @@ pub struct Translated {
 }
 
 /// Translates a method of a tree that has neither 30 nor 31.
-pub fn translate(tree: &Tree, method: &Method) -> Translated {
-    let mut writer = Writer { tree, slots: Scopes::new(), made: Translated::default() };
+pub fn translate(tree: &Tree, method: &Method) -> Translation {
+    let mut writer = Writer { tree, slots: Scopes::new(), made: Translation::default() };
     writer.slots.open();
     writer.declare(&method.parameters);
     writer.declare(&method.body.variables);
@@ -44,7 +44,7 @@ pub fn number(digits: &[u8]) -> Option<i16> {
     })
 }
 
-/// A variable's slot, and whether the two behind it are its ends.
+/// A variable's slot, and whether the two after it are its ends.
 #[derive(Clone, Copy, Debug)]
 struct Slot {
     number: usize,
@@ -54,7 +54,7 @@ struct Slot {
 struct Writer<'t> {
     tree: &'t Tree<'t>,
     slots: Scopes<'t, Slot>,
-    made: Translated,
+    made: Translation,
 }
 
 impl<'t> Writer<'t> {
@@ -154,7 +154,7 @@ impl<'t> Writer<'t> {
     fn apply(&mut self, name: Name, arguments: &[Id]) {
         self.expressions(arguments);
         match called(self.tree, name.bytes) {
-            Some(Called::Gate(gate)) => self.emit(GATE, usize::from(gate.number())),
+            Some(Callee::Gate(gate)) => self.emit(GATE, usize::from(gate.number())),
             _ => {
                 self.emit(CALL, self.method_number(name));
                 if self.returns(name) != Type::None {

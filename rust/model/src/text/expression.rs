@@ -25,7 +25,7 @@ enum Open<'t> {
 }
 
 /// What has been read.
-enum Read {
+enum Subexpression {
     /// An `indivExpr`: an operator may follow.
     Operand(Id),
     /// An `expr` that ends in `new T()`: "takes no operator behind it"
@@ -33,20 +33,20 @@ enum Read {
     Whole(Id),
 }
 
-impl Read {
+impl Subexpression {
     fn id(&self) -> Id {
         match self {
-            Read::Operand(id) | Read::Whole(id) => *id,
+            Subexpression::Operand(id) | Subexpression::Whole(id) => *id,
         }
     }
 }
 
 /// How it goes on.
-enum Next {
+enum Continuation {
     /// A further expression starts.
     Start,
     /// What was open is closed, and makes this.
-    Closed(Read),
+    Closed(Subexpression),
     /// Nothing is open any more.
     Done(Id),
 }
@@ -61,9 +61,9 @@ impl<'t> Reader<'t> {
             };
             loop {
                 match self.go_on(&mut open, read)? {
-                    Next::Start => break,
-                    Next::Closed(closed) => read = closed,
-                    Next::Done(id) => return Ok(id),
+                    Continuation::Start => break,
+                    Continuation::Closed(closed) => read = closed,
+                    Continuation::Done(id) => return Ok(id),
                 }
             }
         }
@@ -71,20 +71,20 @@ impl<'t> Reader<'t> {
 
     /// The start of an expression: its first operand, or none where it opens
     /// something.
-    fn start(&mut self, open: &mut Vec<Open<'t>>) -> Result<Option<Read>, Refusal> {
+    fn start(&mut self, open: &mut Vec<Open<'t>>) -> Result<Option<Subexpression>, Refusal> {
         let token = self.token();
         let read = match token.bytes {
             _ if token.kind == Sort::Name => return self.start_with_name(open),
             _ if token.kind == Sort::Number => {
                 self.take();
-                Read::Operand(self.add(Kind::Number(token.bytes), vec![]))
+                Subexpression::Operand(self.add(Kind::Number(token.bytes), vec![]))
             }
             b"true" | b"false" => {
                 self.take();
-                Read::Operand(self.add(Kind::Bool(token.is("true")), vec![]))
+                Subexpression::Operand(self.add(Kind::Bool(token.is("true")), vec![]))
             }
-            b"measure" => Read::Operand(self.measurement()?),
-            b"new" => Read::Whole(self.allocation()?),
+            b"measure" => Subexpression::Operand(self.measurement()?),
+            b"new" => Subexpression::Whole(self.allocation()?),
             b"(" => {
                 self.take();
                 open.push(Open::Bracket);
@@ -102,7 +102,7 @@ impl<'t> Reader<'t> {
     }
 
     /// A variable, an assignment or a call.
-    fn start_with_name(&mut self, open: &mut Vec<Open<'t>>) -> Result<Option<Read>, Refusal> {
+    fn start_with_name(&mut self, open: &mut Vec<Open<'t>>) -> Result<Option<Subexpression>, Refusal> {
         let name = self.name()?;
         if self.stands_at("=") {
             // "30 at its name, as soon as `=` follows" (readings, 11)
@@ -114,12 +114,12 @@ impl<'t> Reader<'t> {
             return Ok(None);
         }
         if !self.stands_at("(") {
-            return Ok(Some(Read::Operand(self.add(Kind::Variable(name), vec![]))));
+            return Ok(Some(Subexpression::Operand(self.add(Kind::Variable(name), vec![]))));
         }
         self.take();
         if self.stands_at(")") {
             self.take();
-            return Ok(Some(Read::Operand(self.add(Kind::Call(name), vec![]))));
+            return Ok(Some(Subexpression::Operand(self.add(Kind::Call(name), vec![]))));
         }
         open.push(Open::Arguments(name, Vec::new()));
         Ok(None)
@@ -150,32 +150,32 @@ impl<'t> Reader<'t> {
     }
 
     /// What follows an operand or a whole expression.
-    fn go_on(&mut self, open: &mut Vec<Open<'t>>, read: Read) -> Result<Next, Refusal> {
+    fn go_on(&mut self, open: &mut Vec<Open<'t>>, read: Subexpression) -> Result<Continuation, Refusal> {
         let Some(operator) = Operator::read(self.token().bytes) else {
             return self.close(open, read.id());
         };
         match read {
-            Read::Operand(left) => {
+            Subexpression::Operand(left) => {
                 self.take();
                 open.push(Open::Right(operator, left));
-                Ok(Next::Start)
+                Ok(Continuation::Start)
             }
-            Read::Whole(id) => self.close_before_operator(open, id),
+            Subexpression::Whole(id) => self.close_before_operator(open, id),
         }
     }
 
-    /// An operator behind `new T()` can only belong to what stands around an
+    /// An operator after `new T()` can only belong to what stands around an
     /// assignment that ends here: "an assignment of it inside an expression is an
     /// operand like any other" (readings, 5). The innermost one closes.
-    fn close_before_operator(&mut self, open: &mut Vec<Open<'t>>, id: Id) -> Result<Next, Refusal> {
+    fn close_before_operator(&mut self, open: &mut Vec<Open<'t>>, id: Id) -> Result<Continuation, Refusal> {
         match open.pop() {
             Some(Open::Right(operator, left)) => {
                 let whole = self.add(Kind::Operate(operator), vec![left, id]);
-                Ok(Next::Closed(Read::Whole(whole)))
+                Ok(Continuation::Closed(Subexpression::Whole(whole)))
             }
             Some(Open::Assign(name)) => {
                 let operand = self.add(Kind::Assign(name), vec![id]);
-                Ok(Next::Closed(Read::Operand(operand)))
+                Ok(Continuation::Closed(Subexpression::Operand(operand)))
             }
             _ => self.wrong(),
         }
@@ -183,9 +183,9 @@ impl<'t> Reader<'t> {
 
     /// No operator follows: what was opened last ends here, or goes on to its
     /// next argument.
-    fn close(&mut self, open: &mut Vec<Open<'t>>, id: Id) -> Result<Next, Refusal> {
+    fn close(&mut self, open: &mut Vec<Open<'t>>, id: Id) -> Result<Continuation, Refusal> {
         let closed = match open.pop() {
-            None => return Ok(Next::Done(id)),
+            None => return Ok(Continuation::Done(id)),
             Some(Open::Right(operator, left)) => self.add(Kind::Operate(operator), vec![left, id]),
             Some(Open::Assign(name)) => self.add(Kind::Assign(name), vec![id]),
             Some(Open::Bracket) => {
@@ -201,12 +201,12 @@ impl<'t> Reader<'t> {
                 if self.stands_at(",") {
                     self.take();
                     open.push(Open::Arguments(name, arguments));
-                    return Ok(Next::Start);
+                    return Ok(Continuation::Start);
                 }
                 self.expect(")")?;
                 self.add(Kind::Call(name), arguments)
             }
         };
-        Ok(Next::Closed(Read::Operand(closed)))
+        Ok(Continuation::Closed(Subexpression::Operand(closed)))
     }
 }

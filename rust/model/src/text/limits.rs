@@ -5,7 +5,7 @@
 use data::program::{self, MOST_INSTRUCTIONS, MOST_METHODS};
 use data::{Type, SLOTS};
 
-use super::code::{translate, Translated};
+use super::code::{translate, Translation};
 use super::refusal::{Reason, Refusal};
 use super::tree::{Method, Tree};
 use crate::table::{self, Op, Program, Row, MOST_PARAMETERS};
@@ -14,7 +14,7 @@ use crate::typing::method_fault;
 /// The table's words, or 32.
 pub fn table(tree: &Tree) -> Result<Vec<u16>, Refusal> {
     let methods = tree.methods.iter().map(|method| translate(tree, method));
-    let methods: Vec<Translated> = methods.collect();
+    let methods: Vec<Translation> = methods.collect();
     let mut instructions = 0;
     for (index, method) in tree.methods.iter().enumerate() {
         instructions += methods[index].code.len();
@@ -29,7 +29,7 @@ pub fn table(tree: &Tree) -> Result<Vec<u16>, Refusal> {
 
 /// The limits of questions 1 to 3, and of a number's word. `instructions` counts
 /// "up to and with it, in text order" (readings, 15).
-fn size_passed(tree: &Tree, method: &Method, index: usize, made: &Translated, instructions: usize) -> Option<Reason> {
+fn size_passed(tree: &Tree, method: &Method, index: usize, made: &Translation, instructions: usize) -> Option<Reason> {
     let is_main = tree.method(b"main") == Some(index);
     let limits = [
         (index >= MOST_METHODS, Reason::Methods),
@@ -44,7 +44,7 @@ fn size_passed(tree: &Tree, method: &Method, index: usize, made: &Translated, in
 
 /// "question 4 or 5 says no to its code (the caller's fault is the caller's)"
 /// (readings, 15): the other methods are there with their rows alone.
-fn question_passed(tree: &Tree, index: usize, made: &Translated) -> Option<Reason> {
+fn question_passed(tree: &Tree, index: usize, made: &Translation) -> Option<Reason> {
     let Some(code) = read_code(made) else {
         return Some(Reason::Instruction);
     };
@@ -61,7 +61,7 @@ fn question_passed(tree: &Tree, index: usize, made: &Translated) -> Option<Reaso
 
 /// Question 4: every op is listed. Slots are used, methods there and targets
 /// inside by the way they were written.
-fn read_code(made: &Translated) -> Option<Vec<Op>> {
+fn read_code(made: &Translation) -> Option<Vec<Op>> {
     let code = made.code.iter().map(|(op, argument)| Op::read(*op, word(*argument)));
     code.collect()
 }
@@ -82,7 +82,7 @@ fn signature(method: &Method) -> Row {
 }
 
 /// A method as plain numbers.
-fn written(method: &Method, made: &Translated) -> program::Method {
+fn written(method: &Method, made: &Translation) -> program::Method {
     program::Method {
         return_type: method.returns.number(),
         parameters: word(method.parameters.len()),

@@ -10,16 +10,16 @@ use super::tree::{Block, Code, Id, Kind, Method, Name, Statement, Tree, Variable
 
 /// What is called in a statement `NAME ( .. ) ;`.
 #[derive(Clone, Copy, Debug, PartialEq, Eq)]
-pub enum Called {
+pub enum Callee {
     /// A method, by its number in text order.
     Method(usize),
     Gate(Gate),
 }
 
 /// "the gates by name unless a method has it": what a statement's name calls.
-pub fn called(tree: &Tree, name: &[u8]) -> Option<Called> {
-    let method = tree.method(name).map(Called::Method);
-    method.or_else(|| gate(name).map(Called::Gate))
+pub fn called(tree: &Tree, name: &[u8]) -> Option<Callee> {
+    let method = tree.method(name).map(Callee::Method);
+    method.or_else(|| gate(name).map(Callee::Gate))
 }
 
 /// The gate of a name. "T is no gate before Paper 14" (readings, 8).
@@ -168,7 +168,7 @@ impl<'t> Names<'t> {
 
     fn call_or_gate(&mut self, name: Name, count: usize) {
         match called(self.tree, name.bytes) {
-            Some(Called::Gate(gate)) => self.count(Reason::GateCount, name, gate_count(gate), count),
+            Some(Callee::Gate(gate)) => self.count(Reason::GateCount, name, gate_count(gate), count),
             _ => self.call(name, count),
         }
     }

@@ -5,7 +5,7 @@
 //! first that no function expects is "the first token with which the text is no
 //! beginning of any text of the grammar" (readings, 9).
 
-use data::{Carried, Type};
+use data::{CarriedType, Type};
 
 use super::refusal::{Reason, Refusal};
 use super::scope::Scopes;
@@ -58,7 +58,7 @@ pub struct Reader<'t> {
 impl<'t> Reader<'t> {
     // Tokens.
 
-    /// The token it stands at; behind the last one the text's end.
+    /// The token it stands at; after the last one the text's end.
     pub(super) fn token(&self) -> Token<'t> {
         self.tokens[self.position]
     }
@@ -134,7 +134,7 @@ impl<'t> Reader<'t> {
             self.take();
             return Ok(Some(Type::Qubit));
         }
-        let of: fn(Carried) -> Type = match self.token() {
+        let of: fn(CarriedType) -> Type = match self.token() {
             token if token.is("channel") => Type::Channel,
             token if token.is("channelEnd") => Type::End,
             _ => return Ok(None),
@@ -147,11 +147,11 @@ impl<'t> Reader<'t> {
     }
 
     /// "another type inside is 30 at it" (readings, 6)
-    fn carried(&mut self) -> Result<Carried, Refusal> {
+    fn carried(&mut self) -> Result<CarriedType, Refusal> {
         let carried = match self.token() {
-            token if token.is("int") => Carried::Int,
-            token if token.is("boolean") => Carried::Bool,
-            token if token.is("qbit") => Carried::Qubit,
+            token if token.is("int") => CarriedType::Int,
+            token if token.is("boolean") => CarriedType::Bool,
+            token if token.is("qbit") => CarriedType::Qubit,
             _ => return self.wrong(),
         };
         self.take();

@@ -2,7 +2,7 @@
 
 use std::fmt;
 
-/// Why a text is refused. The number is all that an answer tells; the reason is
+/// Why a text is refused. The number is all that an answer says; the reason is
 /// for tests and for readers.
 #[derive(Clone, Copy, Debug, PartialEq, Eq, PartialOrd, Ord)]
 pub enum Reason {

@@ -88,7 +88,7 @@ impl<'t> Move<'_, 't> {
         }
     }
 
-    fn tell(&mut self, process: usize, event: Event) {
+    fn write(&mut self, process: usize, event: Event) {
         self.lines.push(event.line(self.entry, small(process)));
     }
 
@@ -157,7 +157,7 @@ impl<'t> Move<'_, 't> {
         }
         self.config.qubits += 1;
         hold(&mut self.config.holders, Thing::Qubit(qubit), small(self.process));
-        self.tell(self.process, Event::QubitMade { qubit });
+        self.write(self.process, Event::QubitMade { qubit });
         Ok(Value::Qubit(qubit))
     }
 
@@ -168,7 +168,7 @@ impl<'t> Move<'_, 't> {
         }
         self.config.channels += 1;
         hold(&mut self.config.holders, Thing::Channel(channel), small(self.process));
-        self.tell(self.process, Event::ChannelMade { channel });
+        self.write(self.process, Event::ChannelMade { channel });
         Ok(Value::Channel(channel))
     }
 
@@ -180,7 +180,7 @@ impl<'t> Move<'_, 't> {
             [Value::Qubit(first), Value::Qubit(second)] => Event::Gate { gate, qubit: *first, second: Some(*second) },
             other => panic!("question 5 promised qubits, found {other:?}"),
         };
-        self.tell(self.process, event);
+        self.write(self.process, event);
         Ok(())
     }
 
@@ -188,7 +188,7 @@ impl<'t> Move<'_, 't> {
     fn measure(&mut self, qubit: u16) -> Result<(), Fault> {
         let outcome = *self.outcomes.first().ok_or(Fault::Outcomes)?;
         self.outcomes_used = 1;
-        self.tell(self.process, Event::Measured { qubit, outcome });
+        self.write(self.process, Event::Measured { qubit, outcome });
         self.deliver(Value::Int(i32::from(outcome)));
         Ok(())
     }
@@ -242,7 +242,7 @@ impl<'t> Move<'_, 't> {
         self.own().frames.pop();
         if self.own().frames.is_empty() {
             self.own().state = State::Finished;
-            self.tell(self.process, Event::Finished);
+            self.write(self.process, Event::Finished);
         } else if let Some(value) = value {
             self.deliver(value);
         }
@@ -259,7 +259,7 @@ impl<'t> Move<'_, 't> {
         }
         let number = small(self.tree.number(method));
         let forked = Event::Forked { child: small(child), method: number, arguments: small(arguments.len()) };
-        self.tell(self.process, forked);
+        self.write(self.process, forked);
         for thing in arguments.iter().filter_map(|value| value.thing()) {
             self.give(self.process, child, thing);
         }
@@ -274,7 +274,7 @@ impl<'t> Move<'_, 't> {
             frame.empty(|value| giving_empties(thing, value));
         }
         hold(&mut self.config.holders, thing, small(receiver));
-        self.tell(giver, Event::Gave { to: small(receiver), thing });
+        self.write(giver, Event::Gave { to: small(receiver), thing });
     }
 
     /// Fault 33, "judged after fault 20 and before waiting".
@@ -307,10 +307,10 @@ impl<'t> Move<'_, 't> {
 
     /// 000's OP-SENDRECV, with the side that the sender has.
     fn meet(&mut self, sender: usize, receiver: usize, channel: u16, side: Side, value: Value) {
-        self.tell(sender, Event::Met { receiver: small(receiver), channel, side });
+        self.write(sender, Event::Met { receiver: small(receiver), channel, side });
         match value {
-            Value::Int(value) => self.tell(sender, Event::Passed { value }),
-            Value::Bool(value) => self.tell(sender, Event::Passed { value: i32::from(value) }),
+            Value::Int(value) => self.write(sender, Event::Passed { value }),
+            Value::Bool(value) => self.write(sender, Event::Passed { value: i32::from(value) }),
             _ => {
                 let thing = value.thing().expect("a qubit is sent");
                 self.give(sender, receiver, thing);

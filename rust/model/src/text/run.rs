@@ -73,7 +73,7 @@ struct Offer {
 
 /// How a process stands before an entry.
 #[derive(Clone, Copy, Debug, PartialEq, Eq)]
-enum Standing {
+enum Readiness {
     /// It "has not started, has finished or stopped, or waits" (01).
     Idle,
     /// It steps or faults.
@@ -102,10 +102,10 @@ impl<'t, 'm> Machine<'t, 'm> {
             return Err(end);
         }
         let process = usize::from(byte);
-        match self.standing(process) {
-            Standing::Idle => {}
-            Standing::Moves => self.take(process, None)?,
-            Standing::Meets(partner) => self.take(process, Some(partner))?,
+        match self.readiness(process) {
+            Readiness::Idle => {}
+            Readiness::Moves => self.take(process, None)?,
+            Readiness::Meets(partner) => self.take(process, Some(partner))?,
         }
         self.entries += 1;
         Ok(())
@@ -148,7 +148,7 @@ impl<'t, 'm> Machine<'t, 'm> {
 
     /// "Before each entry, and after the last": ends 1 and 2 (01).
     pub fn end_reached(&self) -> Option<End> {
-        let able = |process| self.standing(process) != Standing::Idle;
+        let able = |process| self.readiness(process) != Readiness::Idle;
         if !self.config.processes.iter().any(Process::runs) {
             Some(End::AllOver)
         } else if !(0..self.config.processes.len()).any(able) {
@@ -158,20 +158,20 @@ impl<'t, 'm> Machine<'t, 'm> {
         }
     }
 
-    fn standing(&self, number: usize) -> Standing {
+    fn readiness(&self, number: usize) -> Readiness {
         let process = match self.config.processes.get(number) {
             Some(process) if process.runs() => process,
-            _ => return Standing::Idle,
+            _ => return Readiness::Idle,
         };
         let Some(offer) = offer(process) else {
-            return Standing::Moves;
+            return Readiness::Moves;
         };
         if gone(&self.config, &self.lines, number, offer.channel, offer.side) {
-            return Standing::Moves;
+            return Readiness::Moves;
         }
         match self.partner(number, offer) {
-            Some(partner) => Standing::Meets(partner),
-            None => Standing::Idle,
+            Some(partner) => Readiness::Meets(partner),
+            None => Readiness::Idle,
         }
     }
 

@@ -67,9 +67,9 @@ pub enum Term<'t> {
     Declare(&'t [u8]),
     /// The end of a block (000's mark of a block on the stack).
     EndBlock,
-    /// Behind the statement of an if that has an else: over the else.
+    /// After the statement of an if that has an else: over the else.
     Over,
-    /// Behind the body of this while: back to its test.
+    /// After the body of this while: back to its test.
     Back(&'t Statement<'t>),
     /// The end of the method's body (000's mark of a call on the stack).
     EndMethod,

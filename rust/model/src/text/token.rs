@@ -88,7 +88,7 @@ pub fn tokens(text: &[u8]) -> Vec<Token<'_>> {
     }
 }
 
-/// The first token at or behind a place.
+/// The first token at or after a place.
 fn next(text: &[u8], from: usize) -> Token<'_> {
     let at = from + count(&text[from..], is_space);
     let rest = &text[at..];

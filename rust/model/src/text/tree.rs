@@ -73,7 +73,7 @@ pub struct Expression<'t> {
 pub struct Variable<'t> {
     pub kind: Type,
     pub name: Name<'t>,
-    /// Declared with ends: the two variables behind it are its ends.
+    /// Declared with ends: the two variables after it are its ends.
     pub withends: bool,
 }
 
@@ -142,7 +142,7 @@ impl<'t> Tree<'t> {
         Tree { length, ..Tree::default() }
     }
 
-    /// One method more, behind the others.
+    /// One method more, after the others.
     pub fn add(&mut self, method: Method<'t>) {
         self.names.entry(method.name.bytes).or_insert(self.methods.len());
         self.methods.push(method);
@@ -170,7 +170,7 @@ impl<'t> Tree<'t> {
         order
     }
 
-    /// An expression and all expressions in it, every one behind its parts and
+    /// An expression and all expressions in it, every one after its parts and
     /// the parts in text order: "Code is the internal syntax in postfix order"
     /// (01).
     pub fn postfix(&self, root: Id) -> Vec<Id> {

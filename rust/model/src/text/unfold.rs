@@ -7,7 +7,7 @@
 
 use data::{Side, Type, Value};
 
-use super::names::{called, Called};
+use super::names::{called, Callee};
 use super::term::{Context, Frame, Place, Rule, Term, Variables};
 use super::tree::{Block, Code, Id, Kind, Method, Name, Statement, Tree};
 
@@ -111,7 +111,7 @@ fn push_block<'t>(frame: &mut Frame<'t>, block: &'t Block<'t>) {
 /// A call whose value, if it has one, is forgotten; or a gate.
 fn push_call<'t>(tree: &'t Tree<'t>, frame: &mut Frame<'t>, name: Name<'t>, arguments: &[Id]) {
     let rule = match called(tree, name.bytes) {
-        Some(Called::Gate(gate)) => Rule::Gate(gate),
+        Some(Callee::Gate(gate)) => Rule::Gate(gate),
         _ => {
             let method = method(tree, name);
             if tree.methods[method].returns != Type::None {

@@ -4,7 +4,7 @@
 use data::program::{table, Method};
 use data::{End, Run, WORK_WORDS};
 use model::check;
-use model::machine::{run, Did, Machine};
+use model::machine::{run, EntryResult, Machine};
 use model::owner::{ownership, stored_holders};
 use model::table::Program;
 
@@ -75,9 +75,9 @@ pub fn answer(run: &Run) -> (u16, usize, usize, usize) {
 }
 
 /// Takes entries that are all to be taken.
-pub fn drive(machine: &mut Machine, schedule: &[u8]) -> Vec<Did> {
+pub fn drive(machine: &mut Machine, schedule: &[u8]) -> Vec<EntryResult> {
     let entries = schedule.iter();
-    let taken: Result<Vec<Did>, End> = entries.map(|byte| machine.entry(*byte)).collect();
+    let taken: Result<Vec<EntryResult>, End> = entries.map(|byte| machine.entry(*byte)).collect();
     taken.expect("every entry is taken")
 }
 

@@ -46,7 +46,7 @@ fn inner<T>(words: &mut [T]) -> &mut [T] {
 
 /// What a run leaves.
 #[derive(Clone, Debug, PartialEq, Eq)]
-pub struct Left {
+pub struct RunResult {
     pub answer: Result<Answer, Refusal>,
     pub buffers: Buffers,
     /// The configuration read back from the work store, after a run.
@@ -54,28 +54,28 @@ pub struct Left {
 }
 
 /// Runs the case with the library.
-pub fn by_library(case: &Case, mut buffers: Buffers) -> Left {
+pub fn by_library(case: &Case, mut buffers: Buffers) -> RunResult {
     let (trace, work) = buffers.lent();
     let answer = lanq::run_in(&case.program, &case.schedule, &case.outcomes, trace, work);
     let configuration = answer.ok().and_then(|_| lanq::decode(work));
-    Left { answer, buffers, configuration }
+    RunResult { answer, buffers, configuration }
 }
 
 /// What the model's run or refusal leaves in these buffers.
-pub fn by_model(ran: &Result<Run, Refusal>, mut buffers: Buffers) -> Left {
+pub fn by_model(ran: &Result<Run, Refusal>, mut buffers: Buffers) -> RunResult {
     let run = match ran {
         Ok(run) => run,
-        Err(refusal) => return Left { answer: Err(*refusal), buffers, configuration: None },
+        Err(refusal) => return RunResult { answer: Err(*refusal), buffers, configuration: None },
     };
     let lines = run.trace_words();
     let (trace, work) = buffers.lent();
     trace[..lines.len()].copy_from_slice(&lines);
     work[..WORK_WORDS].copy_from_slice(&layout::words(&run.configuration));
-    Left { answer: Ok(run.answer()), buffers, configuration: Some(run.configuration.clone()) }
+    RunResult { answer: Ok(run.answer()), buffers, configuration: Some(run.configuration.clone()) }
 }
 
 /// The first thing in which the two differ.
-pub fn difference(library: &Left, model: &Left) -> Option<String> {
+pub fn difference(library: &RunResult, model: &RunResult) -> Option<String> {
     if library.answer != model.answer {
         return Some(format!("answer {:?}, model {:?}", library.answer, model.answer));
     }

@@ -16,43 +16,43 @@ pub enum Cell {
 
 /// What was there, and what emptied it.
 #[derive(Clone, Copy, Debug, PartialEq, Eq)]
-pub struct Why {
+pub struct Emptying {
     pub value: Value,
     pub entry: usize,
-    pub by: By,
+    pub by: Cause,
 }
 
 #[derive(Clone, Copy, Debug, PartialEq, Eq)]
-pub enum By {
+pub enum Cause {
     Clear,
     Giving { thing: Thing, to: u16 },
 }
 
 /// `qubit 0, given to process 1 at entry 15`
-impl fmt::Display for Why {
+impl fmt::Display for Emptying {
     fn fmt(&self, f: &mut fmt::Formatter) -> fmt::Result {
-        let Why { value, entry, by } = self;
+        let Emptying { value, entry, by } = self;
         match by {
-            By::Clear => write!(f, "{value}, cleared at entry {entry}"),
-            By::Giving { thing, to } if Some(*thing) == value.thing() => {
+            Cause::Clear => write!(f, "{value}, cleared at entry {entry}"),
+            Cause::Giving { thing, to } if Some(*thing) == value.thing() => {
                 write!(f, "{value}, given to process {to} at entry {entry}")
             }
-            By::Giving { thing: Thing::End(_, side), to } => {
+            Cause::Giving { thing: Thing::End(_, side), to } => {
                 write!(f, "{value}, whose end {side} was given to process {to} at entry {entry}")
             }
-            By::Giving { to, .. } => write!(f, "{value}, whose channel was given to process {to} at entry {entry}"),
+            Cause::Giving { to, .. } => write!(f, "{value}, whose channel was given to process {to} at entry {entry}"),
         }
     }
 }
 
 /// The cells that are empty now and were not before, by process and frame.
 #[derive(Clone, Debug, Default, PartialEq, Eq)]
-pub struct Emptied {
-    cells: BTreeMap<(usize, usize, Cell), Why>,
+pub struct EmptyCells {
+    cells: BTreeMap<(usize, usize, Cell), Emptying>,
 }
 
-impl Emptied {
-    pub fn why(&self, process: usize, frame: usize, cell: Cell) -> Option<&Why> {
+impl EmptyCells {
+    pub fn why(&self, process: usize, frame: usize, cell: Cell) -> Option<&Emptying> {
         self.cells.get(&(process, frame, cell))
     }
 
@@ -81,7 +81,7 @@ impl Emptied {
                 self.cells.remove(&key);
             } else if *before != Value::Empty {
                 let by = by(step.lines, process, *before);
-                self.cells.insert(key, Why { value: *before, entry: step.entry, by });
+                self.cells.insert(key, Emptying { value: *before, entry: step.entry, by });
             }
         }
     }
@@ -89,7 +89,7 @@ impl Emptied {
 
 /// What emptied a value: the giving of the thing itself, of an end of it or of
 /// its channel; else CLEAR.
-fn by(lines: &[Line], process: usize, value: Value) -> By {
+fn by(lines: &[Line], process: usize, value: Value) -> Cause {
     let own = lines.iter().filter(|line| usize::from(line.process) == process);
     let given: Vec<(Thing, u16)> = own
         .filter_map(|line| match line.event()? {
@@ -101,7 +101,7 @@ fn by(lines: &[Line], process: usize, value: Value) -> By {
     let near = given
         .iter()
         .find(|(thing, _)| channel(Some(*thing)).is_some() && channel(Some(*thing)) == channel(value.thing()));
-    exact.or(near).map_or(By::Clear, |(thing, to)| By::Giving { thing: *thing, to: *to })
+    exact.or(near).map_or(Cause::Clear, |(thing, to)| Cause::Giving { thing: *thing, to: *to })
 }
 
 /// The channel that a thing is or belongs to.

@@ -3,7 +3,7 @@
 use std::collections::BTreeMap;
 
 use data::{Gate, Type};
-use model::text::names::{called, Called};
+use model::text::names::{called, Callee};
 use model::text::tree::{Block, Code, Id, Kind, Statement, Tree};
 
 use super::coverage::TextCoverage;
@@ -17,7 +17,7 @@ pub fn parts(tree: &Tree, coverage: &mut TextCoverage) {
             coverage.add(TextMark::Declared(variable.kind.number()));
         }
         let names: Names = method.parameters.iter().map(|parameter| (parameter.name.bytes, false)).collect();
-        let mut seen = Seen { tree, method: index, names: vec![names], coverage };
+        let mut seen = TreeScan { tree, method: index, names: vec![names], coverage };
         seen.block(&method.body);
         let ends = matches!(method.body.statements.last().map(|last| &last.kind), Some(Code::Return(_)));
         if method.returns != Type::None && !ends {
@@ -33,14 +33,14 @@ pub fn parts(tree: &Tree, coverage: &mut TextCoverage) {
 type Names<'a> = BTreeMap<&'a [u8], bool>;
 
 /// A method's tree while it is looked at.
-struct Seen<'a> {
+struct TreeScan<'a> {
     tree: &'a Tree<'a>,
     method: usize,
     names: Vec<Names<'a>>,
     coverage: &'a mut TextCoverage,
 }
 
-impl<'a> Seen<'a> {
+impl<'a> TreeScan<'a> {
     fn block(&mut self, block: &'a Block<'a>) {
         for variable in &block.variables {
             self.coverage.add(TextMark::Declared(variable.kind.number()));
@@ -138,8 +138,8 @@ impl<'a> Seen<'a> {
 
     fn apply(&mut self, name: &[u8]) {
         match called(self.tree, name) {
-            Some(Called::Gate(_)) => self.coverage.has(Part::GateCall),
-            Some(Called::Method(method)) => {
+            Some(Callee::Gate(_)) => self.coverage.has(Part::GateCall),
+            Some(Callee::Method(method)) => {
                 match self.tree.methods[method].returns {
                     Type::None => self.coverage.has(Part::CallVoid),
                     _ => self.coverage.has(Part::CallDropped),

@@ -9,7 +9,7 @@ use crate::holders::Holders;
 
 /// How a process number stands before an entry.
 #[derive(Clone, Copy, Debug, PartialEq, Eq)]
-pub enum Standing {
+pub enum Readiness {
     NotStarted,
     Finished,
     Stopped(Fault),
@@ -22,10 +22,10 @@ pub enum Standing {
     Moves,
 }
 
-impl Standing {
+impl Readiness {
     /// Whether an entry that names it moves it.
     pub fn is_able(self) -> bool {
-        matches!(self, Standing::Gone(_) | Standing::Moves)
+        matches!(self, Readiness::Gone(_) | Readiness::Moves)
     }
 }
 
@@ -45,17 +45,17 @@ impl Offer {
 }
 
 /// How a process number stands, with the holders by the lines so far.
-pub fn standing(code: &Code, configuration: &Configuration, holders: &Holders, number: usize) -> Standing {
+pub fn readiness(code: &Code, configuration: &Configuration, holders: &Holders, number: usize) -> Readiness {
     let Some(process) = configuration.processes.get(number) else {
-        return Standing::NotStarted;
+        return Readiness::NotStarted;
     };
     match (process.state, offer(code, process)) {
-        (State::Finished, _) => Standing::Finished,
-        (State::Stopped(fault), _) => Standing::Stopped(fault),
-        (State::Running, None) => Standing::Moves,
-        (State::Running, Some(offer)) if is_gone(configuration, holders, number, offer) => Standing::Gone(offer),
-        (State::Running, Some(offer)) if is_met(code, configuration, number, offer) => Standing::Moves,
-        (State::Running, Some(offer)) => Standing::Waits(offer),
+        (State::Finished, _) => Readiness::Finished,
+        (State::Stopped(fault), _) => Readiness::Stopped(fault),
+        (State::Running, None) => Readiness::Moves,
+        (State::Running, Some(offer)) if is_gone(configuration, holders, number, offer) => Readiness::Gone(offer),
+        (State::Running, Some(offer)) if is_met(code, configuration, number, offer) => Readiness::Moves,
+        (State::Running, Some(offer)) => Readiness::Waits(offer),
     }
 }
 
