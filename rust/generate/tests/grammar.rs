@@ -8,7 +8,7 @@ use model::text::grammar::Grammar;
 use model::text::read::{read, read_by, Rules, MOST_NESTING};
 use model::text::token::{tokens, Kind as Sort};
 use model::text::tree::{Block, Code, Id, Kind, Method, Statement, Tree};
-use model::text::{Reason, Refusal};
+use model::text::{Reason, TextRefusal};
 
 /// The recogniser takes longer than the reader: longer texts are left out.
 fn short_texts(seeds: std::ops::Range<u64>) -> impl Iterator<Item = (u64, Vec<u8>)> {
@@ -30,10 +30,10 @@ fn the_place_of_30_is_the_grammars() {
             Ok(()) => recognised.is_ok(),
             Err(refusal) if refusal.reason.is_grammar() => recognised == Err(refusal.place),
             // The first token of the body that is too deep may be wrong as well.
-            Err(Refusal { reason: Reason::Nesting, place, .. }) => {
+            Err(TextRefusal { reason: Reason::Nesting, place, .. }) => {
                 recognised.map_or_else(|bad| bad >= place, |()| true)
             }
-            Err(Refusal { place, .. }) => recognised.map_or_else(|bad| bad > place, |()| true),
+            Err(TextRefusal { place, .. }) => recognised.map_or_else(|bad| bad > place, |()| true),
         };
         assert!(same, "seed {seed}: {answer:?} and {recognised:?}\n{}", String::from_utf8_lossy(&text));
         *counts.entry(answer.err().map(|refusal| refusal.reason)).or_insert(0) += 1;
@@ -60,7 +60,7 @@ fn the_rules_beside_the_grammar() {
 }
 
 /// Every place that breaks a rule.
-fn broken(tree: &Tree) -> Vec<Refusal> {
+fn broken(tree: &Tree) -> Vec<TextRefusal> {
     let mut rules = RuleScan { tree, withends: Vec::new(), found: Vec::new() };
     for Method { parameters, body, .. } in &tree.methods {
         rules.withends = vec![parameters.iter().map(|parameter| (parameter.name.bytes, false)).collect()];
@@ -72,13 +72,13 @@ fn broken(tree: &Tree) -> Vec<Refusal> {
 struct RuleScan<'t> {
     tree: &'t Tree<'t>,
     withends: Vec<BTreeMap<&'t [u8], bool>>,
-    found: Vec<Refusal>,
+    found: Vec<TextRefusal>,
 }
 
 impl<'t> RuleScan<'t> {
     fn too_deep(&mut self, depth: usize, statement: &Statement) {
         if depth > MOST_NESTING {
-            self.found.push(Refusal::new(Reason::Nesting, statement.at));
+            self.found.push(TextRefusal::new(Reason::Nesting, statement.at));
         }
     }
 
@@ -139,7 +139,7 @@ impl<'t> RuleScan<'t> {
             let Kind::Assign(name) = self.tree.expressions[id].kind else { continue };
             let known = self.withends.iter().rev().find_map(|block| block.get(name.bytes));
             if known == Some(&true) {
-                self.found.push(Refusal::new(Reason::Withends, name.at));
+                self.found.push(TextRefusal::new(Reason::Withends, name.at));
             }
         }
     }

@@ -48,7 +48,8 @@ impl Program {
     /// assert_eq!(program.methods(), Ok(vec![main]));
     ///
     /// let short = Program::from(&program.words()[1..]);
-    /// assert_eq!(short.methods().unwrap_err().to_string(), "refused 1 0: N, the number of instructions, is 0, not 1 to 4096");
+    /// let refusal = short.methods().unwrap_err();
+    /// assert_eq!(refusal.to_string(), "refused 1 0: N, the number of instructions, is 0, not 1 to 4096");
     /// ```
     pub fn methods(&self) -> Result<Vec<Method>, Reason> {
         methods(&self.words)

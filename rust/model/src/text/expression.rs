@@ -6,7 +6,7 @@
 //! the right" (readings, 5).
 
 use super::read::Reader;
-use super::refusal::{Reason, Refusal};
+use super::refusal::{Reason, TextRefusal};
 use super::token::Kind as Sort;
 use super::tree::{Id, Kind, Name, Operator};
 
@@ -53,7 +53,7 @@ enum Continuation {
 
 impl<'t> Reader<'t> {
     /// `expr`
-    pub(super) fn expression(&mut self) -> Result<Id, Refusal> {
+    pub(super) fn expression(&mut self) -> Result<Id, TextRefusal> {
         let mut open = Vec::new();
         loop {
             let Some(mut read) = self.start(&mut open)? else {
@@ -71,7 +71,7 @@ impl<'t> Reader<'t> {
 
     /// The start of an expression: its first operand, or none where it opens
     /// something.
-    fn start(&mut self, open: &mut Vec<Open<'t>>) -> Result<Option<Subexpression>, Refusal> {
+    fn start(&mut self, open: &mut Vec<Open<'t>>) -> Result<Option<Subexpression>, TextRefusal> {
         let token = self.token();
         let read = match token.bytes {
             _ if token.kind == Sort::Name => return self.start_with_name(open),
@@ -102,12 +102,12 @@ impl<'t> Reader<'t> {
     }
 
     /// A variable, an assignment or a call.
-    fn start_with_name(&mut self, open: &mut Vec<Open<'t>>) -> Result<Option<Subexpression>, Refusal> {
+    fn start_with_name(&mut self, open: &mut Vec<Open<'t>>) -> Result<Option<Subexpression>, TextRefusal> {
         let name = self.name()?;
         if self.stands_at("=") {
             // "30 at its name, as soon as `=` follows" (readings, 11)
             if self.is_withends(name) {
-                return Err(Refusal::new(Reason::Withends, name.at));
+                return Err(TextRefusal::new(Reason::Withends, name.at));
             }
             self.take();
             open.push(Open::Assign(name));
@@ -127,7 +127,7 @@ impl<'t> Reader<'t> {
 
     /// `measure ( StdBasis , variableName )`: "StdBasis with one variable in a
     /// measurement"
-    pub(super) fn measurement(&mut self) -> Result<Id, Refusal> {
+    pub(super) fn measurement(&mut self) -> Result<Id, TextRefusal> {
         self.expect("measure")?;
         self.expect("(")?;
         self.expect("StdBasis")?;
@@ -139,7 +139,7 @@ impl<'t> Reader<'t> {
     }
 
     /// `new nonDupType ( )`
-    fn allocation(&mut self) -> Result<Id, Refusal> {
+    fn allocation(&mut self) -> Result<Id, TextRefusal> {
         self.expect("new")?;
         let Some(kind) = self.thing_type()? else {
             return self.wrong();
@@ -150,7 +150,7 @@ impl<'t> Reader<'t> {
     }
 
     /// What follows an operand or a whole expression.
-    fn go_on(&mut self, open: &mut Vec<Open<'t>>, read: Subexpression) -> Result<Continuation, Refusal> {
+    fn go_on(&mut self, open: &mut Vec<Open<'t>>, read: Subexpression) -> Result<Continuation, TextRefusal> {
         let Some(operator) = Operator::read(self.token().bytes) else {
             return self.close(open, read.id());
         };
@@ -167,7 +167,7 @@ impl<'t> Reader<'t> {
     /// An operator after `new T()` can only belong to what stands around an
     /// assignment that ends here: "an assignment of it inside an expression is an
     /// operand like any other" (readings, 5). The innermost one closes.
-    fn close_before_operator(&mut self, open: &mut Vec<Open<'t>>, id: Id) -> Result<Continuation, Refusal> {
+    fn close_before_operator(&mut self, open: &mut Vec<Open<'t>>, id: Id) -> Result<Continuation, TextRefusal> {
         match open.pop() {
             Some(Open::Right(operator, left)) => {
                 let whole = self.add(Kind::Operate(operator), vec![left, id]);
@@ -183,7 +183,7 @@ impl<'t> Reader<'t> {
 
     /// No operator follows: what was opened last ends here, or goes on to its
     /// next argument.
-    fn close(&mut self, open: &mut Vec<Open<'t>>, id: Id) -> Result<Continuation, Refusal> {
+    fn close(&mut self, open: &mut Vec<Open<'t>>, id: Id) -> Result<Continuation, TextRefusal> {
         let closed = match open.pop() {
             None => return Ok(Continuation::Done(id)),
             Some(Open::Right(operator, left)) => self.add(Kind::Operate(operator), vec![left, id]),

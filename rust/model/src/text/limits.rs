@@ -6,13 +6,13 @@ use data::program::{self, MOST_INSTRUCTIONS, MOST_METHODS};
 use data::{Type, SLOTS};
 
 use super::code::{translate, Translation};
-use super::refusal::{Reason, Refusal};
+use super::refusal::{Reason, TextRefusal};
 use super::tree::{Method, Tree};
 use crate::table::{self, Op, Program, Row, MOST_PARAMETERS};
 use crate::typing::method_fault;
 
 /// The table's words, or 32.
-pub fn table(tree: &Tree) -> Result<Vec<u16>, Refusal> {
+pub fn table(tree: &Tree) -> Result<Vec<u16>, TextRefusal> {
     let methods = tree.methods.iter().map(|method| translate(tree, method));
     let methods: Vec<Translation> = methods.collect();
     let mut instructions = 0;
@@ -20,7 +20,7 @@ pub fn table(tree: &Tree) -> Result<Vec<u16>, Refusal> {
         instructions += methods[index].code.len();
         let passed = size_passed(tree, method, index, &methods[index], instructions);
         if let Some(reason) = passed.or_else(|| question_passed(tree, index, &methods[index])) {
-            return Err(Refusal::new(reason, method.name.at));
+            return Err(TextRefusal::new(reason, method.name.at));
         }
     }
     let written = tree.order().into_iter().map(|method| written(&tree.methods[method], &methods[method]));

@@ -32,7 +32,7 @@ pub mod token;
 pub mod tree;
 pub mod unfold;
 
-pub use refusal::{Reason, Refusal};
+pub use refusal::{Reason, TextRefusal};
 pub use run::{run, TextRun};
 pub use tree::Tree;
 
@@ -40,13 +40,13 @@ pub use tree::Tree;
 /// leaves the grammar or the nesting, 31 when a name is undeclared .., 32 when
 /// the table .. passes a limit of questions 1 to 5: all before question 1, in
 /// this order, each at its lowest byte index".
-pub fn translate(text: &[u8]) -> Result<Vec<u16>, Refusal> {
+pub fn translate(text: &[u8]) -> Result<Vec<u16>, TextRefusal> {
     let tree = tree(text)?;
     limits::table(&tree)
 }
 
 /// The tree of a text that has neither 30 nor 31.
-pub fn tree(text: &[u8]) -> Result<Tree<'_>, Refusal> {
+pub fn tree(text: &[u8]) -> Result<Tree<'_>, TextRefusal> {
     let tree = read::read(text)?;
     names::check(&tree)?;
     Ok(tree)

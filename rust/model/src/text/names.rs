@@ -4,7 +4,7 @@
 
 use data::Gate;
 
-use super::refusal::{Reason, Refusal};
+use super::refusal::{Reason, TextRefusal};
 use super::scope::Scopes;
 use super::tree::{Block, Code, Id, Kind, Method, Name, Statement, Tree, Variable};
 
@@ -36,7 +36,7 @@ pub fn gate_count(gate: Gate) -> usize {
 }
 
 /// The refusal by 31 with the lowest place, if there is any.
-pub fn check(tree: &Tree) -> Result<(), Refusal> {
+pub fn check(tree: &Tree) -> Result<(), TextRefusal> {
     let mut names = Names { tree, declared: Scopes::new(), found: Vec::new() };
     names.methods_twice();
     for method in &tree.methods {
@@ -44,7 +44,7 @@ pub fn check(tree: &Tree) -> Result<(), Refusal> {
     }
     // "a missing main is 31 at the text's end"
     if tree.method(b"main").is_none() {
-        names.found.push(Refusal::new(Reason::NoMain, tree.length));
+        names.found.push(TextRefusal::new(Reason::NoMain, tree.length));
     }
     match names.found.iter().min_by_key(|refusal| refusal.place) {
         Some(lowest) => Err(*lowest),
@@ -56,12 +56,12 @@ pub fn check(tree: &Tree) -> Result<(), Refusal> {
 struct Names<'t> {
     tree: &'t Tree<'t>,
     declared: Scopes<'t, ()>,
-    found: Vec<Refusal>,
+    found: Vec<TextRefusal>,
 }
 
 impl<'t> Names<'t> {
     fn no(&mut self, reason: Reason, name: Name) {
-        self.found.push(Refusal::new(reason, name.at));
+        self.found.push(TextRefusal::new(reason, name.at));
     }
 
     /// "the later .. of two methods" (readings, 13)

@@ -7,7 +7,7 @@
 
 use data::{CarriedType, Type};
 
-use super::refusal::{Reason, Refusal};
+use super::refusal::{Reason, TextRefusal};
 use super::scope::Scopes;
 use super::token::{tokens, Kind, Token};
 use super::tree::{Block, Code, Expression, Id, Kind as What, Method, Name, Statement, Tree, Variable};
@@ -28,12 +28,12 @@ pub struct Rules {
 pub const PAPER_1: Rules = Rules { nesting: MOST_NESTING, withends: true };
 
 /// The text, read: `program ::= method+`.
-pub fn read(text: &[u8]) -> Result<Tree<'_>, Refusal> {
+pub fn read(text: &[u8]) -> Result<Tree<'_>, TextRefusal> {
     read_by(text, PAPER_1)
 }
 
 /// The same by other rules beside the grammar, for comparing.
-pub fn read_by(text: &[u8], rules: Rules) -> Result<Tree<'_>, Refusal> {
+pub fn read_by(text: &[u8], rules: Rules) -> Result<Tree<'_>, TextRefusal> {
     let mut reader =
         Reader { tokens: tokens(text), position: 0, rules, withends: Scopes::new(), tree: Tree::new(text.len()) };
     loop {
@@ -75,25 +75,25 @@ impl<'t> Reader<'t> {
     }
 
     /// 30 at the token it stands at.
-    pub(super) fn wrong<T>(&self) -> Result<T, Refusal> {
+    pub(super) fn wrong<T>(&self) -> Result<T, TextRefusal> {
         let token = self.token();
         let reason = match token.kind {
             Kind::End => Reason::Stops,
             Kind::Bad => Reason::Byte,
             _ => Reason::Token,
         };
-        Err(Refusal::new(reason, token.at))
+        Err(TextRefusal::new(reason, token.at))
     }
 
     /// A mark or word that has to stand here.
-    pub(super) fn expect(&mut self, wanted: &str) -> Result<Token<'t>, Refusal> {
+    pub(super) fn expect(&mut self, wanted: &str) -> Result<Token<'t>, TextRefusal> {
         match self.stands_at(wanted) {
             true => Ok(self.take()),
             false => self.wrong(),
         }
     }
 
-    pub(super) fn name(&mut self) -> Result<Name<'t>, Refusal> {
+    pub(super) fn name(&mut self) -> Result<Name<'t>, TextRefusal> {
         if self.token().kind != Kind::Name {
             return self.wrong();
         }
@@ -110,7 +110,7 @@ impl<'t> Reader<'t> {
     // Types. "01's types"
 
     /// `nonVoidType`, where one starts here.
-    fn value_type(&mut self) -> Result<Option<Type>, Refusal> {
+    fn value_type(&mut self) -> Result<Option<Type>, TextRefusal> {
         let kind = match self.token() {
             token if token.is("int") => Type::Int,
             token if token.is("boolean") => Type::Bool,
@@ -121,7 +121,7 @@ impl<'t> Reader<'t> {
     }
 
     /// `nonVoidType`, which has to start here.
-    fn needed_type(&mut self) -> Result<Type, Refusal> {
+    fn needed_type(&mut self) -> Result<Type, TextRefusal> {
         match self.value_type()? {
             Some(kind) => Ok(kind),
             None => self.wrong(),
@@ -129,7 +129,7 @@ impl<'t> Reader<'t> {
     }
 
     /// `nonDupType`, where one starts here.
-    pub(super) fn thing_type(&mut self) -> Result<Option<Type>, Refusal> {
+    pub(super) fn thing_type(&mut self) -> Result<Option<Type>, TextRefusal> {
         if self.stands_at("qbit") {
             self.take();
             return Ok(Some(Type::Qubit));
@@ -147,7 +147,7 @@ impl<'t> Reader<'t> {
     }
 
     /// "another type inside is 30 at it" (readings, 6)
-    fn carried(&mut self) -> Result<CarriedType, Refusal> {
+    fn carried(&mut self) -> Result<CarriedType, TextRefusal> {
         let carried = match self.token() {
             token if token.is("int") => CarriedType::Int,
             token if token.is("boolean") => CarriedType::Bool,
@@ -162,7 +162,7 @@ impl<'t> Reader<'t> {
 
     /// `method ::= methodHeader block`, `methodHeader ::= type methodName (
     /// methodDeclParamList? )`
-    fn method(&mut self) -> Result<Method<'t>, Refusal> {
+    fn method(&mut self) -> Result<Method<'t>, TextRefusal> {
         let returns = match self.stands_at("void") {
             true => {
                 self.take();
@@ -178,7 +178,7 @@ impl<'t> Reader<'t> {
         Ok(Method { returns, name, parameters, body })
     }
 
-    fn parameters(&mut self) -> Result<Vec<Variable<'t>>, Refusal> {
+    fn parameters(&mut self) -> Result<Vec<Variable<'t>>, TextRefusal> {
         let mut parameters = Vec::new();
         self.expect("(")?;
         while !(parameters.is_empty() && self.stands_at(")")) {
@@ -201,7 +201,7 @@ impl<'t> Reader<'t> {
 
     /// `varDeclaration ::= (oneVarDecl ;)*`, without aliasfor: "Declarations
     /// first in a block" (readings, 4).
-    fn declarations(&mut self) -> Result<Vec<Variable<'t>>, Refusal> {
+    fn declarations(&mut self) -> Result<Vec<Variable<'t>>, TextRefusal> {
         let mut variables = Vec::new();
         while let Some(kind) = self.value_type()? {
             let first = self.name()?;
@@ -220,7 +220,7 @@ impl<'t> Reader<'t> {
         Ok(variables)
     }
 
-    fn further_names(&mut self, kind: Type, variables: &mut Vec<Variable<'t>>) -> Result<(), Refusal> {
+    fn further_names(&mut self, kind: Type, variables: &mut Vec<Variable<'t>>) -> Result<(), TextRefusal> {
         while self.stands_at(",") {
             self.take();
             let name = self.name()?;
@@ -230,7 +230,7 @@ impl<'t> Reader<'t> {
     }
 
     /// `withends [ variableName , variableName ]`
-    fn ends(&mut self, kind: Type) -> Result<[Variable<'t>; 2], Refusal> {
+    fn ends(&mut self, kind: Type) -> Result<[Variable<'t>; 2], TextRefusal> {
         self.expect("withends")?;
         self.expect("[")?;
         let zero = self.name()?;
@@ -252,7 +252,7 @@ impl<'t> Reader<'t> {
 
     /// `block ::= { varDeclaration code* }`, of this depth. The scope of a
     /// method's body is open already: "parameters stand in the body's".
-    fn block(&mut self, depth: usize) -> Result<Block<'t>, Refusal> {
+    fn block(&mut self, depth: usize) -> Result<Block<'t>, TextRefusal> {
         self.expect("{")?;
         if depth > 1 {
             self.withends.open();
@@ -269,15 +269,15 @@ impl<'t> Reader<'t> {
 
     /// 30 where a body or block of this depth starts and is too deep: "Depth 33:
     /// 30 at the first token of that body or block" (readings, 10).
-    fn nesting(&self, depth: usize) -> Result<(), Refusal> {
+    fn nesting(&self, depth: usize) -> Result<(), TextRefusal> {
         match depth > self.rules.nesting {
-            true => Err(Refusal::new(Reason::Nesting, self.token().at)),
+            true => Err(TextRefusal::new(Reason::Nesting, self.token().at)),
             false => Ok(()),
         }
     }
 
     /// `code`, standing at this depth.
-    fn statement(&mut self, depth: usize) -> Result<Statement<'t>, Refusal> {
+    fn statement(&mut self, depth: usize) -> Result<Statement<'t>, TextRefusal> {
         let token = self.token();
         let kind = match token.bytes {
             b";" => {
@@ -301,7 +301,7 @@ impl<'t> Reader<'t> {
 
     /// The body of an if, else or while: "a block or not, and a block that is
     /// such a body is not counted twice" (readings, 10).
-    fn body(&mut self, depth: usize) -> Result<Box<Statement<'t>>, Refusal> {
+    fn body(&mut self, depth: usize) -> Result<Box<Statement<'t>>, TextRefusal> {
         self.nesting(depth)?;
         let at = self.token().at;
         let body = match self.stands_at("{") {
@@ -313,7 +313,7 @@ impl<'t> Reader<'t> {
 
     /// `if ( expr ) code ( else code)?`: "else goes to the nearest if" (readings,
     /// 4).
-    fn branch(&mut self, depth: usize) -> Result<Code<'t>, Refusal> {
+    fn branch(&mut self, depth: usize) -> Result<Code<'t>, TextRefusal> {
         self.expect("if")?;
         let test = self.bracketed()?;
         let then = self.body(depth + 1)?;
@@ -326,14 +326,14 @@ impl<'t> Reader<'t> {
     }
 
     /// `while ( expr ) code`
-    fn repetition(&mut self, depth: usize) -> Result<Code<'t>, Refusal> {
+    fn repetition(&mut self, depth: usize) -> Result<Code<'t>, TextRefusal> {
         self.expect("while")?;
         let test = self.bracketed()?;
         let body = self.body(depth + 1)?;
         Ok(Code::While { test, body })
     }
 
-    fn bracketed(&mut self) -> Result<Id, Refusal> {
+    fn bracketed(&mut self) -> Result<Id, TextRefusal> {
         self.expect("(")?;
         let inside = self.expression()?;
         self.expect(")")?;
@@ -342,7 +342,7 @@ impl<'t> Reader<'t> {
 
     /// A statement that a `;` closes: "assignment, call or gate, measurement,
     /// recv, and no others" of expressions (readings, 4), fork, send, return.
-    fn plain_statement(&mut self) -> Result<Code<'t>, Refusal> {
+    fn plain_statement(&mut self) -> Result<Code<'t>, TextRefusal> {
         match self.token() {
             token if token.kind == Kind::Name => self.named_statement(),
             token if token.is("measure") => Ok(Code::Evaluate(self.measurement()?)),
@@ -362,7 +362,7 @@ impl<'t> Reader<'t> {
     }
 
     /// `variableName = expr` or `methodName ( methodParams? )`
-    fn named_statement(&mut self) -> Result<Code<'t>, Refusal> {
+    fn named_statement(&mut self) -> Result<Code<'t>, TextRefusal> {
         let name = self.name()?;
         if self.stands_at("=") {
             self.take();
@@ -372,7 +372,7 @@ impl<'t> Reader<'t> {
     }
 
     /// `( methodParams? )`
-    fn arguments(&mut self) -> Result<Vec<Id>, Refusal> {
+    fn arguments(&mut self) -> Result<Vec<Id>, TextRefusal> {
         let mut arguments = Vec::new();
         self.expect("(")?;
         while !(arguments.is_empty() && self.stands_at(")")) {
@@ -387,14 +387,14 @@ impl<'t> Reader<'t> {
     }
 
     /// `recv ( expr )`
-    fn receiving(&mut self) -> Result<Id, Refusal> {
+    fn receiving(&mut self) -> Result<Id, TextRefusal> {
         self.expect("recv")?;
         let end = self.bracketed()?;
         Ok(self.add(What::Receive, vec![end]))
     }
 
     /// `send ( expr , expr )`
-    fn sending(&mut self) -> Result<Code<'t>, Refusal> {
+    fn sending(&mut self) -> Result<Code<'t>, TextRefusal> {
         self.expect("send")?;
         self.expect("(")?;
         let end = self.expression()?;

@@ -99,20 +99,20 @@ impl Reason {
 /// "A refusal gives number and place": the place is a "byte index (of a token's
 /// start)".
 #[derive(Clone, Copy, Debug, PartialEq, Eq, PartialOrd, Ord)]
-pub struct Refusal {
+pub struct TextRefusal {
     pub number: u16,
     pub place: usize,
     pub reason: Reason,
 }
 
-impl Refusal {
-    pub fn new(reason: Reason, place: usize) -> Refusal {
-        Refusal { number: reason.number(), place, reason }
+impl TextRefusal {
+    pub fn new(reason: Reason, place: usize) -> TextRefusal {
+        TextRefusal { number: reason.number(), place, reason }
     }
 }
 
 /// As the printing program prints a refusal.
-impl fmt::Display for Refusal {
+impl fmt::Display for TextRefusal {
     fn fmt(&self, f: &mut fmt::Formatter) -> fmt::Result {
         write!(f, "refused {} {}", self.number, self.place)
     }
