@@ -124,7 +124,8 @@ module _ (ms : Program) (limited : Limited ms) (outcomes : List ℕ) (w : Stand 
 
   -- Each move has its instruction where the frames stand.
   pub move-like : (v : Move) → Follow ms m v (Follows ms m ts) (w .scope) (w .at) → Alike v
-  unfolding takenBy opOf ops opGet opPut opDrop opClear opNewQ opNewC opEnd opGate opMeas opSend opRecv opJump opJFalse unlisted
+  unfolding takenBy opOf ops opGet opPut opDrop opClear opNewQ opNewC opEnd opGate opMeas opSend opRecv opJump opJFalse
+      unlisted
   move-like (constant v) h =
       by (h .pushes) (constant v) (h .stands .0) (constant-takes p (w .number) v (h .pushes) (h .is-constant))
       (λ l. constant-like ms outcomes w ts callers c (h .stands .1) v (h .pushes) (h .is-constant))

@@ -194,7 +194,9 @@ module _ (ms : Program) (n : ℕ) (m : Method) (e : methodAt ms n ≡ some m) wh
   -- its return type
   pub return-of : returnOf (programTable ms) n ≡ returnCode (m .returns)
   unfolding returnOf word rowWords
-  return-of = ap (λ j. getD (programTable ms) j 0) {y = row (programTable ms) n + 0} (omega arith) ∙ row-of 0 (omega arith)
+  return-of =
+      ap (λ j. getD (programTable ms) j 0) {y = row (programTable ms) n + 0} (omega arith)
+      ∙ row-of 0 (omega arith)
 
   -- its number of parameters
   pub params-of : paramsOf (programTable ms) n ≡ length (m .parameters)

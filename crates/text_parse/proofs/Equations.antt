@@ -17,7 +17,8 @@ with-enough ts c le rule =
     rule (enough ts) (omega arith) (enough ts) (omega arith)
 
 pub grammar : GrammarEquations
-unfolding exprFrom indivExprFrom methodParamsFrom moreNamesFrom declarationFrom declarationsFrom statementFrom bodyFrom blockFrom statementsFrom moreParametersFrom methodFrom programOf
+unfolding exprFrom indivExprFrom methodParamsFrom moreNamesFrom declarationFrom declarationsFrom statementFrom bodyFrom
+    blockFrom statementsFrom moreParametersFrom methodFrom programOf
 grammar = record {
   expr-is = λ sc ts. with-enough ts 2 (omega arith) (λ b l n m. expr-rule b sc ts l n m);
   indivExpr-is = λ sc ts. with-enough ts 1 (omega arith) (λ b l n m. indivExpr-rule b sc ts l n m);

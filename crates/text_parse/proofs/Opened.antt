@@ -5,5 +5,9 @@ use Rattle.text_parse.specs.Grammar.{andThen, leavesAt, expect, expectNa
 use Rattle.text_parse.specs.Text.{orElseRefused, textFrom, textOf}
 
 unfoldable pub parse-opened : Unit {0}
-unfolding text-opened extends finished tokensFrom tokensOf isName isNumeral numberFrom numeralOf andThen leavesAt expect expectName carried bracketed nonVoidType startsType returnType declaredHere hasEndsOr isWithends operatorAt allocated allocation measuredName moreNames endNames declarationOf declaration declarations deeper namedStatement forkStatement sendStatement recvStatement simple condition parameter moreParameters parameters methodBody method atTextEnd program enough programOf expr statement orElseRefused textFrom textOf
+unfolding text-opened extends finished tokensFrom tokensOf isName isNumeral numberFrom numeralOf andThen leavesAt expect
+    expectName carried bracketed nonVoidType startsType returnType declaredHere hasEndsOr isWithends operatorAt
+    allocated allocation measuredName moreNames endNames declarationOf declaration declarations deeper namedStatement
+    forkStatement sendStatement recvStatement simple condition parameter moreParameters parameters methodBody method
+    atTextEnd program enough programOf expr statement orElseRefused textFrom textOf
 parse-opened = tt

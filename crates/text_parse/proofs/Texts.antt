@@ -40,7 +40,8 @@ unfolding orElseRefused
 passes-limits none t ms h = (refl, h)
 passes-limits (some i) t ms h = absurd h
 
-judged-translated : (bytes : ℕ) (r : Reading Program) (ms : Program) → IsTable ms (textFrom bytes r) → Translated bytes ms
+judged-translated : (bytes : ℕ) (r : Reading Program) (ms : Program) → IsTable ms (textFrom bytes r)
+    → Translated bytes ms
 unfolding textFrom
 judged-translated bytes (leaves i) ms h = absurd h
 judged-translated bytes (read qs ts) ms h =
