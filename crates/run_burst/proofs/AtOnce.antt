@@ -66,15 +66,18 @@ not-some b e = ap not e
 module _ (p schedule work : List ℕ) (long : 8192 ≤ length work) (n : ℕ) (l : n < 8) (known : Knowledge)
     (none : known .some ≡ false) where
   -- one more of them
-  one-taken : (t : List (List ℕ)) (k : ℕ) (w w′ : List ℕ) → k < length schedule → getD schedule k 0 ≡ n → length w ≡ 512 → stepOp p w ≡ afterStep WentOn w′
-      → burstOp p t schedule (withPart work n w) k known (length schedule - k) ≡ burstOp p t schedule (withPart work n w′) (k + 1) known (length schedule - (k + 1))
+  one-taken : (t : List (List ℕ)) (k : ℕ) (w w′ : List ℕ) → k < length schedule → getD schedule k 0 ≡ n → length w ≡ 512
+      → stepOp p w ≡ afterStep WentOn w′
+      → burstOp p t schedule (withPart work n w) k known (length schedule - k) ≡ burstOp p t schedule (withPart work n
+      w′) (k + 1) known (length schedule - (k + 1))
   unfolding onPart wentOn
   one-taken t k w w′ h e s q =
       burst-goes p t schedule (withPart work n w) k known {step = WentOn} {words = withPart work n w′} h stepped
       (done-step WentOn known refl refl) refl
       (knew-nothing p (withPart work n w′) (getD schedule k 0) known WentOn (not-some (known .some) none))
     where
-      done : onPart (withPart work n w) n (stepOp p (partOf (withPart work n w) n)) ≡ afterStep WentOn (withPart work n w′)
+      done : onPart (withPart work n w) n (stepOp p (partOf (withPart work n w) n)) ≡ afterStep WentOn (withPart work n
+          w′)
       done =
           ap (λ (u : List ℕ). onPart (withPart work n w) n (stepOp p u)) (part-back work long n l w s)
           ∙ ap (onPart (withPart work n w) n) q

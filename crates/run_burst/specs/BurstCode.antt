@@ -59,5 +59,7 @@ burstOp p t schedule work k known (suc left) =
     (burstOp p t schedule (d .words) (k + 1) (withIdle known n) left))
 
 -- a burst that starts at entry k with these words stops where one does that starts at entry k′ with those
-pub record SameBurst (p schedule : List ℕ) (known : Knowledge) (work : List ℕ) (k : ℕ) (work′ : List ℕ) (k′ : ℕ) : Type 0 where
-  pub same : (t : List (List ℕ)) → burstOp p t schedule work k known (length schedule - k) ≡ burstOp p t schedule work′ k′ known (length schedule - k′)
+pub record SameBurst (p schedule : List ℕ) (known : Knowledge) (work : List ℕ) (k : ℕ) (work′ : List ℕ) (k′ : ℕ) : Type
+    0 where
+  pub same : (t : List (List ℕ)) → burstOp p t schedule work k known (length schedule - k) ≡ burstOp p t schedule work′
+      k′ known (length schedule - k′)

@@ -134,7 +134,8 @@ pub fn silent_entries(
     known: Knowledge,
 ) -> Burst
     requires { ⌜ (start ≡ 2 + 20 * methods (now p)) × (8192 ≤ length (now work)) × (from ≤ length (now schedule)) ⌝ }
-    ensures { λ r. ⌜ stopsAt r (now (work .exit)) ≡ burstOp (now (p .entry)) (now (t .entry)) (now (schedule .entry)) (now (work .entry)) from known (length (now (schedule .entry)) - from) ⌝ }
+    ensures { λ r. ⌜ stopsAt r (now (work .exit)) ≡ burstOp (now (p .entry)) (now (t .entry)) (now (schedule .entry))
+        (now (work .entry)) from known (length (now (schedule .entry)) - from) ⌝ }
 {
     let mut k = from;
     let mut sure = known;

@@ -32,7 +32,8 @@ fn take_consecutive(
     k: usize,
     known: Knowledge,
 ) -> usize
-    requires { ⌜ (start ≡ 2 + 20 * methods (now p)) × (8192 ≤ length (now work)) × (k ≤ length (now schedule)) × Kept (now p) ⌝ }
+    requires { ⌜ (start ≡ 2 + 20 * methods (now p)) × (8192 ≤ length (now work)) × (k ≤ length (now schedule)) × Kept
+        (now p) ⌝ }
     ensures { λ r. ⌜ SameBurst (now (p .entry)) (now (schedule .entry)) known (now (work .entry)) k (now (work .exit)) r
         × (r ≤ length (now (schedule .entry))) ⌝ }
 {
@@ -52,7 +53,8 @@ fn take_consecutive(
 // The first entries of a run, before which nothing is known: process 0 is the only one.
 pub fn take_first(p: &[u16], start: usize, work: &mut [u32], schedule: &[u8]) -> usize
     requires { ⌜ (start ≡ 2 + 20 * methods (now p)) × (8192 ≤ length (now work)) × Kept (now p) ⌝ }
-    ensures { λ r. ⌜ SameBurst (now (p .entry)) (now (schedule .entry)) nothingKnown (now (work .entry)) 0 (now (work .exit)) r
+    ensures { λ r. ⌜ SameBurst (now (p .entry)) (now (schedule .entry)) nothingKnown (now (work .entry)) 0 (now
+        (work .exit)) r
         × (r ≤ length (now (schedule .entry))) × (drop 8256 (now (work .exit)) ≡ drop 8256 (now (work .entry))) ⌝ }
 {
     stretch(p, start, work, schedule, 0, 0)
@@ -68,8 +70,10 @@ pub fn next_burst(
     from: usize,
     known: Knowledge,
 ) -> Burst
-    requires { ⌜ (start ≡ 2 + 20 * methods (now p)) × (8192 ≤ length (now work)) × (from ≤ length (now schedule)) × Kept (now p) ⌝ }
-    ensures { λ r. ⌜ stopsAt r (now (work .exit)) ≡ burstOp (now (p .entry)) (now (t .entry)) (now (schedule .entry)) (now (work .entry)) from known (length (now (schedule .entry)) - from) ⌝ }
+    requires { ⌜ (start ≡ 2 + 20 * methods (now p)) × (8192 ≤ length (now work)) × (from ≤ length (now schedule)) × Kept
+        (now p) ⌝ }
+    ensures { λ r. ⌜ stopsAt r (now (work .exit)) ≡ burstOp (now (p .entry)) (now (t .entry)) (now (schedule .entry))
+        (now (work .entry)) from known (length (now (schedule .entry)) - from) ⌝ }
 {
     let k = take_consecutive(p, start, work, schedule, from, known);
     silent_entries(p, start, work, t, schedule, k, known)

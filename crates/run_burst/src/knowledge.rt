@@ -28,13 +28,16 @@ fn mark(mut idle: [bool; 8], n: u8) -> [bool; 8]
 }
 
 impl Knowledge {
-    // Process n is known not to be able to move, while another is.
+    // Process n is known not to be able to move, while another is. Where nothing is known, the array is not read.
     pub fn is_idle(self, n: u8) -> bool
         requires { ⌜ n < 8 ⌝ }
         ensures { λ r. ⌜ r ≡ isIdle self n ⌝ }
     {
+        if !self.some {
+            return false;
+        }
         let idle = self.idle;
-        self.some & idle[n as usize]
+        idle[n as usize]
     }
 
     // Some process is able to move, but not the one that the byte names.

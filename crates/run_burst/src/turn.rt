@@ -42,8 +42,10 @@ fn named_entry(
     step: StepResult,
     m: Pairing,
 ) -> EntryResult
-    requires { ⌜ (start ≡ 2 + 20 * methods (now p)) × (8192 ≤ length (now work)) × (g .lines < 16000000) × (m .sender .0 < 8) × (m .receiver .0 < 8) ⌝ }
-    ensures { λ r. ⌜ afterEntry r (now (trace .exit)) (now (work .exit)) ≡ namedEntryOp (now (p .entry)) (now (outcomes .entry)) (now (trace .entry)) (now (work .entry)) room g n step m ⌝ }
+    requires { ⌜ (start ≡ 2 + 20 * methods (now p)) × (8192 ≤ length (now work)) × (g .lines < 16000000) × (m .sender .0
+        < 8) × (m .receiver .0 < 8) ⌝ }
+    ensures { λ r. ⌜ afterEntry r (now (trace .exit)) (now (work .exit)) ≡ namedEntryOp (now (p .entry)) (now
+        (outcomes .entry)) (now (trace .entry)) (now (work .entry)) room g n step m ⌝ }
 {
     if 8 <= n {
         return idle(g);
@@ -97,8 +99,10 @@ fn take_turn(
     offer: Pairing,
     known: Knowledge,
 ) -> Turn
-    requires { ⌜ (start ≡ 2 + 20 * methods (now p)) × (8192 ≤ length (now work)) × (g .lines < 16000000) × (offer .sender .0 < 8) × (offer .receiver .0 < 8) ⌝ }
-    ensures { λ r. ⌜ afterTurn r (now (trace .exit)) (now (work .exit)) ≡ turnOp (now (p .entry)) (now (outcomes .entry)) (now (trace .entry)) (now (work .entry)) room (now (t .entry)) g n step offer known ⌝ }
+    requires { ⌜ (start ≡ 2 + 20 * methods (now p)) × (8192 ≤ length (now work)) × (g .lines < 16000000) ×
+        (offer .sender .0 < 8) × (offer .receiver .0 < 8) ⌝ }
+    ensures { λ r. ⌜ afterTurn r (now (trace .exit)) (now (work .exit)) ≡ turnOp (now (p .entry)) (now
+        (outcomes .entry)) (now (trace .entry)) (now (work .entry)) room (now (t .entry)) g n step offer known ⌝ }
 {
     let m = named_entry(p, start, outcomes, trace, work, room, g, n, step, offer);
     let progress = m.progress;
@@ -138,9 +142,12 @@ pub fn turn_at(
     used: u32,
     b: Burst,
 ) -> Turn
-    requires { ⌜ (start ≡ 2 + 20 * methods (now p)) × (8192 ≤ length (now work)) × (b .at < length (now schedule)) × (length (now schedule) ≤ 65535) × (lines < 16000000)
+    requires { ⌜ (start ≡ 2 + 20 * methods (now p)) × (8192 ≤ length (now work)) × (b .at < length (now schedule)) ×
+        (length (now schedule) ≤ 65535) × (lines < 16000000)
         × (b .offer .sender .0 < 8) × (b .offer .receiver .0 < 8) ⌝ }
-    ensures { λ r. ⌜ afterTurn r (now (trace .exit)) (now (work .exit)) ≡ turnAt (now (p .entry)) (now (schedule .entry)) (now (outcomes .entry)) (now (trace .entry)) (now (work .entry)) room (now (t .entry)) lines used b ⌝ }
+    ensures { λ r. ⌜ afterTurn r (now (trace .exit)) (now (work .exit)) ≡ turnAt (now (p .entry)) (now
+        (schedule .entry)) (now (outcomes .entry)) (now (trace .entry)) (now (work .entry)) room (now (t .entry)) lines
+        used b ⌝ }
 {
     let at = b.at;
     let g = Count {

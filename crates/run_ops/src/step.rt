@@ -8,6 +8,7 @@ use super::calls::op_call;
 use super::calls::op_ret;
 use run_store::head::Head;
 use run_store::head::read_head;
+use run_store::values::get;
 use run_values::jumps::op_jfalse;
 use run_values::jumps::op_jump;
 use run_values::moves::op_bool;
@@ -66,7 +67,8 @@ struct Instruction {
 // The two words at `at`, with one test where both are within the table.
 fn read_instruction(p: &[u16], at: usize) -> Instruction
     requires { ⌜ at < 1099511627776 ⌝ }
-    ensures { λ r. ⌜ (r .op ≡ word (now (p .entry)) at) × (r .argument ≡ word (now (p .entry)) (at + 1)) × (r .argument < 65536) ⌝ }
+    ensures { λ r. ⌜ (r .op ≡ word (now (p .entry)) at) × (r .argument ≡ word (now (p .entry)) (at + 1)) × (r .argument
+        < 65536) ⌝ }
 {
     if at + 1 < p.len() {
         return Instruction {
@@ -85,10 +87,10 @@ pub fn step(p: &[u16], start: usize, w: &mut [u32]) -> StepResult
     requires { ⌜ start ≡ 2 + 20 * methods (now p) ⌝ }
     ensures { λ r. ⌜ afterStep r (now (w .exit)) ≡ stepOp (now (p .entry)) (now (w .entry)) ⌝ }
 {
-    let h = read_head(w);
-    if h.status != 1 {
+    if get(w, 0) != 1 {
         return StepResult::NotRunning;
     }
+    let h = read_head(w);
     let i = read_instruction(p, start + 2 * (h.place as usize));
     act(p, w, h, i.op, i.argument as u16)
 }

@@ -20,7 +20,8 @@ pub fn part_at(n: ProcessNo) -> usize
 // One step of process n; `start` is where the table's instructions begin.
 pub fn step_process(p: &[u16], start: usize, work: &mut [u32], n: ProcessNo) -> StepResult
     requires { ⌜ (start ≡ 2 + 20 * methods (now p)) × (8192 ≤ length (now work)) × (n .0 < 8) ⌝ }
-    ensures { λ r. ⌜ afterStep r (now (work .exit)) ≡ onPart (now (work .entry)) (n .0) (stepOp (now (p .entry)) (partOf (now (work .entry)) (n .0))) ⌝ }
+    ensures { λ r. ⌜ afterStep r (now (work .exit)) ≡ onPart (now (work .entry)) (n .0) (stepOp (now (p .entry)) (partOf
+        (now (work .entry)) (n .0))) ⌝ }
 {
     let from = part_at(n);
     let to = from + 512;

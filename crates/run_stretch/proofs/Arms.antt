@@ -22,7 +22,8 @@ use Rattle.run_stretch.proofs.Laid.{read-far}
 use Rattle.run_stretch.proofs.Shapes.{drops-on}
 
 module _ {h : Head} {w : List ℕ} {c : Cursor} (s : Steady h w c) where
-  far-top : (n : ℕ) → n ≤ c .pending → valueAt (laid w h c) (topAt (headWith h c) n) ≡ valueAt w (topAt (headWith h c) n)
+  far-top : (n : ℕ) → n ≤ c .pending → valueAt (laid w h c) (topAt (headWith h c) n) ≡ valueAt w (topAt (headWith h c)
+      n)
   unfolding topAt headWith
   far-top n l = read-far h c (s .most) w (48 + 48 * h .frames + 2 * c .pending - 2 * n) (omega (arith, l, s .least))
 
@@ -32,9 +33,14 @@ module _ {h : Head} {w : List ℕ} {c : Cursor} (s : Steady h w c) where
 
   -- GET of a slot that is not emptied
   pub gets : (a : ℕ) {at : ℕ} → at ≡ 16 + 48 * h .frames + 2 * a → (getD w at 0 ≡ 0 → ⊥)
-      → getOp (laid w h c) (headWith h c) a ≡ afterStep WentOn (pushOn (laid w h c) (headWith h c) (record { tag = getD w at 0; number = getD w (at + 1) 0 }))
+      → getOp (laid w h c) (headWith h c) a ≡ afterStep WentOn (pushOn (laid w h c) (headWith h c) (record {
+        tag = getD
+            w at 0;
+        number = getD w (at + 1) 0;
+      }))
   unfolding getOp valueAt slotAt headWith
-  gets a {at} e ne = sym (full-goes {u = valueAt w at} _ _ _ there ne (ap (λ (v : Val). afterStep WentOn (pushOn (laid w h c) (headWith h c) v)) there))
+  gets a {at} e ne = sym (full-goes {u = valueAt w at} _ _ _ there ne (ap (λ (v : Val). afterStep WentOn (pushOn (laid w
+      h c) (headWith h c) v)) there))
     where
       there : valueAt w at ≡ valueAt (laid w h c) (slotAt (headWith h c) a)
       there = ap (valueAt w) {x = at} {y = slotAt (headWith h c) a} e ∙ sym (far-slot a)
@@ -45,7 +51,8 @@ module _ {h : Head} {w : List ℕ} {c : Cursor} (s : Steady h w c) where
     top-some = read there .0
 
     pub top-goes : (k : Val → AfterStep)
-        → unlessEmpty (valueAt (laid w h c) (topAt (headWith h c) 1)) (laid w h c) (k (valueAt (laid w h c) (topAt (headWith h c) 1)))
+        → unlessEmpty (valueAt (laid w h c) (topAt (headWith h c) 1)) (laid w h c) (k (valueAt (laid w h c) (topAt
+        (headWith h c) 1)))
         ≡ k (record { tag = t .tag; number = t .number })
     top-goes k =
         ap (λ (v : Val). unlessEmpty v (laid w h c) (k v)) (far-top 1 (read there .0) ∙ read there .2)
@@ -56,14 +63,18 @@ module _ {h : Head} {w : List ℕ} {c : Cursor} (s : Steady h w c) where
         → jfalseOp p (laid w h c) (headWith h c) a ≡ afterStep WentOn (dropTo (laid w h c) (headWith h c) (offset + a))
     unfolding jfalseOp targetOf headWith
     false-jumps p a o z =
-        top-goes (λ v. cond (eqb (v .number) 0) (afterStep WentOn (dropTo (laid w h c) (headWith h c) (targetOf p (headWith h c) a))) (afterStep WentOn (dropTop (laid w h c) (headWith h c))))
-        ∙ rw (eq-eqb (t .number) 0 z) (ap (λ (i : ℕ). afterStep WentOn (dropTo (laid w h c) (headWith h c) (i + a))) (sym o))
+        top-goes (λ v. cond (eqb (v .number) 0) (afterStep WentOn (dropTo (laid w h c) (headWith h c) (targetOf p
+        (headWith h c) a))) (afterStep WentOn (dropTop (laid w h c) (headWith h c))))
+        ∙ rw (eq-eqb (t .number) 0 z) (ap (λ (i : ℕ). afterStep WentOn (dropTo (laid w h c) (headWith h c) (i + a)))
+        (sym o))
 
     pub true-goes-on : (p : List ℕ) (a : ℕ) → c .place < 65536 → (t .number ≡ 0 → ⊥)
-        → jfalseOp p (laid w h c) (headWith h c) a ≡ afterStep WentOn (dropTo (laid w h c) (headWith h c) (c .place + 1))
+        → jfalseOp p (laid w h c) (headWith h c) a ≡ afterStep WentOn (dropTo (laid w h c) (headWith h c) (c .place +
+        1))
     unfolding jfalseOp
     true-goes-on p a l z =
-        top-goes (λ v. cond (eqb (v .number) 0) (afterStep WentOn (dropTo (laid w h c) (headWith h c) (targetOf p (headWith h c) a))) (afterStep WentOn (dropTop (laid w h c) (headWith h c))))
+        top-goes (λ v. cond (eqb (v .number) 0) (afterStep WentOn (dropTo (laid w h c) (headWith h c) (targetOf p
+        (headWith h c) a))) (afterStep WentOn (dropTop (laid w h c) (headWith h c))))
         ∙ rw (ne-eqb (t .number) 0 z) (ap (afterStep WentOn) (drops-on s l (read there .0)))
 
   -- an op on the two topmost
@@ -81,10 +92,13 @@ module _ {h : Head} {w : List ℕ} {c : Cursor} (s : Steady h w c) where
     unfolding emptyTwo
     none-empty =
         sym (ap₂ _||_
-        (ap (λ (v : Val). eqb (v .tag) 0) two-there ∙ ne-eqb (valueAt w (topAt (headWith h c) 2) .tag) 0 (read there .1))
-        (ap (λ (v : Val). eqb (v .tag) 0) one-there ∙ ne-eqb (valueAt w (topAt (headWith h c) 1) .tag) 0 (read there .2)))
+        (ap (λ (v : Val). eqb (v .tag) 0) two-there ∙ ne-eqb (valueAt w (topAt (headWith h c) 2) .tag) 0 (read
+        there .1))
+        (ap (λ (v : Val). eqb (v .tag) 0) one-there ∙ ne-eqb (valueAt w (topAt (headWith h c) 1) .tag) 0 (read
+        there .2)))
 
     pub two-goes : (k : ℕ → ℕ → AfterStep) → twoOp (laid w h c) (headWith h c) k ≡ k (t .deeper) (t .upper)
     two-goes k =
         sym (two-go {b = false} (laid w h c) (headWith h c) k none-empty refl
-        (sym (ap (λ (v : Val). v .number) two-there ∙ read there .3)) (sym (ap (λ (v : Val). v .number) one-there ∙ read there .4)) refl)
+        (sym (ap (λ (v : Val). v .number) two-there ∙ read there .3)) (sym (ap (λ (v : Val). v .number) one-there ∙ read
+        there .4)) refl)

@@ -20,19 +20,27 @@ module _ (h : Head) (c : Cursor) (most : h .frames ≤ 8) where
   word-far : (w : List ℕ) (j x : ℕ) → 64 ≤ j → set (laid w h c) j x ≡ laid (set w j x) h c
   unfolding laid putTop headWith headAt
   word-far w j x far =
-      set-comm (set w (4 + 4 * h .frames + 1) (c .place)) (4 + 4 * h .frames + 2) j (c .pending) x (λ e. omega (arith, e, far, most))
-      ∙ ap (λ (l : List ℕ). set l (4 + 4 * h .frames + 2) (c .pending)) (set-comm w (4 + 4 * h .frames + 1) j (c .place) x (λ e. omega (arith, e, far, most)))
+      set-comm (set w (4 + 4 * h .frames + 1) (c .place)) (4 + 4 * h .frames + 2) j (c .pending) x (λ e. omega (
+        arith,
+        e,
+        far,
+        most,
+      ))
+      ∙ ap (λ (l : List ℕ). set l (4 + 4 * h .frames + 2) (c .pending)) (set-comm w (4 + 4 * h .frames + 1) j (c .place)
+      x (λ e. omega (arith, e, far, most)))
 
   got-far : (w : List ℕ) (j : ℕ) → 64 ≤ j → getD (laid w h c) j 0 ≡ getD w j 0
   unfolding laid putTop headWith headAt
   got-far w j far =
-      getD-set-other (set w (4 + 4 * h .frames + 1) (c .place)) (4 + 4 * h .frames + 2) j (c .pending) 0 (λ e. omega (arith, e, far, most))
+      getD-set-other (set w (4 + 4 * h .frames + 1) (c .place)) (4 + 4 * h .frames + 2) j (c .pending) 0 (λ e. omega
+      (arith, e, far, most))
       ∙ getD-set-other w (4 + 4 * h .frames + 1) j (c .place) 0 (λ e. omega (arith, e, far, most))
 
   -- a value
   pub put-far : (w : List ℕ) (i : ℕ) (v : Val) → 64 ≤ i → putValue (laid w h c) i v ≡ laid (putValue w i v) h c
   unfolding putValue
-  put-far w i v far = ap (λ (l : List ℕ). set l (i + 1) (v .number)) (word-far w i (v .tag) far) ∙ word-far (set w i (v .tag)) (i + 1) (v .number) (omega (arith, far))
+  put-far w i v far = ap (λ (l : List ℕ). set l (i + 1) (v .number)) (word-far w i (v .tag) far) ∙ word-far (set w i
+      (v .tag)) (i + 1) (v .number) (omega (arith, far))
 
   pub read-far : (w : List ℕ) (i : ℕ) → 64 ≤ i → valueAt (laid w h c) i ≡ valueAt w i
   unfolding valueAt
@@ -43,8 +51,10 @@ module _ (h : Head) (c : Cursor) (most : h .frames ≤ 8) where
   unfolding laid putTop headWith
   laid-again w r =
       ap (λ (l : List ℕ). set l (headAt (h .frames) + 2) (r .pending))
-      (set-comm (set w (headAt (h .frames) + 1) (c .place)) (headAt (h .frames) + 2) (headAt (h .frames) + 1) (c .pending) (r .place) (λ e. omega (arith, e))
-      ∙ ap (λ (l : List ℕ). set l (headAt (h .frames) + 2) (c .pending)) (set-set w (headAt (h .frames) + 1) (c .place) (r .place)))
+      (set-comm (set w (headAt (h .frames) + 1) (c .place)) (headAt (h .frames) + 2) (headAt (h .frames) + 1)
+      (c .pending) (r .place) (λ e. omega (arith, e))
+      ∙ ap (λ (l : List ℕ). set l (headAt (h .frames) + 2) (c .pending)) (set-set w (headAt (h .frames) + 1) (c .place)
+      (r .place)))
       ∙ set-set (set w (headAt (h .frames) + 1) (r .place)) (headAt (h .frames) + 2) (c .pending) (r .pending)
 
 -- heads
@@ -72,7 +82,8 @@ module _ (h : Head) (c : Cursor) where
     pending = mod-eq-of-lt {n = c .pending + 1} {m = 4294967296} (omega (arith, l)) k;
   }
 
-  pub head-popped : 1 ≤ c .pending → c .pending ≤ 8 → popped (headWith h c) ≡ headWith h (cursor (c .place) (c .pending - 1))
+  pub head-popped : 1 ≤ c .pending → c .pending ≤ 8 → popped (headWith h c) ≡ headWith h (cursor (c .place) (c .pending
+      - 1))
   unfolding popped headWith
   head-popped l m = λ k. record {
     status = h .status;
@@ -152,7 +163,8 @@ module _ {h : Head} {w : List ℕ} {c : Cursor} (s : Steady h w c) where
 
       front : (j : ℕ) → j < 4 → getD words j 0 ≡ getD w j 0
       front j l =
-          getD-set-other (set w (4 + 4 * h .frames + 1) (c .place)) (4 + 4 * h .frames + 2) j (c .pending) 0 (λ e. omega (arith, e, l))
+          getD-set-other (set w (4 + 4 * h .frames + 1) (c .place)) (4 + 4 * h .frames + 2) j (c .pending) 0 (λ e. omega
+          (arith, e, l))
           ∙ getD-set-other w (4 + 4 * h .frames + 1) j (c .place) 0 (λ e. omega (arith, e, l))
 
       frames-there : getD words 2 0 ≡ h .frames
@@ -160,12 +172,14 @@ module _ {h : Head} {w : List ℕ} {c : Cursor} (s : Steady h w c) where
 
       method-there : getD words (4 + 4 * h .frames) 0 ≡ getD w (4 + 4 * h .frames) 0
       method-there =
-          getD-set-other (set w (4 + 4 * h .frames + 1) (c .place)) (4 + 4 * h .frames + 2) (4 + 4 * h .frames) (c .pending) 0 (λ e. omega (arith, e))
+          getD-set-other (set w (4 + 4 * h .frames + 1) (c .place)) (4 + 4 * h .frames + 2) (4 + 4 * h .frames)
+          (c .pending) 0 (λ e. omega (arith, e))
           ∙ getD-set-other w (4 + 4 * h .frames + 1) (4 + 4 * h .frames) (c .place) 0 (λ e. omega (arith, e))
 
       place-there : getD words (4 + 4 * h .frames + 1) 0 ≡ c .place
       place-there =
-          getD-set-other (set w (4 + 4 * h .frames + 1) (c .place)) (4 + 4 * h .frames + 2) (4 + 4 * h .frames + 1) (c .pending) 0 (λ e. omega (arith, e))
+          getD-set-other (set w (4 + 4 * h .frames + 1) (c .place)) (4 + 4 * h .frames + 2) (4 + 4 * h .frames + 1)
+          (c .pending) 0 (λ e. omega (arith, e))
           ∙ getD-set-same w (4 + 4 * h .frames + 1) (c .place) 0 (omega (arith, s .long, s .most))
 
       pending-there : getD words (4 + 4 * h .frames + 2) 0 ≡ c .pending
@@ -174,7 +188,8 @@ module _ {h : Head} {w : List ℕ} {c : Cursor} (s : Steady h w c) where
           (omega (arith, s .long, s .most, length-set w (4 + 4 * h .frames + 1) (c .place)))
 
   -- nothing was done
-  pub halts : {d : AfterStep} {w′ : List ℕ} {r : Cursor} {I : ℕ → Type 0} → r ≡ haltedAt c → w′ ≡ w → Goes d I h w c w′ r
+  pub halts : {d : AfterStep} {w′ : List ℕ} {r : Cursor} {I : ℕ → Type 0} → r ≡ haltedAt c → w′ ≡ w → Goes d I h w c w′
+      r
   unfolding laid headWith
   halts {r = r} e q = record {
     going = λ z. absurd (true≢false (ap (λ (x : Cursor). x .halted) (sym e) ∙ z));
@@ -188,10 +203,12 @@ pub laid-first : (w : List ℕ) {h : Head} → h ≡ headOf w → laid w h (curs
 unfolding headOf laid putTop headWith
 laid-first w {h} e =
     ap (λ (g : Head). set (set w (headAt (g .frames) + 1) (g .place)) (headAt (g .frames) + 2) (g .pending)) e
-    ∙ ap (λ (l : List ℕ). set l (headAt (getD w 2 0) + 2) (getD w (headAt (getD w 2 0) + 2) 0)) (set-getD w (headAt (getD w 2 0) + 1) 0)
+    ∙ ap (λ (l : List ℕ). set l (headAt (getD w 2 0) + 2) (getD w (headAt (getD w 2 0) + 2) 0)) (set-getD w (headAt
+    (getD w 2 0) + 1) 0)
     ∙ set-getD w (headAt (getD w 2 0) + 2) 0
 
-pub steady-first : (w : List ℕ) {h : Head} → h ≡ headOf w → length w ≡ 512 → 1 ≤ h .frames → h .frames ≤ 8 → h .pending ≤ 8
+pub steady-first : (w : List ℕ) {h : Head} → h ≡ headOf w → length w ≡ 512 → 1 ≤ h .frames → h .frames ≤ 8 → h .pending
+    ≤ 8
     → Steady h w (cursor (h .place) (h .pending))
 unfolding headOf
 steady-first w {h} e long least most few = record {

@@ -27,12 +27,18 @@ module _ (h : Head) (w : List ℕ) (c : Cursor) where
   pub no-two : {x y : ℕ} → TwoRead w h c (record { there = false; deeper = x; upper = y })
   no-two z = absurd (true≢false (sym z))
 
-  top-there : (n : ℕ) {at : ℕ} → at ≡ 48 + 48 * h .frames + 2 * c .pending → valueAt w (topAt (headWith h c) n) ≡ valueAt w (at - 2 * n)
+  top-there : (n : ℕ) {at : ℕ} → at ≡ 48 + 48 * h .frames + 2 * c .pending → valueAt w (topAt (headWith h c) n) ≡
+      valueAt w (at - 2 * n)
   unfolding topAt headWith
   top-there n e = ap (λ (i : ℕ). valueAt w (i - 2 * n)) (sym e)
 
   pub top-read : 1 ≤ c .pending → {at : ℕ} → at ≡ 48 + 48 * h .frames + 2 * c .pending
-      → TopRead w h c (record { there = not (eqb (getD w (at - 2) 0) 0); tag = getD w (at - 2) 0; number = getD w (at - 2 + 1) 0 })
+      → TopRead w h c (record {
+        there = not (eqb (getD w (at - 2) 0) 0);
+        tag = getD w (at - 2) 0;
+        number = getD w (at -
+            2 + 1) 0;
+      })
   unfolding valueAt
   top-read m {at} e z = (m, full (getD w (at - 2) 0) z, top-there 1 e)
 
@@ -49,7 +55,8 @@ module _ (h : Head) (w : List ℕ) (c : Cursor) where
       let tests = both (not (eqb (getD w (at - 4) 0) 0)) (not (eqb (getD w (at - 4 + 2) 0) 0)) z in (
         m,
         (λ x. full (getD w (at - 4) 0) (tests .0) (sym (ap (λ (v : Val). v .tag) (top-there 2 e)) ∙ x)),
-        (λ x. full (getD w (at - 4 + 2) 0) (tests .1) (ap (λ (i : ℕ). getD w i 0) up ∙ sym (ap (λ (v : Val). v .tag) (top-there 1 e)) ∙ x)),
+        (λ x. full (getD w (at - 4 + 2) 0) (tests .1) (ap (λ (i : ℕ). getD w i 0) up ∙ sym (ap (λ (v : Val). v .tag)
+            (top-there 1 e)) ∙ x)),
         ap (λ (v : Val). v .number) (top-there 2 e),
         ap (λ (v : Val). v .number) (top-there 1 e) ∙ sym (ap (λ (i : ℕ). getD w i 0) up′),
       )

@@ -27,7 +27,8 @@ op-listed n p m a t = go (ltb n 24) refl
   where
     go : (b : Bool) → ltb n 24 ≡ b → n < 24
     go true e = ltb-true n 24 e
-    go false e = absurd (subst (λ o. T (o .argument p m a)) {x = opOf n} {y = unlisted} (List·getD-eq-default ops unlisted (ltb-false n 24 e)) t)
+    go false e = absurd (subst (λ o. T (o .argument p m a)) {x = opOf n} {y = unlisted} (List·getD-eq-default ops
+        unlisted (ltb-false n 24 e)) t)
 
 -- the slots that GET, PUT and CLEAR name
 slot-listed : (p : List ℕ) (m a : ℕ) (u : Bool) → T (ltb a 16 && u) → a < 16
@@ -42,7 +43,8 @@ module _ {p : List ℕ} (k : Kept p) {m i : ℕ} (h : Inside p m i) where
   words-there e = omega (arith, e, inside-bound p k h, k .sizes .words)
 
   allowed : T (opOf (opAt p i) .argument p m (argAt p i))
-  allowed = subst (λ (n : ℕ). T (opThere p i .argument p n (argAt p i))) (inside-owner p k h) (k .argument i (inside-bound p k h))
+  allowed = subst (λ (n : ℕ). T (opThere p i .argument p n (argAt p i))) (inside-owner p k h) (k .argument i
+      (inside-bound p k h))
 
   pub low-op : opAt p i < 24
   low-op = op-listed (opAt p i) p m (argAt p i) allowed
@@ -54,7 +56,8 @@ module _ {p : List ℕ} (k : Kept p) {m i : ℕ} (h : Inside p m i) where
       mod-eq-of-lt {n = word p (start + 2 * i)} {m = 32}
       (omega (arith, low-op, ap (λ (n : ℕ). word p (n + 2 * i)) e))
 
-  pub at-place : {start : ℕ} → start ≡ 2 + 20 * methods p → At p m i (word p (start + 2 * i) % 32) (word p (start + 2 * i + 1))
+  pub at-place : {start : ℕ} → start ≡ 2 + 20 * methods p → At p m i (word p (start + 2 * i) % 32) (word p (start + 2 *
+      i + 1))
   unfolding opAt argAt
   at-place {start} e = record {
     inside = h;
@@ -75,10 +78,12 @@ module _ {p : List ℕ} (k : Kept p) {m i op a : ℕ} (t : At p m i op a) where
       (inside-next p k (t .inside) (ap (λ (o : ℕ). opOf o .closes) (t .is-op ∙ e) ∙ closes-op n ∙ q))
 
   -- a jump leads to its target
-  pub lands-inside : (n : ℕ) → op ≡ n → T (eqb n 17 || eqb n 18) → {offset : ℕ} → offset ≡ offsetOf p m → (x : ℕ) → x ≡ offset + a → Inside p m x
+  pub lands-inside : (n : ℕ) → op ≡ n → T (eqb n 17 || eqb n 18) → {offset : ℕ} → offset ≡ offsetOf p m → (x : ℕ) → x ≡
+      offset + a → Inside p m x
   lands-inside n e q {offset} o x z =
       subst (Inside p m) (sym (z ∙ ap (λ (y : ℕ). y + a) o ∙ ap (λ (y : ℕ). offsetOf p m + y) (sym (t .is-argument))))
-      (inside-target p k (t .inside) (subst (λ (y : ℕ). y < lengthOf p m) (sym (t .is-argument)) (jumps-inside op p m a jumps (passed _ there))))
+      (inside-target p k (t .inside) (subst (λ (y : ℕ). y < lengthOf p m) (sym (t .is-argument)) (jumps-inside op p m a
+      jumps (passed _ there))))
     where
       jumps : T (opOf op .jumps)
       jumps = subst (λ (b : Bool). T b) (sym (ap (λ (y : ℕ). opOf y .jumps) e ∙ jumps-op n)) q
@@ -98,6 +103,13 @@ module _ {p : List ℕ} (k : Kept p) {m i op a : ℕ} (t : At p m i op a) where
   unfolding ops-opened
   slot-of-clear e = slot-of 6 e _ refl
 
+  -- CALL names a method
+  pub method-of-call : op ≡ 12 → a < methods p
+  unfolding ops-opened
+  method-of-call e =
+      ltb-true a (methods p) (passed (ltb a (methods p)) (subst (λ (b : Bool). T b) (ap (λ (y : ℕ). opOf y .argument p m
+      a) e) there))
+
 -- a method's two words, and the places between them
 module _ {p : List ℕ} (k : Kept p) {m : ℕ} (l : m < getD p 0 0) where
   a-method : m < methods p
@@ -110,7 +122,27 @@ module _ {p : List ℕ} (k : Kept p) {m : ℕ} (l : m < getD p 0 0) where
   pub span-inside : (i : ℕ) → getD p (2 + 2 * m) 0 ≤ i → i < getD p (2 + 2 * m) 0 + getD p (2 + 2 * m + 1) 0
       → (getD p (2 + 2 * m) 0 ≡ offsetOf p m) × Inside p m i
   unfolding word offsetOf lengthOf endOf
-  span-inside i from end = (refl, record { method = a-method; from-offset = from; ahead = omega (arith, end, length-there) })
+  span-inside i from end = (
+    refl,
+    record {
+      method = a-method;
+      from-offset = from;
+      ahead = omega (
+        arith,
+        end,
+        length-there,
+      );
+    },
+  )
     where
       length-there : getD p (2 + 2 * m + 1) 0 ≡ getD p (3 + 2 * m) 0
       length-there = ap (λ (j : ℕ). getD p j 0) {x = 2 + 2 * m + 1} {y = 3 + 2 * m} (omega arith)
+
+-- a method of the table: its two words and the first two of its row
+module _ {p : List ℕ} (k : Kept p) {m : ℕ} (l : m < methods p) where
+  pub pair-there : 3 + 2 * m < length p
+  pair-there = omega (arith, l, k .sizes .words)
+
+  pub row-words : 2 + 2 * getD p 0 0 + 18 * m + 1 < length p
+  unfolding methods word
+  row-words = omega (arith, l, k .sizes .words)

@@ -50,11 +50,17 @@ pub record Steady (h : Head) (w : List ℕ) (c : Cursor) : Type 0 where
   pub method : getD w (headAt (h .frames)) 0 ≡ h .method
 
 -- what d says of the words with the cursor put back was done, and the cursor has come to a place of I; or nothing was done
-pub record Goes (d : AfterStep) (I : ℕ → Type 0) (h : Head) (w : List ℕ) (c : Cursor) (w′ : List ℕ) (r : Cursor) : Type 0 where
+pub record Goes (d : AfterStep) (I : ℕ → Type 0) (h : Head) (w : List ℕ) (c : Cursor) (w′ : List ℕ) (r : Cursor) : Type
+    0 where
   pub going : r .halted ≡ false → d ≡ afterStep WentOn (laid w′ h r)
   pub halting : r .halted ≡ true → laid w′ h r ≡ laid w h c
   pub onward : r .halted ≡ false → I (r .place)
   pub steady : Steady h w′ r
+
+-- an op on the words as they are was done, or nothing was
+pub record Does (r : Bool) (d : AfterStep) (w w′ : List ℕ) : Type 0 where
+  pub done : r ≡ true → d ≡ afterStep WentOn w′
+  pub left : r ≡ false → w′ ≡ w
 
 -- one place, and one of two
 abbrev pub Only : ℕ → ℕ → Type 0
@@ -71,16 +77,27 @@ pub record At (p : List ℕ) (m i op a : ℕ) : Type 0 where
 
 -- the top value was read, and is not emptied; likewise the two topmost
 abbrev pub TopRead : List ℕ → Head → Cursor → Top → Type 0
-TopRead w h c t = t .there ≡ true → (1 ≤ c .pending) × (t .tag ≡ 0 → ⊥) × (valueAt w (topAt (headWith h c) 1) ≡ record { tag = t .tag; number = t .number })
+TopRead w h c t = t .there ≡ true → (1 ≤ c .pending) × (t .tag ≡ 0 → ⊥) × (valueAt w (topAt (headWith h c) 1) ≡ record {
+  tag = t .tag;
+  number = t .number;
+})
 
 abbrev pub TwoRead : List ℕ → Head → Cursor → Two → Type 0
 TwoRead w h c t =
     t .there ≡ true
-    → (2 ≤ c .pending) × (valueAt w (topAt (headWith h c) 2) .tag ≡ 0 → ⊥) × (valueAt w (topAt (headWith h c) 1) .tag ≡ 0 → ⊥)
+    → (2 ≤ c .pending) × (valueAt w (topAt (headWith h c) 2) .tag ≡ 0 → ⊥) × (valueAt w (topAt (headWith h c) 1) .tag ≡
+    0 → ⊥)
     × (valueAt w (topAt (headWith h c) 2) .number ≡ t .deeper) × (valueAt w (topAt (headWith h c) 1) .number ≡ t .upper)
+
+-- entry k names process n, whose top frame stands at place i of method m
+pub record Halts (p schedule : List ℕ) (n m k i : ℕ) : Type 0 where
+  pub ahead : k < length schedule
+  pub names : getD schedule k 0 ≡ n
+  pub inside : Inside p m i
 
 -- the entries from `from` on up to the last index all name process n, and its words w₀ come to the last ones by plain steps
 pub data Ran (p schedule : List ℕ) (n from : ℕ) (w₀ : List ℕ) : ℕ → List ℕ → Type 0 where
   begins : Ran p schedule n from w₀ from w₀
-  goes-on : {k : ℕ} {w w′ : List ℕ} → Ran p schedule n from w₀ k w → k < length schedule → getD schedule k 0 ≡ n → length w ≡ 512 → length w′ ≡ 512
+  goes-on : {k : ℕ} {w w′ : List ℕ} → Ran p schedule n from w₀ k w → k < length schedule → getD schedule k 0 ≡ n →
+      length w ≡ 512 → length w′ ≡ 512
       → stepOp p w ≡ afterStep WentOn w′ → Ran p schedule n from w₀ (k + 1) w′

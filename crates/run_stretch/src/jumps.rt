@@ -11,7 +11,8 @@ use run_store::head::Head;
 
 pub fn jump(p: &[u16], w: &mut [u32], h: Head, c: Cursor, offset: u32, a: u16) -> Cursor
     requires { ⌜ Steady h (now w) c × (offset ≡ offsetOf (now p) (h .method)) × (offset < 65536) ⌝ }
-    ensures { λ r. ⌜ Goes (jumpOp (now (p .entry)) (laid (now (w .entry)) h c) (headWith h c) a) (Only (offset + a)) h (now (w .entry)) c (now (w .exit)) r ⌝ }
+    ensures { λ r. ⌜ Goes (jumpOp (now (p .entry)) (laid (now (w .entry)) h c) (headWith h c) a) (Only (offset + a)) h
+        (now (w .entry)) c (now (w .exit)) r ⌝ }
 {
     Cursor {
         place: offset + a as u32,
@@ -22,7 +23,8 @@ pub fn jump(p: &[u16], w: &mut [u32], h: Head, c: Cursor, offset: u32, a: u16) -
 
 pub fn jump_on_false(p: &[u16], w: &mut [u32], h: Head, c: Cursor, offset: u32, a: u16) -> Cursor
     requires { ⌜ Steady h (now w) c × (c .place < 65536) × (offset ≡ offsetOf (now p) (h .method)) × (offset < 65536) ⌝ }
-    ensures { λ r. ⌜ Goes (jfalseOp (now (p .entry)) (laid (now (w .entry)) h c) (headWith h c) a) (OneOf (offset + a) (c .place + 1)) h (now (w .entry)) c (now (w .exit)) r ⌝ }
+    ensures { λ r. ⌜ Goes (jfalseOp (now (p .entry)) (laid (now (w .entry)) h c) (headWith h c) a) (OneOf (offset + a)
+        (c .place + 1)) h (now (w .entry)) c (now (w .exit)) r ⌝ }
 {
     let t = read_top(w, h, c);
     if !t.there {

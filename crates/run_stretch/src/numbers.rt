@@ -15,7 +15,8 @@ use run_values::numbers::flag;
 // The int whose number, moved up by 2^32, is s, in place of two operands.
 pub fn result(w: &mut [u32], h: Head, c: Cursor, s: u64) -> Cursor
     requires { ⌜ Steady h (now w) c × (c .place < 65536) × (2 ≤ c .pending) ⌝ }
-    ensures { λ r. ⌜ Goes (resultOp (laid (now (w .entry)) h c) (headWith h c) s) (Only (c .place + 1)) h (now (w .entry)) c (now (w .exit)) r ⌝ }
+    ensures { λ r. ⌜ Goes (resultOp (laid (now (w .entry)) h c) (headWith h c) s) (Only (c .place + 1)) h (now
+        (w .entry)) c (now (w .exit)) r ⌝ }
 {
     if s < 2147483648 {
         return c.halt();
@@ -28,7 +29,8 @@ pub fn result(w: &mut [u32], h: Head, c: Cursor, s: u64) -> Cursor
 
 pub fn add(w: &mut [u32], h: Head, c: Cursor) -> Cursor
     requires { ⌜ Steady h (now w) c × (c .place < 65536) ⌝ }
-    ensures { λ r. ⌜ Goes (addOp (laid (now (w .entry)) h c) (headWith h c)) (Only (c .place + 1)) h (now (w .entry)) c (now (w .exit)) r ⌝ }
+    ensures { λ r. ⌜ Goes (addOp (laid (now (w .entry)) h c) (headWith h c)) (Only (c .place + 1)) h (now (w .entry)) c
+        (now (w .exit)) r ⌝ }
 {
     let t = read_two(w, h, c);
     if !t.there {
@@ -39,7 +41,8 @@ pub fn add(w: &mut [u32], h: Head, c: Cursor) -> Cursor
 
 pub fn sub(w: &mut [u32], h: Head, c: Cursor) -> Cursor
     requires { ⌜ Steady h (now w) c × (c .place < 65536) ⌝ }
-    ensures { λ r. ⌜ Goes (subOp (laid (now (w .entry)) h c) (headWith h c)) (Only (c .place + 1)) h (now (w .entry)) c (now (w .exit)) r ⌝ }
+    ensures { λ r. ⌜ Goes (subOp (laid (now (w .entry)) h c) (headWith h c)) (Only (c .place + 1)) h (now (w .entry)) c
+        (now (w .exit)) r ⌝ }
 {
     let t = read_two(w, h, c);
     if !t.there {
@@ -50,7 +53,8 @@ pub fn sub(w: &mut [u32], h: Head, c: Cursor) -> Cursor
 
 pub fn eq(w: &mut [u32], h: Head, c: Cursor) -> Cursor
     requires { ⌜ Steady h (now w) c × (c .place < 65536) ⌝ }
-    ensures { λ r. ⌜ Goes (eqOp (laid (now (w .entry)) h c) (headWith h c)) (Only (c .place + 1)) h (now (w .entry)) c (now (w .exit)) r ⌝ }
+    ensures { λ r. ⌜ Goes (eqOp (laid (now (w .entry)) h c) (headWith h c)) (Only (c .place + 1)) h (now (w .entry)) c
+        (now (w .exit)) r ⌝ }
 {
     let t = read_two(w, h, c);
     if !t.there {
@@ -62,7 +66,8 @@ pub fn eq(w: &mut [u32], h: Head, c: Cursor) -> Cursor
 
 pub fn less(w: &mut [u32], h: Head, c: Cursor) -> Cursor
     requires { ⌜ Steady h (now w) c × (c .place < 65536) ⌝ }
-    ensures { λ r. ⌜ Goes (lessOp (laid (now (w .entry)) h c) (headWith h c)) (Only (c .place + 1)) h (now (w .entry)) c (now (w .exit)) r ⌝ }
+    ensures { λ r. ⌜ Goes (lessOp (laid (now (w .entry)) h c) (headWith h c)) (Only (c .place + 1)) h (now (w .entry)) c
+        (now (w .exit)) r ⌝ }
 {
     let t = read_two(w, h, c);
     if !t.there {
@@ -74,7 +79,8 @@ pub fn less(w: &mut [u32], h: Head, c: Cursor) -> Cursor
 
 pub fn not(w: &mut [u32], h: Head, c: Cursor) -> Cursor
     requires { ⌜ Steady h (now w) c × (c .place < 65536) ⌝ }
-    ensures { λ r. ⌜ Goes (notOp (laid (now (w .entry)) h c) (headWith h c)) (Only (c .place + 1)) h (now (w .entry)) c (now (w .exit)) r ⌝ }
+    ensures { λ r. ⌜ Goes (notOp (laid (now (w .entry)) h c) (headWith h c)) (Only (c .place + 1)) h (now (w .entry)) c
+        (now (w .exit)) r ⌝ }
 {
     let t = read_top(w, h, c);
     if !t.there {

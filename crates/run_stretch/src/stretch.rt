@@ -1,23 +1,29 @@
 // Entries one after the other, as long as they name one process and are done here.
 ghost use mathlib.Core.Path.{_≡_};
+ghost use mathlib.Core.Bool.{true};
 ghost use Prim.Native.Nat.{ℕ, _+_, _*_, _-_, _<_, _≤_};
 ghost use lib.ListN.{length};
 ghost use Rattle.table.specs.Table.{methods, offsetOf};
 ghost use Rattle.table.proofs.Accepted.{Kept};
 ghost use Rattle.table.proofs.Owners.{Inside};
+ghost use Rattle.run_store.specs.StoreCode.{headOf, putTop};
+ghost use Rattle.run_ops.specs.OpsCode.{stepOp};
 ghost use Rattle.run_parts.specs.PartsCode.{partOf, withPart};
-ghost use Rattle.run_stretch.specs.StretchCode.{laid, cursor, Steady, Ran};
+ghost use Rattle.run_stretch.specs.StretchCode.{laid, cursor, Steady, Does, Halts, Ran};
 use super::cursor::Cursor;
+use super::frames::call;
+use super::frames::head_of;
+use super::frames::ret;
 use super::turn::step_on;
 use run_store::head::Head;
 use run_store::head::put_top;
-use run_store::head::read_head;
 
-// The first entry that is not done, and where the top frame stands.
+// The first entry that is not done, and where the top frame stands; halted where that entry names the process.
 pub struct Reached {
     pub at: usize,
     pub place: u32,
     pub pending: u32,
+    pub halted: bool,
 }
 
 // The entries of the top frame, up to one that names another process or is not done here.
@@ -33,9 +39,12 @@ fn run_frame(
     c: Cursor,
 ) -> Reached
     requires { ⌜ Steady h (now w) c × (h .status ≡ 1) × (offset ≡ offsetOf (now p) (h .method)) × (offset < 65536)
-        × (start ≡ 2 + 20 * methods (now p)) × Kept (now p) × Inside (now p) (h .method) (c .place) × (from ≤ length (now schedule)) ⌝ }
-    ensures { λ r. ⌜ Ran (now (p .entry)) (now (schedule .entry)) n from (laid (now (w .entry)) h c) (r .at) (laid (now (w .exit)) h (cursor (r .place) (r .pending)))
-        × Steady h (now (w .exit)) (cursor (r .place) (r .pending)) × (r .at ≤ length (now (schedule .entry))) ⌝ }
+        × (start ≡ 2 + 20 * methods (now p)) × Kept (now p) × Inside (now p) (h .method) (c .place) × (from ≤ length
+        (now schedule)) ⌝ }
+    ensures { λ r. ⌜ Ran (now (p .entry)) (now (schedule .entry)) n from (laid (now (w .entry)) h c) (r .at) (laid (now
+        (w .exit)) h (cursor (r .place) (r .pending)))
+        × Steady h (now (w .exit)) (cursor (r .place) (r .pending)) × (r .at ≤ length (now (schedule .entry)))
+        × (r .halted ≡ true → Halts (now (p .entry)) (now (schedule .entry)) n (h .method) (r .at) (r .place)) ⌝ }
 {
     let mut k = from;
     let mut s = c;
@@ -45,6 +54,7 @@ fn run_frame(
                 at: k,
                 place: s.place,
                 pending: s.pending,
+                halted: false,
             };
         }
         let d = step_on(p, start, w, h, s, offset);
@@ -53,6 +63,7 @@ fn run_frame(
                 at: k,
                 place: d.place,
                 pending: d.pending,
+                halted: true,
             };
         }
         s = d;
@@ -62,6 +73,7 @@ fn run_frame(
         at: k,
         place: s.place,
         pending: s.pending,
+        halted: false,
     }
 }
 
@@ -73,7 +85,8 @@ struct Span {
 
 fn span_of(p: &[u16], m: u32) -> Span
     requires { ⌜ Kept (now p) ⌝ }
-    ensures { λ r. ⌜ (r .first < 65536) × ((i : ℕ) → r .first ≤ i → i < r .end → (r .first ≡ offsetOf (now (p .entry)) m) × Inside (now (p .entry)) m i) ⌝ }
+    ensures { λ r. ⌜ (r .first < 65536) × ((i : ℕ) → r .first ≤ i → i < r .end → (r .first ≡ offsetOf (now (p .entry))
+        m) × Inside (now (p .entry)) m i) ⌝ }
 {
     if p[0] as u32 <= m {
         return Span { first: 0, end: 0 };
@@ -86,40 +99,128 @@ fn span_of(p: &[u16], m: u32) -> Span
     }
 }
 
-// The same from the words of the process on, and back to them.
-fn run_top(p: &[u16], start: usize, w: &mut [u32], schedule: &[u8], from: usize, n: u8) -> usize
-    requires { ⌜ (start ≡ 2 + 20 * methods (now p)) × Kept (now p) × (from ≤ length (now schedule)) × (length (now w) ≡ 512) ⌝ }
-    ensures { λ r. ⌜ Ran (now (p .entry)) (now (schedule .entry)) n from (now (w .entry)) r (now (w .exit)) × (r ≤ length (now (schedule .entry))) ⌝ }
+// The head put back, and then CALL or RET: whether it was done. The op is read before anything is written, so that what
+// the loop has found out about it is still known, and an op of neither kind costs nothing here.
+fn change_frame(p: &[u16], start: usize, w: &mut [u32], h: Head) -> bool
+    requires { ⌜ (length (now w) ≡ 512) × (h .frames ≤ 8) × (h .pending ≤ 8) × (h .status ≡ 1) × (start ≡ 2 + 20 *
+        methods (now p))
+        × Kept (now p) × Inside (now p) (h .method) (h .place) × (headOf (putTop (now w) h) ≡ h) ⌝ }
+    ensures { λ r. ⌜ Does r (stepOp (now (p .entry)) (putTop (now (w .entry)) h)) (putTop (now (w .entry)) h) (now
+        (w .exit)) ⌝ }
 {
-    let h = read_head(w);
-    if h.status != 1 {
-        return from;
+    let at = start + 2 * (h.place as usize);
+    let op = p[at] % 32;
+    let a = p[at + 1];
+    put_top(w, h);
+    if op == 12 {
+        return call(p, w, h, a);
     }
-    if (h.frames < 1) | (8 < h.frames) | (8 < h.pending) {
-        return from;
+    if op == 13 {
+        return ret(p, w, h);
     }
-    let s = span_of(p, h.method);
-    if (h.place < s.first) | (s.end <= h.place) {
-        return from;
-    }
+    false
+}
+
+// The first entry that is not done, and whether a frame was opened or closed just before it.
+struct NextEntry {
+    at: usize,
+    changed: bool,
+}
+
+// The entries of the top frame, its head h, with the CALL or RET that ends them; `first` is where its method starts.
+fn run_head(
+    p: &[u16],
+    start: usize,
+    w: &mut [u32],
+    h: Head,
+    first: u32,
+    schedule: &[u8],
+    from: usize,
+    n: u8,
+) -> NextEntry
+    requires { ⌜ Steady h (now w) (cursor (h .place) (h .pending)) × (h ≡ headOf (now w)) × (h .status ≡ 1) × (first ≡
+        offsetOf (now p) (h .method)) × (first < 65536)
+        × (start ≡ 2 + 20 * methods (now p)) × Kept (now p) × Inside (now p) (h .method) (h .place) × (from ≤ length
+        (now schedule)) ⌝ }
+    ensures { λ r. ⌜ Ran (now (p .entry)) (now (schedule .entry)) n from (now (w .entry)) (r .at) (now (w .exit)) ×
+        (r .at ≤ length (now (schedule .entry)))
+        × (r .changed ≡ true → from < r .at) ⌝ }
+{
     let c = Cursor {
         place: h.place,
         pending: h.pending,
         halted: false,
     };
-    let r = run_frame(p, start, w, h, s.first, schedule, from, n, c);
-    put_top(
-        w,
-        Head {
-            status: h.status,
-            fault: h.fault,
-            frames: h.frames,
-            method: h.method,
-            place: r.place,
-            pending: r.pending,
-        },
-    );
-    r.at
+    let r = run_frame(p, start, w, h, first, schedule, from, n, c);
+    let g = Head {
+        status: h.status,
+        fault: h.fault,
+        frames: h.frames,
+        method: h.method,
+        place: r.place,
+        pending: r.pending,
+    };
+    if !r.halted {
+        put_top(w, g);
+        return NextEntry {
+            at: r.at,
+            changed: false,
+        };
+    }
+    if change_frame(p, start, w, g) {
+        return NextEntry {
+            at: r.at + 1,
+            changed: true,
+        };
+    }
+    NextEntry {
+        at: r.at,
+        changed: false,
+    }
+}
+
+// The same from the words of the process on, and back to them.
+fn run_top(p: &[u16], start: usize, w: &mut [u32], schedule: &[u8], from: usize, n: u8) -> NextEntry
+    requires { ⌜ (start ≡ 2 + 20 * methods (now p)) × Kept (now p) × (from ≤ length (now schedule)) × (length (now w) ≡
+        512) ⌝ }
+    ensures { λ r. ⌜ Ran (now (p .entry)) (now (schedule .entry)) n from (now (w .entry)) (r .at) (now (w .exit)) ×
+        (r .at ≤ length (now (schedule .entry)))
+        × (r .changed ≡ true → from < r .at) ⌝ }
+{
+    let none = NextEntry {
+        at: from,
+        changed: false,
+    };
+    let frames = w[2];
+    if (frames < 1) | (8 < frames) {
+        return none;
+    }
+    let h = head_of(w);
+    if (h.status != 1) | (8 < h.pending) {
+        return none;
+    }
+    let s = span_of(p, h.method);
+    if (h.place < s.first) | (s.end <= h.place) {
+        return none;
+    }
+    run_head(p, start, w, h, s.first, schedule, from, n)
+}
+
+// One frame after the other, as long as CALL and RET lead to the next.
+fn run_frames(p: &[u16], start: usize, w: &mut [u32], schedule: &[u8], from: usize, n: u8) -> usize
+    requires { ⌜ (start ≡ 2 + 20 * methods (now p)) × Kept (now p) × (from ≤ length (now schedule)) × (length (now w) ≡
+        512) ⌝ }
+    ensures { λ r. ⌜ Ran (now (p .entry)) (now (schedule .entry)) n from (now (w .entry)) r (now (w .exit)) × (r ≤
+        length (now (schedule .entry))) ⌝ }
+{
+    let mut k = from;
+    loop {
+        let r = run_top(p, start, w, schedule, k, n);
+        if !r.changed {
+            return r.at;
+        }
+        k = r.at;
+    }
 }
 
 // The entries of process n from `from` on; the answer is the first that is not done.
@@ -131,11 +232,14 @@ pub fn stretch(
     from: usize,
     n: u8,
 ) -> usize
-    requires { ⌜ (start ≡ 2 + 20 * methods (now p)) × (8192 ≤ length (now work)) × (from ≤ length (now schedule)) × (n < 8) × Kept (now p) ⌝ }
-    ensures { λ r. ⌜ Ran (now (p .entry)) (now (schedule .entry)) n from (partOf (now (work .entry)) n) r (partOf (now (work .exit)) n)
-        × (now (work .exit) ≡ withPart (now (work .entry)) n (partOf (now (work .exit)) n)) × (r ≤ length (now (schedule .entry))) ⌝ }
+    requires { ⌜ (start ≡ 2 + 20 * methods (now p)) × (8192 ≤ length (now work)) × (from ≤ length (now schedule)) × (n <
+        8) × Kept (now p) ⌝ }
+    ensures { λ r. ⌜ Ran (now (p .entry)) (now (schedule .entry)) n from (partOf (now (work .entry)) n) r (partOf (now
+        (work .exit)) n)
+        × (now (work .exit) ≡ withPart (now (work .entry)) n (partOf (now (work .exit)) n)) × (r ≤ length (now
+        (schedule .entry))) ⌝ }
 {
     let first = 512 + 512 * (n as usize);
     let end = first + 512;
-    run_top(p, start, &mut work[first..end], schedule, from, n)
+    run_frames(p, start, &mut work[first..end], schedule, from, n)
 }

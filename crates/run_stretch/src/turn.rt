@@ -28,7 +28,8 @@ use run_values::moves::extend;
 pub fn act(p: &[u16], w: &mut [u32], h: Head, c: Cursor, offset: u32, op: usize, a: u16) -> Cursor
     requires { ⌜ Steady h (now w) c × (c .place < 65536) × (offset ≡ offsetOf (now p) (h .method)) × (offset < 65536)
         × Kept (now p) × At (now p) (h .method) (c .place) op a ⌝ }
-    ensures { λ r. ⌜ Goes (actOp (now (p .entry)) (laid (now (w .entry)) h c) (headWith h c) op a) (Inside (now (p .entry)) (h .method)) h (now (w .entry)) c (now (w .exit)) r ⌝ }
+    ensures { λ r. ⌜ Goes (actOp (now (p .entry)) (laid (now (w .entry)) h c) (headWith h c) op a) (Inside (now
+        (p .entry)) (h .method)) h (now (w .entry)) c (now (w .exit)) r ⌝ }
 {
     match op {
         0 => c.halt(),
@@ -70,7 +71,8 @@ pub fn act(p: &[u16], w: &mut [u32], h: Head, c: Cursor, offset: u32, op: usize,
 pub fn step_on(p: &[u16], start: usize, w: &mut [u32], h: Head, c: Cursor, offset: u32) -> Cursor
     requires { ⌜ Steady h (now w) c × (h .status ≡ 1) × (offset ≡ offsetOf (now p) (h .method)) × (offset < 65536)
         × (start ≡ 2 + 20 * methods (now p)) × Kept (now p) × Inside (now p) (h .method) (c .place) ⌝ }
-    ensures { λ r. ⌜ Goes (stepOp (now (p .entry)) (laid (now (w .entry)) h c)) (Inside (now (p .entry)) (h .method)) h (now (w .entry)) c (now (w .exit)) r ⌝ }
+    ensures { λ r. ⌜ Goes (stepOp (now (p .entry)) (laid (now (w .entry)) h c)) (Inside (now (p .entry)) (h .method)) h
+        (now (w .entry)) c (now (w .exit)) r ⌝ }
 {
     let at = start + 2 * (c.place as usize);
     let op = (p[at] % 32) as usize;

@@ -49,7 +49,7 @@ is-running FrameBeyond8 k = refl
 is-running OutOfRange k = refl
 
 abbrev butSend : List ℕ
-butSend = 0 ∷ 1 ∷ 2 ∷ 3 ∷ 4 ∷ 5 ∷ 6 ∷ 7 ∷ 9 ∷ 10 ∷ 11 ∷ 12 ∷ []
+butSend = 0 ∷ 1 ∷ 3 ∷ 4 ∷ 5 ∷ 6 ∷ 7 ∷ 8 ∷ 9 ∷ 10 ∷ 11 ∷ 12 ∷ []
 
 pub no-send : (r : StepResult) → OneOf butSend (tagOf the-type r) → false ≡ isSend r
 unfolding isSend
@@ -61,14 +61,14 @@ no-send AtGate k = refl
 no-send AtMeas k = refl
 no-send AtLastRet k = refl
 no-send AtFork k = refl
-no-send AtSend k = absurd (miss butSend 8 tt k)
+no-send AtSend k = absurd (miss butSend 2 tt k)
 no-send AtRecv k = refl
 no-send Empty k = refl
 no-send FrameBeyond8 k = refl
 no-send OutOfRange k = refl
 
 abbrev butOffers : List ℕ
-butOffers = 0 ∷ 1 ∷ 2 ∷ 3 ∷ 4 ∷ 5 ∷ 6 ∷ 7 ∷ 10 ∷ 11 ∷ 12 ∷ []
+butOffers = 0 ∷ 1 ∷ 4 ∷ 5 ∷ 6 ∷ 7 ∷ 8 ∷ 9 ∷ 10 ∷ 11 ∷ 12 ∷ []
 
 pub no-offer : (r : StepResult) → OneOf butOffers (tagOf the-type r) → false ≡ isOffer r
 unfolding isOffer
@@ -80,8 +80,8 @@ no-offer AtGate k = refl
 no-offer AtMeas k = refl
 no-offer AtLastRet k = refl
 no-offer AtFork k = refl
-no-offer AtSend k = absurd (miss butOffers 8 tt k)
-no-offer AtRecv k = absurd (miss butOffers 9 tt k)
+no-offer AtSend k = absurd (miss butOffers 2 tt k)
+no-offer AtRecv k = absurd (miss butOffers 3 tt k)
 no-offer Empty k = refl
 no-offer FrameBeyond8 k = refl
 no-offer OutOfRange k = refl

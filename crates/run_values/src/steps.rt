@@ -5,18 +5,19 @@ ghost use Rattle.run_values.specs.ValuesCode.{wentOn, notRunning, isSend
 // The process went on; it does not run; or it is left to the run, as it was: it stands at an op that writes a line, at
 // RET of the root frame, which finishes it, at FORK, SEND or RECV, or at a fault: "20 the slot read, or a value taken
 // .. is empty", "25 frame beyond 8", "26 int out of range". A case has no number of its own beside it: that would cost
-// four instructions in every step (docs/DECISIONS.md).
+// four instructions in every step, and the cases after which a process may wait come first: that saves two
+// (docs/DECISIONS.md).
 pub enum StepResult {
     WentOn,
     NotRunning,
+    AtSend,
+    AtRecv,
+    AtFork,
     AtNewQ,
     AtNewC,
     AtGate,
     AtMeas,
     AtLastRet,
-    AtFork,
-    AtSend,
-    AtRecv,
     Empty,
     FrameBeyond8,
     OutOfRange,

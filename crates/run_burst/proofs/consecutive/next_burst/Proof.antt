@@ -14,7 +14,9 @@ same-length : tie.Need-same-length
 same-length c = search needs
 
 returns : tie.Need-returns
-returns c = c .before .before .silent-entries .ensures ∙ sym (c .before .before .before .before .before .before .take-consecutive .ensures .0 .same (c .before .before .before .before .before .before .before .before .before .before .before .args .t .now))
+returns c = c .before .before .silent-entries .ensures ∙ sym
+    (c .before .before .before .before .before .before .take-consecutive .ensures .0 .same
+    (c .before .before .before .before .before .before .before .before .before .before .before .args .t .now))
 
 pub next-burst-spec : {M : Type 1} → statement M
 next-burst-spec =

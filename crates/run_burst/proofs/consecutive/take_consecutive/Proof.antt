@@ -17,7 +17,8 @@ returns-2 : tie.Need-returns-2
 returns-2 c = search needs
 
 shared-slice-read-n : tie.Need-shared-slice-read-n
-shared-slice-read-n c = c .before .before .names-again .ensures (not-false (c .before .before .names-again .result) (c .before .if2 .left))
+shared-slice-read-n c = c .before .before .names-again .ensures (not-false (c .before .before .names-again .result)
+    (c .before .if2 .left))
 
 returns-3 : tie.Need-returns-3
 returns-3 c = search needs

@@ -21,7 +21,9 @@ returns c =
     let work = c .before .before .before .before .before .before .before .args .work .now in
     let long = c .before .before .before .before .before .before .before .pre .1 in
     let ran = c .before .before .stretch .ensures .0 in (
-      taken (c .before .before .before .before .before .before .before .args .p .now) (c .before .before .before .before .before .before .before .args .schedule .now) work long 0 (omega arith) nothingKnown nothing-some ran (c .before .before .stretch .ensures .1),
+      taken (c .before .before .before .before .before .before .before .args .p .now)
+          (c .before .before .before .before .before .before .before .args .schedule .now) work long 0 (omega arith)
+          nothingKnown nothing-some ran (c .before .before .stretch .ensures .1),
       c .before .before .stretch .ensures .2,
       ap (drop 8256) (c .before .before .stretch .ensures .1)
           ∙ beyond-kept work long 0 (omega arith) (partOf _ 0) (reached-long (part-long work long 0 (omega arith)) ran),

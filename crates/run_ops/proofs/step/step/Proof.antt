@@ -1,4 +1,4 @@
--- `step` acts where the process runs.
+-- `step` acts where the process runs; its status is looked at first.
 use Rattle.lists.proofs.Tests.{passed-by}
 use Rattle.run_ops.proofs.Returns.{step-acts}
 use Rattle.run_ops.specs.OpsCode.{stepOp}
@@ -7,25 +7,25 @@ use Rattle.run_store.specs.StoreCode.{headOf}
 use Rattle.run_store.specs.declared.head.Head.{Head}
 use native.Mathlib.Omega.{arith}
 use borrow.Author.Tests.{ne-eqb}
-use mathlib.Core.Path.{_∙_, ap, refl}
+use mathlib.Core.Path.{_∙_, ap, refl, sym}
+use lib.ListN.{getD}
 use borrow.Author.Needs.{needs}
 use Rattle.run_ops.proofs.step.step.Statement.{statement}
 use Rattle.run_ops.proofs.step.step.Tie as tie
 
-read-head-requires : tie.Need-read-head-requires
-read-head-requires c κs = search needs
+get-requires : tie.Need-get-requires
+get-requires c κs = search needs
 
 same-length : tie.Need-same-length
 same-length c = search needs
 
 returns : tie.Need-returns
-unfolding stepOp
-returns c =
-    let at-read-head = c .before .before in
-    let args = at-read-head .before .before .before .before .args in
-    passed-by _ _ _ refl
-    (ne-eqb (headOf (args .w .now) .status) 1
-    (λ e. c .if1 .taken (ap (λ (h : Head). h .status) (at-read-head .read-head .ensures) ∙ e))) refl
+unfolding stepOp headOf
+returns c = passed-by _ _ _ refl (ne-eqb (getD (c .before .before .before .before .before .args .w .now) 0 0) 1
+    (λ e. c .if1 .taken (c .before .get .ensures ∙ e))) refl
+
+read-head-requires : tie.Need-read-head-requires
+read-head-requires c κs = search needs
 
 cast-read-instruction : tie.Need-cast-read-instruction
 cast-read-instruction c = search needs
@@ -35,17 +35,19 @@ mul-read-instruction c = search needs
 
 add-read-instruction : tie.Need-add-read-instruction
 unfolding methods word
-add-read-instruction c =
-    let at-shared-slice-known = c .before .before .before .before .before .before in
-    let at-pre = at-shared-slice-known .before in
-    omega (arith, at-pre .pre, at-shared-slice-known .shared-slice-known .given 0)
+add-read-instruction c = omega (
+  arith,
+  c .before .before .before .before .before .before .before .before .pre,
+  c .before .before .before .before .before .before .before .shared-slice-known .given 0,
+)
 
 read-instruction-requires : tie.Need-read-instruction-requires
 unfolding methods word
-read-instruction-requires c κs =
-    let at-shared-slice-known = c .before .before .before .before .before .before in
-    let at-pre = at-shared-slice-known .before in
-    omega (arith, at-pre .pre, at-shared-slice-known .shared-slice-known .given 0)
+read-instruction-requires c κs = omega (
+  arith,
+  c .before .before .before .before .before .before .before .before .pre,
+  c .before .before .before .before .before .before .before .shared-slice-known .given 0,
+)
 
 cast-act : tie.Need-cast-act
 cast-act c = search needs
@@ -57,23 +59,21 @@ same-length-2 : tie.Need-same-length-2
 same-length-2 c = search needs
 
 returns-2 : tie.Need-returns-2
+unfolding headOf
 returns-2 c =
-    let at-act = c .before .before in
-    let at-read-instruction = at-act .before .before .before in
-    let at-if1 = at-read-instruction .before .before in
-    let at-read-head = at-if1 .before .before in
-    let at-args = at-read-head .before .before .before .before in
-    step-acts (at-args .args .p .now) (at-args .args .w .now) (at-args .args .start) (at-read-head .read-head .ensures)
-    (at-if1 .if1 .left) (at-args .pre) (at-read-instruction .read-instruction .ensures .0)
-    (at-read-instruction .read-instruction .ensures .1) (at-act .act .ensures)
+    step-acts (c .before .before .before .before .before .before .before .before .before .before .before .before .before .before .args .p .now) (c .before .before .before .before .before .before .before .before .before .before .before .before .before .before .args .w .now) (c .before .before .before .before .before .before .before .before .before .before .before .before .before .before .args .start) (c .before .before .before .before .before .before .before .read-head .ensures)
+    (ap (λ (h : Head). h .status) (c .before .before .before .before .before .before .before .read-head .ensures) ∙ sym (c .before .before .before .before .before .before .before .before .before .before .get .ensures) ∙ c .before .before .before .before .before .before .before .before .before .if1 .left) (c .before .before .before .before .before .before .before .before .before .before .before .before .before .before .pre)
+    (c .before .before .before .before .before .read-instruction .ensures .0)
+    (c .before .before .before .before .before .read-instruction .ensures .1) (c .before .before .act .ensures)
 
 pub step-spec : {M : Type 1} → statement M
 step-spec =
     tie.close
     (tie.spec
-    read-head-requires
+    get-requires
     same-length
     returns
+    read-head-requires
     cast-read-instruction
     mul-read-instruction
     add-read-instruction

@@ -5,7 +5,8 @@ use Rattle.run_stretch.proofs.cursor.read_top.Statement.{statement}
 use Rattle.run_stretch.proofs.cursor.read_top.Tie as tie
 
 returns : tie.Need-returns
-returns c = no-top (c .before .before .before .args .h) (c .before .before .before .args .w .now) (c .before .before .before .args .c)
+returns c = no-top (c .before .before .before .args .h) (c .before .before .before .args .w .now)
+    (c .before .before .before .args .c)
 
 free-requires : tie.Need-free-requires
 free-requires c κs = search needs
@@ -29,7 +30,10 @@ shared-slice-read-t9 : tie.Need-shared-slice-read-t9
 shared-slice-read-t9 c = search needs
 
 returns-2 : tie.Need-returns-2
-returns-2 c = top-read (c .before .before .before .before .before .before .args .h) (c .before .before .before .before .before .before .args .w .now) (c .before .before .before .before .before .before .args .c) (c .before .before .before .if1 .left) (c .before .before .free .ensures)
+returns-2 c = top-read (c .before .before .before .before .before .before .args .h)
+    (c .before .before .before .before .before .before .args .w .now)
+    (c .before .before .before .before .before .before .args .c) (c .before .before .before .if1 .left)
+    (c .before .before .free .ensures)
 
 pub read-top-spec : {M : Type 1} → statement M
 read-top-spec =

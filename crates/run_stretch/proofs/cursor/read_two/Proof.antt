@@ -5,7 +5,8 @@ use Rattle.run_stretch.proofs.cursor.read_two.Statement.{statement}
 use Rattle.run_stretch.proofs.cursor.read_two.Tie as tie
 
 returns : tie.Need-returns
-returns c = no-two (c .before .before .before .args .h) (c .before .before .before .args .w .now) (c .before .before .before .args .c)
+returns c = no-two (c .before .before .before .args .h) (c .before .before .before .args .w .now)
+    (c .before .before .before .args .c)
 
 free-requires : tie.Need-free-requires
 free-requires c κs = search needs
@@ -47,7 +48,10 @@ shared-slice-read-t22 : tie.Need-shared-slice-read-t22
 shared-slice-read-t22 c = search needs
 
 returns-2 : tie.Need-returns-2
-returns-2 c = two-read (c .before .before .before .before .before .before .before .before .args .h) (c .before .before .before .before .before .before .before .before .args .w .now) (c .before .before .before .before .before .before .before .before .args .c) (c .before .before .before .before .before .if1 .left) (c .before .before .before .before .free .ensures)
+returns-2 c = two-read (c .before .before .before .before .before .before .before .before .args .h)
+    (c .before .before .before .before .before .before .before .before .args .w .now)
+    (c .before .before .before .before .before .before .before .before .args .c)
+    (c .before .before .before .before .before .if1 .left) (c .before .before .before .before .free .ensures)
 
 pub read-two-spec : {M : Type 1} → statement M
 read-two-spec =

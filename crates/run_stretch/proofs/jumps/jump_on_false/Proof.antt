@@ -25,19 +25,42 @@ add-discard-to : tie.Need-add-discard-to
 add-discard-to c = search needs
 
 discard-to-requires : tie.Need-discard-to-requires
-discard-to-requires c κs = (c .before .before .before .before .before .before .before .before .before .pre .0, top-some (c .before .before .before .before .before .before .before .before .before .pre .0) (c .before .before .before .before .before .read-top .result) (not-false (c .before .before .before .before .before .read-top .result .there) (c .before .before .before .if1 .left)) (c .before .before .before .before .before .read-top .ensures))
+discard-to-requires c κs = (
+  c .before .before .before .before .before .before .before .before .before .pre .0,
+  top-some
+      (c .before .before .before .before .before .before .before .before .before .pre .0)
+      (c .before .before .before .before .before .read-top .result) (not-false
+      (c .before .before .before .before .before .read-top .result .there) (c .before .before .before .if1 .left))
+      (c .before .before .before .before .before .read-top .ensures),
+)
 
 same-length-2 : tie.Need-same-length-2
 same-length-2 c = search needs
 
 returns-2 : tie.Need-returns-2
-returns-2 c = goes-in (false-jumps (c .before .before .before .before .before .before .before .before .before .before .before .before .pre .0) (c .before .before .before .before .before .before .before .before .read-top .result) (not-false (c .before .before .before .before .before .before .before .before .read-top .result .there) (c .before .before .before .before .before .before .if1 .left)) (c .before .before .before .before .before .before .before .before .read-top .ensures) (c .before .before .before .before .before .before .before .before .before .before .before .before .args .p .now) (c .before .before .before .before .before .before .before .before .before .before .before .before .args .a) (c .before .before .before .before .before .before .before .before .before .before .before .before .pre .2) (c .before .before .before .before .if2 .taken)) (λ x e. inl e) (c .before .before .discard-to .ensures)
+returns-2 c = goes-in (false-jumps
+    (c .before .before .before .before .before .before .before .before .before .before .before .before .pre .0)
+    (c .before .before .before .before .before .before .before .before .read-top .result) (not-false
+    (c .before .before .before .before .before .before .before .before .read-top .result .there)
+    (c .before .before .before .before .before .before .if1 .left))
+    (c .before .before .before .before .before .before .before .before .read-top .ensures)
+    (c .before .before .before .before .before .before .before .before .before .before .before .before .args .p .now)
+    (c .before .before .before .before .before .before .before .before .before .before .before .before .args .a)
+    (c .before .before .before .before .before .before .before .before .before .before .before .before .pre .2)
+    (c .before .before .before .before .if2 .taken)) (λ x e. inl e) (c .before .before .discard-to .ensures)
 
 add-discard-to-2 : tie.Need-add-discard-to-2
 add-discard-to-2 c = search needs
 
 discard-to-requires-2 : tie.Need-discard-to-requires-2
-discard-to-requires-2 c κs = (c .before .before .before .before .before .before .before .before .before .before .pre .0, top-some (c .before .before .before .before .before .before .before .before .before .before .pre .0) (c .before .before .before .before .before .before .read-top .result) (not-false (c .before .before .before .before .before .before .read-top .result .there) (c .before .before .before .before .if1 .left)) (c .before .before .before .before .before .before .read-top .ensures))
+discard-to-requires-2 c κs = (
+  c .before .before .before .before .before .before .before .before .before .before .pre .0,
+  top-some (c .before .before .before .before .before .before .before .before .before .before .pre .0)
+      (c .before .before .before .before .before .before .read-top .result) (not-false
+      (c .before .before .before .before .before .before .read-top .result .there)
+      (c .before .before .before .before .if1 .left))
+      (c .before .before .before .before .before .before .read-top .ensures),
+)
 
 same-length-3 : tie.Need-same-length-3
 same-length-3 c = search needs

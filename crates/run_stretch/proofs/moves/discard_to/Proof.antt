@@ -20,7 +20,10 @@ same-length : tie.Need-same-length
 same-length c = search needs
 
 returns : tie.Need-returns
-returns c = discards-to (c .before .before .before .before .before .before .before .pre .0) (c .before .before .before .before .before .before .before .pre .1) (c .before .before .before .before .before .before .before .args .to) (c .before .before .before .before .free .ensures) (c .before .before .before .write .ensures)
+returns c = discards-to (c .before .before .before .before .before .before .before .pre .0)
+    (c .before .before .before .before .before .before .before .pre .1)
+    (c .before .before .before .before .before .before .before .args .to)
+    (c .before .before .before .before .free .ensures) (c .before .before .before .write .ensures)
 
 pub discard-to-spec : {M : Type 1} → statement M
 discard-to-spec =

@@ -28,14 +28,39 @@ add-discard-to : tie.Need-add-discard-to
 add-discard-to c = search needs
 
 discard-to-requires : tie.Need-discard-to-requires
-discard-to-requires c κs = (c .before .before .before .before .before .before .before .pre .0, top-some (c .before .before .before .before .before .before .before .pre .0) (c .before .before .before .before .read-top .result) (not-false (c .before .before .before .before .read-top .result .there) (c .before .before .if1 .left)) (c .before .before .before .before .read-top .ensures))
+discard-to-requires c κs = (
+  c .before .before .before .before .before .before .before .pre .0,
+  top-some
+      (c .before .before .before .before .before .before .before .pre .0)
+      (c .before .before .before .before .read-top .result) (not-false
+      (c .before .before .before .before .read-top .result .there) (c .before .before .if1 .left))
+      (c .before .before .before .before .read-top .ensures),
+)
 
 same-length-2 : tie.Need-same-length-2
 same-length-2 c = search needs
 
 returns-2 : tie.Need-returns-2
 unfolding dropOp
-returns-2 c = goes-as (top-goes (c .before .before .before .before .before .before .before .before .before .before .pre .0) (c .before .before .before .before .before .before .before .read-top .result) (not-false (c .before .before .before .before .before .before .before .read-top .result .there) (c .before .before .before .before .before .if1 .left)) (c .before .before .before .before .before .before .before .read-top .ensures) (λ (v : Val). afterStep WentOn (dropTop (laid (c .before .before .before .before .before .before .before .before .before .before .args .w .now) (c .before .before .before .before .before .before .before .before .before .before .args .h) (c .before .before .before .before .before .before .before .before .before .before .args .c)) (headWith (c .before .before .before .before .before .before .before .before .before .before .args .h) (c .before .before .before .before .before .before .before .before .before .before .args .c)))) ∙ ap (afterStep WentOn) (drops-on (c .before .before .before .before .before .before .before .before .before .before .pre .0) (c .before .before .before .before .before .before .before .before .before .before .pre .1) (top-some (c .before .before .before .before .before .before .before .before .before .before .pre .0) (c .before .before .before .before .before .before .before .read-top .result) (not-false (c .before .before .before .before .before .before .before .read-top .result .there) (c .before .before .before .before .before .if1 .left)) (c .before .before .before .before .before .before .before .read-top .ensures)))) (c .before .before .discard-to .ensures)
+returns-2 c = goes-as (top-goes
+    (c .before .before .before .before .before .before .before .before .before .before .pre .0)
+    (c .before .before .before .before .before .before .before .read-top .result) (not-false
+    (c .before .before .before .before .before .before .before .read-top .result .there)
+    (c .before .before .before .before .before .if1 .left))
+    (c .before .before .before .before .before .before .before .read-top .ensures) (λ (v : Val). afterStep WentOn
+    (dropTop (laid (c .before .before .before .before .before .before .before .before .before .before .args .w .now)
+    (c .before .before .before .before .before .before .before .before .before .before .args .h)
+    (c .before .before .before .before .before .before .before .before .before .before .args .c)) (headWith
+    (c .before .before .before .before .before .before .before .before .before .before .args .h)
+    (c .before .before .before .before .before .before .before .before .before .before .args .c)))) ∙ ap (afterStep
+    WentOn) (drops-on (c .before .before .before .before .before .before .before .before .before .before .pre .0)
+    (c .before .before .before .before .before .before .before .before .before .before .pre .1) (top-some
+    (c .before .before .before .before .before .before .before .before .before .before .pre .0)
+    (c .before .before .before .before .before .before .before .read-top .result) (not-false
+    (c .before .before .before .before .before .before .before .read-top .result .there)
+    (c .before .before .before .before .before .if1 .left))
+    (c .before .before .before .before .before .before .before .read-top .ensures))))
+    (c .before .before .discard-to .ensures)
 
 pub drop-top-spec : {M : Type 1} → statement M
 drop-top-spec =

@@ -29,14 +29,36 @@ add-replace : tie.Need-add-replace
 add-replace c = search needs
 
 replace-requires : tie.Need-replace-requires
-replace-requires c κs = (c .before .before .before .before .before .before .pre .0, c .before .before .before .before .before .before .pre .1, top-some (c .before .before .before .before .before .before .pre .0) (c .before .before .before .read-top .result) (not-false (c .before .before .before .read-top .result .there) (c .before .if1 .left)) (c .before .before .before .read-top .ensures))
+replace-requires c κs = (
+  c .before .before .before .before .before .before .pre .0,
+  c .before .before .before .before .before .before .pre .1,
+  top-some
+      (c .before .before .before .before .before .before .pre .0) (c .before .before .before .read-top .result)
+      (not-false
+      (c .before .before .before .read-top .result .there) (c .before .if1 .left))
+      (c .before .before .before .read-top .ensures),
+)
 
 same-length-2 : tie.Need-same-length-2
 same-length-2 c = search needs
 
 returns-2 : tie.Need-returns-2
 unfolding endOp
-returns-2 c = goes-as (top-goes (c .before .before .before .before .before .before .before .before .before .pre .0) (c .before .before .before .before .before .before .read-top .result) (not-false (c .before .before .before .before .before .before .read-top .result .there) (c .before .before .before .before .if1 .left)) (c .before .before .before .before .before .before .read-top .ensures) (λ (v : Val). afterStep WentOn (onTop (laid (c .before .before .before .before .before .before .before .before .before .args .w .now) (c .before .before .before .before .before .before .before .before .before .args .h) (c .before .before .before .before .before .before .before .before .before .args .c)) (headWith (c .before .before .before .before .before .before .before .before .before .args .h) (c .before .before .before .before .before .before .before .before .before .args .c)) (record { tag = 5 + c .before .before .before .before .before .before .before .before .before .args .a; number = v .number })))) (c .before .before .replace .ensures)
+returns-2 c = goes-as (top-goes (c .before .before .before .before .before .before .before .before .before .pre .0)
+    (c .before .before .before .before .before .before .read-top .result) (not-false
+    (c .before .before .before .before .before .before .read-top .result .there)
+    (c .before .before .before .before .if1 .left))
+    (c .before .before .before .before .before .before .read-top .ensures) (λ (v : Val). afterStep WentOn (onTop (laid
+    (c .before .before .before .before .before .before .before .before .before .args .w .now)
+    (c .before .before .before .before .before .before .before .before .before .args .h)
+    (c .before .before .before .before .before .before .before .before .before .args .c)) (headWith
+    (c .before .before .before .before .before .before .before .before .before .args .h)
+    (c .before .before .before .before .before .before .before .before .before .args .c)) (record {
+      tag = 5 +
+          c .before .before .before .before .before .before .before .before .before .args .a;
+      number = v .number;
+    }))))
+    (c .before .before .replace .ensures)
 
 pub end-of-spec : {M : Type 1} → statement M
 end-of-spec =

@@ -38,7 +38,10 @@ same-length : tie.Need-same-length
 same-length c = search needs
 
 returns-2 : tie.Need-returns-2
-returns-2 c = goes-as (gets (c .before .before .before .before .before .before .before .before .before .pre .0) (c .before .before .before .before .before .before .before .before .before .args .a) (c .before .before .before .before .before .before .before .slot .ensures) (c .before .before .before .before .before .if1 .left)) (c .before .before .push .ensures)
+returns-2 c = goes-as (gets (c .before .before .before .before .before .before .before .before .before .pre .0)
+    (c .before .before .before .before .before .before .before .before .before .args .a)
+    (c .before .before .before .before .before .before .before .slot .ensures)
+    (c .before .before .before .before .before .if1 .left)) (c .before .before .push .ensures)
 
 pub get-spec : {M : Type 1} → statement M
 get-spec =

@@ -34,7 +34,14 @@ same-length c = search needs
 
 returns-2 : tie.Need-returns-2
 returns-2 c =
-    pushes (c .before .before .before .before .before .before .before .before .before .before .pre .0) (c .before .before .before .before .before .before .before .before .before .before .pre .1) (c .before .before .before .before .before .before .before .if1 .left) (record { tag = c .before .before .before .before .before .before .before .before .before .before .args .tag; number = c .before .before .before .before .before .before .before .before .before .before .args .number })
+    pushes (c .before .before .before .before .before .before .before .before .before .before .pre .0)
+    (c .before .before .before .before .before .before .before .before .before .before .pre .1)
+    (c .before .before .before .before .before .before .before .if1 .left) (record {
+      tag =
+          c .before .before .before .before .before .before .before .before .before .before .args .tag;
+      number =
+          c .before .before .before .before .before .before .before .before .before .before .args .number;
+    })
     (ap (λ (i : ℕ). i - 2) (c .before .before .before .free .ensures) ∙ omega arith) (c .before .before .write .ensures)
 
 pub push-spec : {M : Type 1} → statement M

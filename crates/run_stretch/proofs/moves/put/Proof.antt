@@ -32,7 +32,18 @@ same-length-2 c = search needs
 
 returns-2 : tie.Need-returns-2
 unfolding putOp
-returns-2 c = goes-as (top-goes (c .before .before .before .before .before .before .before .before .before .pre .0) (c .before .before .before .before .before .before .read-top .result) (not-false (c .before .before .before .before .before .before .read-top .result .there) (c .before .before .before .before .if1 .left)) (c .before .before .before .before .before .before .read-top .ensures) (λ (v : Val). afterStep WentOn (inSlot (laid (c .before .before .before .before .before .before .before .before .before .args .w .now) (c .before .before .before .before .before .before .before .before .before .args .h) (c .before .before .before .before .before .before .before .before .before .args .c)) (headWith (c .before .before .before .before .before .before .before .before .before .args .h) (c .before .before .before .before .before .before .before .before .before .args .c)) (c .before .before .before .before .before .before .before .before .before .args .a) v))) (c .before .before .store-slot .ensures)
+returns-2 c = goes-as (top-goes (c .before .before .before .before .before .before .before .before .before .pre .0)
+    (c .before .before .before .before .before .before .read-top .result) (not-false
+    (c .before .before .before .before .before .before .read-top .result .there)
+    (c .before .before .before .before .if1 .left))
+    (c .before .before .before .before .before .before .read-top .ensures) (λ (v : Val). afterStep WentOn (inSlot (laid
+    (c .before .before .before .before .before .before .before .before .before .args .w .now)
+    (c .before .before .before .before .before .before .before .before .before .args .h)
+    (c .before .before .before .before .before .before .before .before .before .args .c)) (headWith
+    (c .before .before .before .before .before .before .before .before .before .args .h)
+    (c .before .before .before .before .before .before .before .before .before .args .c))
+    (c .before .before .before .before .before .before .before .before .before .args .a) v)))
+    (c .before .before .store-slot .ensures)
 
 pub put-spec : {M : Type 1} → statement M
 put-spec =

@@ -20,7 +20,15 @@ same-length : tie.Need-same-length
 same-length c = search needs
 
 returns : tie.Need-returns
-returns c = replaces (c .before .before .before .before .before .before .before .pre .0) (c .before .before .before .before .before .before .before .pre .1) (c .before .before .before .before .before .before .before .pre .2) (record { tag = c .before .before .before .before .before .before .before .args .tag; number = c .before .before .before .before .before .before .before .args .number }) (c .before .before .before .before .free .ensures) (c .before .before .before .write .ensures)
+returns c = replaces (c .before .before .before .before .before .before .before .pre .0)
+    (c .before .before .before .before .before .before .before .pre .1)
+    (c .before .before .before .before .before .before .before .pre .2) (record {
+      tag =
+          c .before .before .before .before .before .before .before .args .tag;
+      number =
+          c .before .before .before .before .before .before .before .args .number;
+    })
+    (c .before .before .before .before .free .ensures) (c .before .before .before .write .ensures)
 
 pub replace-spec : {M : Type 1} → statement M
 replace-spec =

@@ -29,7 +29,18 @@ same-length : tie.Need-same-length
 same-length c = search needs
 
 returns : tie.Need-returns
-returns c = covers (c .before .before .before .before .before .before .before .before .before .before .before .before .pre .0) (c .before .before .before .before .before .before .before .before .before .before .before .before .pre .1) (c .before .before .before .before .before .before .before .before .before .before .before .before .pre .2) (record { tag = c .before .before .before .before .before .before .before .before .before .before .before .before .args .tag; number = c .before .before .before .before .before .before .before .before .before .before .before .before .args .number }) (c .before .before .before .before .before .before .before .before .before .before .free .ensures) (c .before .before .before .before .before .before .before .before .write .ensures) (c .before .before .before .before .write2 .ensures)
+returns c = covers
+    (c .before .before .before .before .before .before .before .before .before .before .before .before .pre .0)
+    (c .before .before .before .before .before .before .before .before .before .before .before .before .pre .1)
+    (c .before .before .before .before .before .before .before .before .before .before .before .before .pre .2) (record {
+      tag =
+          c .before .before .before .before .before .before .before .before .before .before .before .before .args .tag;
+      number
+          = c .before .before .before .before .before .before .before .before .before .before .before .before .args .number;
+    })
+    (c .before .before .before .before .before .before .before .before .before .before .free .ensures)
+    (c .before .before .before .before .before .before .before .before .write .ensures)
+    (c .before .before .before .before .write2 .ensures)
 
 pub replace-two-spec : {M : Type 1} → statement M
 replace-two-spec =

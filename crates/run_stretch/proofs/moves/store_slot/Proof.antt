@@ -17,7 +17,15 @@ same-length : tie.Need-same-length
 same-length c = search needs
 
 returns : tie.Need-returns
-returns c = stores (c .before .before .before .before .before .before .before .pre .0) (c .before .before .before .before .before .before .before .pre .1) (c .before .before .before .before .before .before .before .args .a) (record { tag = c .before .before .before .before .before .before .before .args .tag; number = c .before .before .before .before .before .before .before .args .number }) (c .before .before .before .before .slot .ensures) (c .before .before .before .write .ensures)
+returns c = stores (c .before .before .before .before .before .before .before .pre .0)
+    (c .before .before .before .before .before .before .before .pre .1)
+    (c .before .before .before .before .before .before .before .args .a) (record {
+      tag =
+          c .before .before .before .before .before .before .before .args .tag;
+      number =
+          c .before .before .before .before .before .before .before .args .number;
+    })
+    (c .before .before .before .before .slot .ensures) (c .before .before .before .write .ensures)
 
 pub store-slot-spec : {M : Type 1} → statement M
 store-slot-spec = tie.close (tie.spec slot-requires write-requires add-t11 same-length returns)

@@ -33,14 +33,40 @@ add-result : tie.Need-add-result
 add-result c = search needs
 
 result-requires : tie.Need-result-requires
-result-requires c κs = (c .before .before .before .before .before .before .before .before .pre .0, c .before .before .before .before .before .before .before .before .pre .1, two-some (c .before .before .before .before .before .before .before .before .pre .0) (c .before .before .before .before .before .read-two .result) (not-false (c .before .before .before .before .before .read-two .result .there) (c .before .before .before .if1 .left)) (c .before .before .before .before .before .read-two .ensures))
+result-requires c κs = (
+  c .before .before .before .before .before .before .before .before .pre .0,
+  c .before .before .before .before .before .before .before .before .pre .1,
+  two-some
+      (c .before .before .before .before .before .before .before .before .pre .0)
+      (c .before .before .before .before .before .read-two .result) (not-false
+      (c .before .before .before .before .before .read-two .result .there) (c .before .before .before .if1 .left))
+      (c .before .before .before .before .before .read-two .ensures),
+)
 
 same-length-2 : tie.Need-same-length-2
 same-length-2 c = search needs
 
 returns-2 : tie.Need-returns-2
 unfolding addOp
-returns-2 c = goes-as (two-goes (c .before .before .before .before .before .before .before .before .before .before .before .pre .0) (c .before .before .before .before .before .before .before .before .read-two .result) (not-false (c .before .before .before .before .before .before .before .before .read-two .result .there) (c .before .before .before .before .before .before .if1 .left)) (c .before .before .before .before .before .before .before .before .read-two .ensures) (λ (x y : ℕ). resultOp (laid (c .before .before .before .before .before .before .before .before .before .before .before .args .w .now) (c .before .before .before .before .before .before .before .before .before .before .before .args .h) (c .before .before .before .before .before .before .before .before .before .before .before .args .c)) (headWith (c .before .before .before .before .before .before .before .before .before .before .before .args .h) (c .before .before .before .before .before .before .before .before .before .before .before .args .c)) (biased x + biased y)) ∙ ap (resultOp (laid (c .before .before .before .before .before .before .before .before .before .before .before .args .w .now) (c .before .before .before .before .before .before .before .before .before .before .before .args .h) (c .before .before .before .before .before .before .before .before .before .before .before .args .c)) (headWith (c .before .before .before .before .before .before .before .before .before .before .before .args .h) (c .before .before .before .before .before .before .before .before .before .before .before .args .c))) (sym (ap₂ _+_ (c .before .before .before .before .bias .ensures .0) (c .before .before .before .bias2 .ensures .0)))) (c .before .before .result .ensures)
+returns-2 c = goes-as (two-goes
+    (c .before .before .before .before .before .before .before .before .before .before .before .pre .0)
+    (c .before .before .before .before .before .before .before .before .read-two .result) (not-false
+    (c .before .before .before .before .before .before .before .before .read-two .result .there)
+    (c .before .before .before .before .before .before .if1 .left))
+    (c .before .before .before .before .before .before .before .before .read-two .ensures) (λ (x y : ℕ). resultOp (laid
+    (c .before .before .before .before .before .before .before .before .before .before .before .args .w .now)
+    (c .before .before .before .before .before .before .before .before .before .before .before .args .h)
+    (c .before .before .before .before .before .before .before .before .before .before .before .args .c)) (headWith
+    (c .before .before .before .before .before .before .before .before .before .before .before .args .h)
+    (c .before .before .before .before .before .before .before .before .before .before .before .args .c)) (biased x +
+    biased y)) ∙ ap (resultOp (laid
+    (c .before .before .before .before .before .before .before .before .before .before .before .args .w .now)
+    (c .before .before .before .before .before .before .before .before .before .before .before .args .h)
+    (c .before .before .before .before .before .before .before .before .before .before .before .args .c)) (headWith
+    (c .before .before .before .before .before .before .before .before .before .before .before .args .h)
+    (c .before .before .before .before .before .before .before .before .before .before .before .args .c))) (sym (ap₂ _+_
+    (c .before .before .before .before .bias .ensures .0) (c .before .before .before .bias2 .ensures .0))))
+    (c .before .before .result .ensures)
 
 pub add-spec : {M : Type 1} → statement M
 add-spec =

@@ -29,14 +29,40 @@ flag-requires : tie.Need-flag-requires
 flag-requires c κs = search needs
 
 replace-requires : tie.Need-replace-requires
-replace-requires c κs = (c .before .before .before .before .before .before .before .before .pre .0, c .before .before .before .before .before .before .before .before .pre .1, top-some (c .before .before .before .before .before .before .before .before .pre .0) (c .before .before .before .before .before .read-top .result) (not-false (c .before .before .before .before .before .read-top .result .there) (c .before .before .before .if1 .left)) (c .before .before .before .before .before .read-top .ensures))
+replace-requires c κs = (
+  c .before .before .before .before .before .before .before .before .pre .0,
+  c .before .before .before .before .before .before .before .before .pre .1,
+  top-some
+      (c .before .before .before .before .before .before .before .before .pre .0)
+      (c .before .before .before .before .before .read-top .result) (not-false
+      (c .before .before .before .before .before .read-top .result .there) (c .before .before .before .if1 .left))
+      (c .before .before .before .before .before .read-top .ensures),
+)
 
 same-length-2 : tie.Need-same-length-2
 same-length-2 c = search needs
 
 returns-2 : tie.Need-returns-2
 unfolding notOp
-returns-2 c = goes-as (top-goes (c .before .before .before .before .before .before .before .before .before .before .before .pre .0) (c .before .before .before .before .before .before .before .before .read-top .result) (not-false (c .before .before .before .before .before .before .before .before .read-top .result .there) (c .before .before .before .before .before .before .if1 .left)) (c .before .before .before .before .before .before .before .before .read-top .ensures) (λ (v : Val). afterStep WentOn (onTop (laid (c .before .before .before .before .before .before .before .before .before .before .before .args .w .now) (c .before .before .before .before .before .before .before .before .before .before .before .args .h) (c .before .before .before .before .before .before .before .before .before .before .before .args .c)) (headWith (c .before .before .before .before .before .before .before .before .before .before .before .args .h) (c .before .before .before .before .before .before .before .before .before .before .before .args .c)) (boolVal (bit (eqb (v .number) 0))))) ∙ ap (λ (v : Val). afterStep WentOn (onTop (laid (c .before .before .before .before .before .before .before .before .before .before .before .args .w .now) (c .before .before .before .before .before .before .before .before .before .before .before .args .h) (c .before .before .before .before .before .before .before .before .before .before .before .args .c)) (headWith (c .before .before .before .before .before .before .before .before .before .before .before .args .h) (c .before .before .before .before .before .before .before .before .before .before .before .args .c)) v)) (sym (c .before .before .before .before .flag .ensures))) (c .before .before .replace .ensures)
+returns-2 c = goes-as (top-goes
+    (c .before .before .before .before .before .before .before .before .before .before .before .pre .0)
+    (c .before .before .before .before .before .before .before .before .read-top .result) (not-false
+    (c .before .before .before .before .before .before .before .before .read-top .result .there)
+    (c .before .before .before .before .before .before .if1 .left))
+    (c .before .before .before .before .before .before .before .before .read-top .ensures) (λ (v : Val). afterStep
+    WentOn (onTop (laid
+    (c .before .before .before .before .before .before .before .before .before .before .before .args .w .now)
+    (c .before .before .before .before .before .before .before .before .before .before .before .args .h)
+    (c .before .before .before .before .before .before .before .before .before .before .before .args .c)) (headWith
+    (c .before .before .before .before .before .before .before .before .before .before .before .args .h)
+    (c .before .before .before .before .before .before .before .before .before .before .before .args .c)) (boolVal (bit
+    (eqb (v .number) 0))))) ∙ ap (λ (v : Val). afterStep WentOn (onTop (laid
+    (c .before .before .before .before .before .before .before .before .before .before .before .args .w .now)
+    (c .before .before .before .before .before .before .before .before .before .before .before .args .h)
+    (c .before .before .before .before .before .before .before .before .before .before .before .args .c)) (headWith
+    (c .before .before .before .before .before .before .before .before .before .before .before .args .h)
+    (c .before .before .before .before .before .before .before .before .before .before .before .args .c)) v)) (sym
+    (c .before .before .before .before .flag .ensures))) (c .before .before .replace .ensures)
 
 pub not-spec : {M : Type 1} → statement M
 not-spec =

@@ -30,7 +30,14 @@ same-length : tie.Need-same-length
 same-length c = search needs
 
 returns-3 : tie.Need-returns-3
-returns-3 c = goes-as (sym (result-in (laid (c .before .before .before .before .before .before .before .args .w .now) (c .before .before .before .before .before .before .before .args .h) (c .before .before .before .before .before .before .before .args .c)) (headWith (c .before .before .before .before .before .before .before .args .h) (c .before .before .before .before .before .before .before .args .c)) (c .before .before .before .before .before .before .before .args .s) (c .before .before .before .before .before .if1 .left) (c .before .before .before .before .if2 .left))) (c .before .before .replace-two .ensures)
+returns-3 c = goes-as (sym (result-in (laid (c .before .before .before .before .before .before .before .args .w .now)
+    (c .before .before .before .before .before .before .before .args .h)
+    (c .before .before .before .before .before .before .before .args .c)) (headWith
+    (c .before .before .before .before .before .before .before .args .h)
+    (c .before .before .before .before .before .before .before .args .c))
+    (c .before .before .before .before .before .before .before .args .s)
+    (c .before .before .before .before .before .if1 .left) (c .before .before .before .before .if2 .left)))
+    (c .before .before .replace-two .ensures)
 
 pub result-spec : {M : Type 1} → statement M
 result-spec =

@@ -37,16 +37,38 @@ mul-t9 : tie.Need-mul-t9
 mul-t9 c = search needs
 
 shared-slice-read-t6 : tie.Need-shared-slice-read-t6
-shared-slice-read-t6 c = omega (arith, row-there (c .before .before .before .before .pre) (c .before .before .if1 .left))
+shared-slice-read-t6 c = omega (
+  arith,
+  row-there (c .before .before .before .before .pre)
+      (c .before .before .if1 .left),
+)
 
 cast-t7 : tie.Need-cast-t7
-cast-t7 c = omega (arith, c .before .before .before .shared-slice-known .given (2 + 2 * c .before .before .before .before .args .m + 1))
+cast-t7 c = omega (
+  arith,
+  c .before .before .before .shared-slice-known .given (2 + 2 *
+      c .before .before .before .before .args .m + 1),
+)
 
 add-t13 : tie.Need-add-t13
-add-t13 c = omega (arith, c .before .before .before .shared-slice-known .given (2 + 2 * c .before .before .before .before .args .m), c .before .before .before .shared-slice-known .given (2 + 2 * c .before .before .before .before .args .m + 1))
+add-t13 c = omega (
+  arith,
+  c .before .before .before .shared-slice-known .given (2 + 2 *
+      c .before .before .before .before .args .m),
+  c .before .before .before .shared-slice-known .given (2 + 2 *
+      c .before .before .before .before .args .m + 1),
+)
 
 returns-2 : tie.Need-returns-2
-returns-2 c = (omega (arith, c .before .before .before .shared-slice-known .given (2 + 2 * c .before .before .before .before .args .m)), span-inside (c .before .before .before .before .pre) (c .before .before .if1 .left))
+returns-2 c = (
+  omega (
+    arith,
+    c .before .before .before .shared-slice-known .given (2 + 2 *
+        c .before .before .before .before .args .m),
+  ),
+  span-inside (c .before .before .before .before .pre)
+      (c .before .before .if1 .left),
+)
 
 pub span-of-spec : {M : Type 1} → statement M
 span-of-spec =

@@ -14,20 +14,20 @@ add-first c = search needs
 add-end : tie.Need-add-end
 add-end c = search needs
 
-mul-run-top : tie.Need-mul-run-top
-mul-run-top c = search needs
+mul-run-frames : tie.Need-mul-run-frames
+mul-run-frames c = search needs
 
-sub-run-top : tie.Need-sub-run-top
-sub-run-top c = search needs
+sub-run-frames : tie.Need-sub-run-frames
+sub-run-frames c = search needs
 
-part-run-top-start : tie.Need-part-run-top-start
-part-run-top-start c = search needs
+part-run-frames-start : tie.Need-part-run-frames-start
+part-run-frames-start c = search needs
 
-part-run-top-end : tie.Need-part-run-top-end
-part-run-top-end c = search needs
+part-run-frames-end : tie.Need-part-run-frames-end
+part-run-frames-end c = search needs
 
-run-top-requires : tie.Need-run-top-requires
-run-top-requires c κs = search needs
+run-frames-requires : tie.Need-run-frames-requires
+run-frames-requires c κs = search needs
 
 same-length : tie.Need-same-length
 same-length c = search needs
@@ -37,9 +37,11 @@ returns c =
     let work = c .before .before .before .before .before .before .before .args .work .now in
     let long = c .before .before .before .before .before .before .before .pre .1 in
     let n = c .before .before .before .before .before .before .before .args .n in
-    let part =
-    stretched work long n (c .before .before .before .before .before .before .before .pre .3) (c .before .before .run-top .kept .1 .1 .0 ∙ part-length work n (c .before .before .before .before .before .before .before .pre .3) long) (c .before .before .run-top .ensures .0) refl in
-    (part .0, part .1, c .before .before .run-top .ensures .1)
+    let part = stretched work long n (c .before .before .before .before .before .before .before .pre .3)
+    (c .before .before .run-frames .kept .1 .1 .0 ∙ part-length work n
+    (c .before .before .before .before .before .before .before .pre .3) long)
+    (c .before .before .run-frames .ensures .0) refl in
+    (part .0, part .1, c .before .before .run-frames .ensures .1)
 
 pub stretch-spec : {M : Type 1} → statement M
 stretch-spec =
@@ -48,10 +50,10 @@ stretch-spec =
     mul-first
     add-first
     add-end
-    mul-run-top
-    sub-run-top
-    part-run-top-start
-    part-run-top-end
-    run-top-requires
+    mul-run-frames
+    sub-run-frames
+    part-run-frames-start
+    part-run-frames-end
+    run-frames-requires
     same-length
     returns)

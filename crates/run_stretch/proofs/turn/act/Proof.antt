@@ -26,16 +26,31 @@ push-requires-2 : tie.Need-push-requires-2
 push-requires-2 c κs = search needs
 
 get-requires : tie.Need-get-requires
-get-requires c κs = (c .before .before .before .before .pre .0, c .before .before .before .before .pre .1, slot-of-get (c .before .before .before .before .pre .4) (c .before .before .before .before .pre .5) (c .before .match .keys4))
+get-requires c κs = (
+  c .before .before .before .before .pre .0,
+  c .before .before .before .before .pre .1,
+  slot-of-get
+      (c .before .before .before .before .pre .4) (c .before .before .before .before .pre .5) (c .before .match .keys4),
+)
 
 put-requires : tie.Need-put-requires
-put-requires c κs = (c .before .before .before .before .pre .0, c .before .before .before .before .pre .1, slot-of-put (c .before .before .before .before .pre .4) (c .before .before .before .before .pre .5) (c .before .match .keys5))
+put-requires c κs = (
+  c .before .before .before .before .pre .0,
+  c .before .before .before .before .pre .1,
+  slot-of-put
+      (c .before .before .before .before .pre .4) (c .before .before .before .before .pre .5) (c .before .match .keys5),
+)
 
 drop-top-requires : tie.Need-drop-top-requires
 drop-top-requires c κs = search needs
 
 store-slot-requires : tie.Need-store-slot-requires
-store-slot-requires c κs = (c .before .before .before .before .pre .0, c .before .before .before .before .pre .1, slot-of-clear (c .before .before .before .before .pre .4) (c .before .before .before .before .pre .5) (c .before .match .keys7))
+store-slot-requires c κs = (
+  c .before .before .before .before .pre .0,
+  c .before .before .before .before .pre .1,
+  slot-of-clear (c .before .before .before .before .pre .4) (c .before .before .before .before .pre .5)
+      (c .before .match .keys7),
+)
 
 halt-requires-2 : tie.Need-halt-requires-2
 halt-requires-2 c κs = search needs
@@ -123,10 +138,14 @@ unfolding actOp opFunctions intOp
 returns-2 c =
     let args = c .before .before .before .before .before .before .before .before .args in
     goes-in
-    (by-op (args .p .now) (laid (args .w .now) (args .h) (args .c)) (headWith (args .h) (args .c)) (args .a) (c .before .before .before .before .before .match .keys2)
-    ∙ ap (λ (x : ℕ). afterStep WentOn (pushOn (laid (args .w .now) (args .h) (args .c)) (headWith (args .h) (args .c)) (intVal x)))
+    (by-op (args .p .now) (laid (args .w .now) (args .h) (args .c)) (headWith (args .h) (args .c)) (args .a)
+    (c .before .before .before .before .before .match .keys2)
+    ∙ ap (λ (x : ℕ). afterStep WentOn (pushOn (laid (args .w .now) (args .h) (args .c)) (headWith (args .h) (args .c))
+    (intVal x)))
     (sym (c .before .before .before .extend .ensures)))
-    (steps-inside (c .before .before .before .before .before .before .before .before .pre .4) (c .before .before .before .before .before .before .before .before .pre .5) 1 (c .before .before .before .before .before .match .keys2) refl)
+    (steps-inside (c .before .before .before .before .before .before .before .before .pre .4)
+    (c .before .before .before .before .before .before .before .before .pre .5) 1
+    (c .before .before .before .before .before .match .keys2) refl)
     (c .before .before .push .ensures)
 
 same-length-2 : tie.Need-same-length-2
@@ -137,8 +156,11 @@ unfolding actOp opFunctions boolOp
 returns-3 c =
     let args = c .before .before .before .before .before .before .before .args in
     goes-in
-    (by-op (args .p .now) (laid (args .w .now) (args .h) (args .c)) (headWith (args .h) (args .c)) (args .a) (c .before .before .before .before .match .keys3))
-    (steps-inside (c .before .before .before .before .before .before .before .pre .4) (c .before .before .before .before .before .before .before .pre .5) 2 (c .before .before .before .before .match .keys3) refl)
+    (by-op (args .p .now) (laid (args .w .now) (args .h) (args .c)) (headWith (args .h) (args .c)) (args .a)
+    (c .before .before .before .before .match .keys3))
+    (steps-inside (c .before .before .before .before .before .before .before .pre .4)
+    (c .before .before .before .before .before .before .before .pre .5) 2
+    (c .before .before .before .before .match .keys3) refl)
     (c .before .before .push2 .ensures)
 
 same-length-3 : tie.Need-same-length-3
@@ -149,8 +171,11 @@ unfolding actOp opFunctions
 returns-4 c =
     let args = c .before .before .before .before .before .before .before .args in
     goes-in
-    (by-op (args .p .now) (laid (args .w .now) (args .h) (args .c)) (headWith (args .h) (args .c)) (args .a) (c .before .before .before .before .match .keys4))
-    (steps-inside (c .before .before .before .before .before .before .before .pre .4) (c .before .before .before .before .before .before .before .pre .5) 3 (c .before .before .before .before .match .keys4) refl)
+    (by-op (args .p .now) (laid (args .w .now) (args .h) (args .c)) (headWith (args .h) (args .c)) (args .a)
+    (c .before .before .before .before .match .keys4))
+    (steps-inside (c .before .before .before .before .before .before .before .pre .4)
+    (c .before .before .before .before .before .before .before .pre .5) 3
+    (c .before .before .before .before .match .keys4) refl)
     (c .before .before .get .ensures)
 
 same-length-4 : tie.Need-same-length-4
@@ -161,8 +186,11 @@ unfolding actOp opFunctions
 returns-5 c =
     let args = c .before .before .before .before .before .before .before .args in
     goes-in
-    (by-op (args .p .now) (laid (args .w .now) (args .h) (args .c)) (headWith (args .h) (args .c)) (args .a) (c .before .before .before .before .match .keys5))
-    (steps-inside (c .before .before .before .before .before .before .before .pre .4) (c .before .before .before .before .before .before .before .pre .5) 4 (c .before .before .before .before .match .keys5) refl)
+    (by-op (args .p .now) (laid (args .w .now) (args .h) (args .c)) (headWith (args .h) (args .c)) (args .a)
+    (c .before .before .before .before .match .keys5))
+    (steps-inside (c .before .before .before .before .before .before .before .pre .4)
+    (c .before .before .before .before .before .before .before .pre .5) 4
+    (c .before .before .before .before .match .keys5) refl)
     (c .before .before .put .ensures)
 
 same-length-5 : tie.Need-same-length-5
@@ -173,8 +201,11 @@ unfolding actOp opFunctions
 returns-6 c =
     let args = c .before .before .before .before .before .before .before .args in
     goes-in
-    (by-op (args .p .now) (laid (args .w .now) (args .h) (args .c)) (headWith (args .h) (args .c)) (args .a) (c .before .before .before .before .match .keys6))
-    (steps-inside (c .before .before .before .before .before .before .before .pre .4) (c .before .before .before .before .before .before .before .pre .5) 5 (c .before .before .before .before .match .keys6) refl)
+    (by-op (args .p .now) (laid (args .w .now) (args .h) (args .c)) (headWith (args .h) (args .c)) (args .a)
+    (c .before .before .before .before .match .keys6))
+    (steps-inside (c .before .before .before .before .before .before .before .pre .4)
+    (c .before .before .before .before .before .before .before .pre .5) 5
+    (c .before .before .before .before .match .keys6) refl)
     (c .before .before .drop-top .ensures)
 
 same-length-6 : tie.Need-same-length-6
@@ -185,8 +216,11 @@ unfolding actOp opFunctions clearOp
 returns-7 c =
     let args = c .before .before .before .before .before .before .before .args in
     goes-in
-    (by-op (args .p .now) (laid (args .w .now) (args .h) (args .c)) (headWith (args .h) (args .c)) (args .a) (c .before .before .before .before .match .keys7))
-    (steps-inside (c .before .before .before .before .before .before .before .pre .4) (c .before .before .before .before .before .before .before .pre .5) 6 (c .before .before .before .before .match .keys7) refl)
+    (by-op (args .p .now) (laid (args .w .now) (args .h) (args .c)) (headWith (args .h) (args .c)) (args .a)
+    (c .before .before .before .before .match .keys7))
+    (steps-inside (c .before .before .before .before .before .before .before .pre .4)
+    (c .before .before .before .before .before .before .before .pre .5) 6
+    (c .before .before .before .before .match .keys7) refl)
     (c .before .before .store-slot .ensures)
 
 returns-8 : tie.Need-returns-8
@@ -203,8 +237,11 @@ unfolding actOp opFunctions
 returns-10 c =
     let args = c .before .before .before .before .before .before .before .args in
     goes-in
-    (by-op (args .p .now) (laid (args .w .now) (args .h) (args .c)) (headWith (args .h) (args .c)) (args .a) (c .before .before .before .before .match .keys10))
-    (steps-inside (c .before .before .before .before .before .before .before .pre .4) (c .before .before .before .before .before .before .before .pre .5) 9 (c .before .before .before .before .match .keys10) refl)
+    (by-op (args .p .now) (laid (args .w .now) (args .h) (args .c)) (headWith (args .h) (args .c)) (args .a)
+    (c .before .before .before .before .match .keys10))
+    (steps-inside (c .before .before .before .before .before .before .before .pre .4)
+    (c .before .before .before .before .before .before .before .pre .5) 9
+    (c .before .before .before .before .match .keys10) refl)
     (c .before .before .end-of .ensures)
 
 returns-11 : tie.Need-returns-11
@@ -236,8 +273,12 @@ unfolding actOp opFunctions
 returns-18 c =
     let args = c .before .before .before .before .before .before .before .args in
     goes-in
-    (by-op (args .p .now) (laid (args .w .now) (args .h) (args .c)) (headWith (args .h) (args .c)) (args .a) (c .before .before .before .before .match .keys18))
-    (lands-inside (c .before .before .before .before .before .before .before .pre .4) (c .before .before .before .before .before .before .before .pre .5) 17 (c .before .before .before .before .match .keys18) tt (c .before .before .before .before .before .before .before .pre .2))
+    (by-op (args .p .now) (laid (args .w .now) (args .h) (args .c)) (headWith (args .h) (args .c)) (args .a)
+    (c .before .before .before .before .match .keys18))
+    (lands-inside (c .before .before .before .before .before .before .before .pre .4)
+    (c .before .before .before .before .before .before .before .pre .5) 17
+    (c .before .before .before .before .match .keys18) tt
+    (c .before .before .before .before .before .before .before .pre .2))
     (c .before .before .jump .ensures)
 
 same-length-9 : tie.Need-same-length-9
@@ -248,9 +289,15 @@ unfolding actOp opFunctions
 returns-19 c =
     let args = c .before .before .before .before .before .before .before .args in
     goes-in
-    (by-op (args .p .now) (laid (args .w .now) (args .h) (args .c)) (headWith (args .h) (args .c)) (args .a) (c .before .before .before .before .match .keys19))
-    (λ x y. ⊎-elim (lands-inside (c .before .before .before .before .before .before .before .pre .4) (c .before .before .before .before .before .before .before .pre .5) 18 (c .before .before .before .before .match .keys19) tt (c .before .before .before .before .before .before .before .pre .2) x)
-    (steps-inside (c .before .before .before .before .before .before .before .pre .4) (c .before .before .before .before .before .before .before .pre .5) 18 (c .before .before .before .before .match .keys19) refl x) y)
+    (by-op (args .p .now) (laid (args .w .now) (args .h) (args .c)) (headWith (args .h) (args .c)) (args .a)
+    (c .before .before .before .before .match .keys19))
+    (λ x y. ⊎-elim (lands-inside (c .before .before .before .before .before .before .before .pre .4)
+    (c .before .before .before .before .before .before .before .pre .5) 18
+    (c .before .before .before .before .match .keys19) tt
+    (c .before .before .before .before .before .before .before .pre .2) x)
+    (steps-inside (c .before .before .before .before .before .before .before .pre .4)
+    (c .before .before .before .before .before .before .before .pre .5) 18
+    (c .before .before .before .before .match .keys19) refl x) y)
     (c .before .before .jump-on-false .ensures)
 
 same-length-10 : tie.Need-same-length-10
@@ -261,8 +308,11 @@ unfolding actOp opFunctions
 returns-20 c =
     let args = c .before .before .before .before .before .before .before .args in
     goes-in
-    (by-op (args .p .now) (laid (args .w .now) (args .h) (args .c)) (headWith (args .h) (args .c)) (args .a) (c .before .before .before .before .match .keys20))
-    (steps-inside (c .before .before .before .before .before .before .before .pre .4) (c .before .before .before .before .before .before .before .pre .5) 19 (c .before .before .before .before .match .keys20) refl)
+    (by-op (args .p .now) (laid (args .w .now) (args .h) (args .c)) (headWith (args .h) (args .c)) (args .a)
+    (c .before .before .before .before .match .keys20))
+    (steps-inside (c .before .before .before .before .before .before .before .pre .4)
+    (c .before .before .before .before .before .before .before .pre .5) 19
+    (c .before .before .before .before .match .keys20) refl)
     (c .before .before .add .ensures)
 
 same-length-11 : tie.Need-same-length-11
@@ -273,8 +323,11 @@ unfolding actOp opFunctions
 returns-21 c =
     let args = c .before .before .before .before .before .before .before .args in
     goes-in
-    (by-op (args .p .now) (laid (args .w .now) (args .h) (args .c)) (headWith (args .h) (args .c)) (args .a) (c .before .before .before .before .match .keys21))
-    (steps-inside (c .before .before .before .before .before .before .before .pre .4) (c .before .before .before .before .before .before .before .pre .5) 20 (c .before .before .before .before .match .keys21) refl)
+    (by-op (args .p .now) (laid (args .w .now) (args .h) (args .c)) (headWith (args .h) (args .c)) (args .a)
+    (c .before .before .before .before .match .keys21))
+    (steps-inside (c .before .before .before .before .before .before .before .pre .4)
+    (c .before .before .before .before .before .before .before .pre .5) 20
+    (c .before .before .before .before .match .keys21) refl)
     (c .before .before .sub .ensures)
 
 same-length-12 : tie.Need-same-length-12
@@ -285,8 +338,11 @@ unfolding actOp opFunctions
 returns-22 c =
     let args = c .before .before .before .before .before .before .before .args in
     goes-in
-    (by-op (args .p .now) (laid (args .w .now) (args .h) (args .c)) (headWith (args .h) (args .c)) (args .a) (c .before .before .before .before .match .keys22))
-    (steps-inside (c .before .before .before .before .before .before .before .pre .4) (c .before .before .before .before .before .before .before .pre .5) 21 (c .before .before .before .before .match .keys22) refl)
+    (by-op (args .p .now) (laid (args .w .now) (args .h) (args .c)) (headWith (args .h) (args .c)) (args .a)
+    (c .before .before .before .before .match .keys22))
+    (steps-inside (c .before .before .before .before .before .before .before .pre .4)
+    (c .before .before .before .before .before .before .before .pre .5) 21
+    (c .before .before .before .before .match .keys22) refl)
     (c .before .before .eq .ensures)
 
 same-length-13 : tie.Need-same-length-13
@@ -297,8 +353,11 @@ unfolding actOp opFunctions
 returns-23 c =
     let args = c .before .before .before .before .before .before .before .args in
     goes-in
-    (by-op (args .p .now) (laid (args .w .now) (args .h) (args .c)) (headWith (args .h) (args .c)) (args .a) (c .before .before .before .before .match .keys23))
-    (steps-inside (c .before .before .before .before .before .before .before .pre .4) (c .before .before .before .before .before .before .before .pre .5) 22 (c .before .before .before .before .match .keys23) refl)
+    (by-op (args .p .now) (laid (args .w .now) (args .h) (args .c)) (headWith (args .h) (args .c)) (args .a)
+    (c .before .before .before .before .match .keys23))
+    (steps-inside (c .before .before .before .before .before .before .before .pre .4)
+    (c .before .before .before .before .before .before .before .pre .5) 22
+    (c .before .before .before .before .match .keys23) refl)
     (c .before .before .less .ensures)
 
 same-length-14 : tie.Need-same-length-14
@@ -309,8 +368,11 @@ unfolding actOp opFunctions
 returns-24 c =
     let args = c .before .before .before .before .before .before .before .args in
     goes-in
-    (by-op (args .p .now) (laid (args .w .now) (args .h) (args .c)) (headWith (args .h) (args .c)) (args .a) (c .before .before .before .before .match .keys24))
-    (steps-inside (c .before .before .before .before .before .before .before .pre .4) (c .before .before .before .before .before .before .before .pre .5) 23 (c .before .before .before .before .match .keys24) refl)
+    (by-op (args .p .now) (laid (args .w .now) (args .h) (args .c)) (headWith (args .h) (args .c)) (args .a)
+    (c .before .before .before .before .match .keys24))
+    (steps-inside (c .before .before .before .before .before .before .before .pre .4)
+    (c .before .before .before .before .before .before .before .pre .5) 23
+    (c .before .before .before .before .match .keys24) refl)
     (c .before .before .not .ensures)
 
 returns-25 : tie.Need-returns-25

@@ -21,7 +21,11 @@ mul-op : tie.Need-mul-op
 mul-op c = search needs
 
 shared-slice-read-op : tie.Need-shared-slice-read-op
-shared-slice-read-op c = omega (arith, words-there (c .before .before .before .before .pre .5) (c .before .before .before .before .pre .6) (c .before .before .before .before .pre .4))
+shared-slice-read-op c = omega (
+  arith,
+  words-there (c .before .before .before .before .pre .5)
+      (c .before .before .before .before .pre .6) (c .before .before .before .before .pre .4),
+)
 
 cast-op : tie.Need-cast-op
 cast-op c = search needs
@@ -33,7 +37,12 @@ mul-act : tie.Need-mul-act
 mul-act c = search needs
 
 shared-slice-read-act : tie.Need-shared-slice-read-act
-shared-slice-read-act c = omega (arith, words-there (c .before .before .before .before .before .before .pre .5) (c .before .before .before .before .before .before .pre .6) (c .before .before .before .before .before .before .pre .4))
+shared-slice-read-act c = omega (
+  arith,
+  words-there (c .before .before .before .before .before .before .pre .5)
+      (c .before .before .before .before .before .before .pre .6)
+      (c .before .before .before .before .before .before .pre .4),
+)
 
 act-requires : tie.Need-act-requires
 unfolding word
@@ -54,7 +63,9 @@ returns : tie.Need-returns
 unfolding word
 returns c =
     let pre = c .before .before .before .before .before .before .before .before .before .pre in
-    steps-on (c .before .before .before .before .before .before .before .before .before .args .p .now) (c .before .before .before .before .before .before .before .before .before .args .start) (pre .0) (pre .1) (pre .4) (op-kept (pre .5) (pre .6) (pre .4)) refl (c .before .before .act .ensures)
+    steps-on (c .before .before .before .before .before .before .before .before .before .args .p .now)
+    (c .before .before .before .before .before .before .before .before .before .args .start) (pre .0) (pre .1)
+    (pre .4) (op-kept (pre .5) (pre .6) (pre .4)) refl (c .before .before .act .ensures)
 
 pub step-on-spec : {M : Type 1} → statement M
 step-on-spec =
