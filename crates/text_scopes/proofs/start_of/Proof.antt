@@ -1,0 +1,20 @@
+-- `start_of` reads a place.
+use native.Mathlib.Omega.{arith}
+use borrow.Author.Needs.{needs}
+use Rattle.text_scopes.proofs.start_of.Statement.{statement}
+use Rattle.text_scopes.proofs.start_of.Tie as tie
+
+mul-result : tie.Need-mul-result
+mul-result c = search needs
+
+element-copy-out-result : tie.Need-element-copy-out-result
+element-copy-out-result c = search needs
+
+returns : tie.Need-returns
+returns c = search needs
+
+returns-2 : tie.Need-returns-2
+returns-2 c = λ h. absurd (omega arith)
+
+pub start-of-spec : {M : Type 1} → statement M
+start-of-spec = tie.close (tie.spec mul-result element-copy-out-result returns returns-2)
