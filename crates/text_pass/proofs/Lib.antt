@@ -1,0 +1,10 @@
+pub mod MeasurementLaws
+pub mod EffectLaws
+pub mod RestLaws
+pub mod WindowLaws
+pub mod WalkLaws
+pub mod SeenLaws
+pub mod ExprLaws
+pub mod StandLaws
+pub mod EndsLaws
+pub mod ArgumentLaws

@@ -1,0 +1,4 @@
+pub mod BasisCode
+pub mod EffectCode
+pub mod WindowCode
+pub mod WalkCode
