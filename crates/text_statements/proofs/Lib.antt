@@ -1,0 +1,4 @@
+pub mod Steps
+pub mod Blocks
+pub mod SimpleLaws
+pub mod CodeLaws
