@@ -1,0 +1,2 @@
+pub mod MethodLaws
+pub mod ProgramLaws
