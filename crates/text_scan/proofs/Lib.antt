@@ -1,0 +1,11 @@
+pub mod Holding
+pub mod WordKinds
+pub mod Opened
+pub mod Counting
+pub mod EventsExpr
+pub mod EventsCode
+pub mod EventsText
+pub mod Methods
+pub mod Faults
+pub mod SameFaults
+pub mod Numbers

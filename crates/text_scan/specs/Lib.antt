@@ -1,0 +1,4 @@
+pub mod Events
+pub mod ScanCode
+pub mod FaultsCode
+pub mod Standing
