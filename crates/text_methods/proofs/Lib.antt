@@ -1,0 +1,6 @@
+pub mod Tests
+pub mod Ending
+pub mod Counted
+pub mod Finding
+pub mod Found
+pub mod Slices

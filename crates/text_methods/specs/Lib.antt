@@ -1,0 +1,2 @@
+pub mod RowsCode
+pub mod MethodSays
