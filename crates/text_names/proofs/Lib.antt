@@ -1,0 +1,10 @@
+pub mod Tests
+pub mod ByRole
+pub mod Levels
+pub mod Lowest
+pub mod Merged
+pub mod Blocks
+pub mod Looking
+pub mod Calls
+pub mod Scanning
+pub mod Refused

@@ -1,0 +1,4 @@
+pub mod FoundCode
+pub mod FaultsCode
+pub mod FaultCode
+pub mod Answer

@@ -1,0 +1,137 @@
+// Whether a name is at fault where it stands.
+ghost use mathlib.Core.Path.{_≡_};
+ghost use mathlib.Core.Bool.{cond, false};
+ghost use Prim.Native.Nat.{_≤_};
+ghost use lib.Dec.{eqb, ltb};
+ghost use lib.ListN.{length};
+ghost use lib.Seq.{slice};
+ghost use Rattle.table.specs.Ops.{gateQubits};
+ghost use Rattle.text.specs.Tree.{numbered, gateNames};
+ghost use Rattle.text_methods.specs.RowsCode.{rowsOf, rowIndex};
+ghost use Rattle.text_names.specs.FaultCode.{isCallAt, isInvocationAt, isKnownAt, faultHere};
+use crate::level::found_level;
+use crate::level::level_of;
+use text_methods::arguments::count_arguments;
+use text_methods::find::find_row;
+use text_tokens::bytes::is_word;
+
+// The number of the gate of this name, 0 where it is no gate's.
+pub fn gate_number(text: &[u8], start: usize, end: usize) -> u8
+    ensures { λ r. ⌜ r ≡ numbered 1 (slice start end (now (text .entry))) gateNames ⌝ }
+{
+    if is_word(text, start, end, b"X") {
+        return 1;
+    }
+    if is_word(text, start, end, b"Y") {
+        return 2;
+    }
+    if is_word(text, start, end, b"Z") {
+        return 3;
+    }
+    if is_word(text, start, end, b"H") {
+        return 4;
+    }
+    if is_word(text, start, end, b"S") {
+        return 5;
+    }
+    if is_word(text, start, end, b"CX") {
+        return 6;
+    }
+    if is_word(text, start, end, b"CZ") {
+        return 7;
+    }
+    if is_word(text, start, end, b"SWAP") {
+        return 8;
+    }
+    0
+}
+
+// There is such a gate, and it takes n qubits.
+fn gate_takes(g: u8, n: usize) -> bool
+    ensures { λ r. ⌜ r ≡ cond (ltb 0 g) (eqb n (gateQubits g)) false ⌝ }
+{
+    if g == 0 {
+        return false;
+    }
+    if g <= 5 {
+        return n == 1;
+    }
+    n == 2
+}
+
+// A method has the name, and takes as many arguments as stand from `after` on.
+fn is_call(text: &[u8], start: usize, end: usize, after: usize) -> bool
+    requires { ⌜ (start ≤ end) × (end ≤ length (now text)) ⌝ }
+    ensures { λ r. ⌜ r ≡ isCallAt (now (text .entry)) (slice start end (now (text .entry))) after ⌝ }
+{
+    let m = find_row(text, &text[start..end]);
+    let n = count_arguments(text, after);
+    m.found & (n == m.params)
+}
+
+// The same; where no method has the name, a gate does.
+fn is_invocation(text: &[u8], start: usize, end: usize, after: usize) -> bool
+    requires { ⌜ (start ≤ end) × (end ≤ length (now text)) ⌝ }
+    ensures { λ r. ⌜ r ≡ isInvocationAt (now (text .entry)) (slice start end (now (text .entry))) after ⌝ }
+{
+    let m = find_row(text, &text[start..end]);
+    let n = count_arguments(text, after);
+    if m.found {
+        return n == m.params;
+    }
+    let g = gate_number(text, start, end);
+    gate_takes(g, n)
+}
+
+// An earlier method has the name, i methods being passed.
+fn is_repeated(text: &[u8], start: usize, end: usize, i: usize) -> bool
+    requires { ⌜ (start ≤ end) × (end ≤ length (now text)) ⌝ }
+    ensures { λ r. ⌜ r ≡ ltb (rowIndex (slice start end (now (text .entry))) (rowsOf (now (text .entry)))) i ⌝ }
+{
+    let m = find_row(text, &text[start..end]);
+    m.index < i
+}
+
+// The name is declared at this level or a deeper one, in the method whose tokens stand from a place on.
+fn is_known(text: &[u8], from: usize, least: usize, start: usize, end: usize) -> bool
+    ensures { λ r. ⌜ r ≡ isKnownAt (now (text .entry)) from least start end ⌝ }
+{
+    let level = found_level(text, from, start, least, start, end);
+    0 < level
+}
+
+// The name from start up to end, of role r, with a bracket up to `after` behind it.
+pub fn fault_here(
+    text: &[u8],
+    from: usize,
+    braces: usize,
+    i: usize,
+    r: u8,
+    start: usize,
+    end: usize,
+    after: usize,
+) -> bool
+    requires { ⌜ (start ≤ end) × (end ≤ length (now text)) ⌝ }
+    ensures { λ b. ⌜ b ≡ faultHere (now (text .entry)) from braces i r start end after ⌝ }
+{
+    if r == 1 {
+        return is_repeated(text, start, end, i);
+    }
+    if r == 2 {
+        let level = level_of(braces);
+        return is_known(text, from, level, start, end);
+    }
+    if r == 3 {
+        let known = is_known(text, from, 1, start, end);
+        return !known;
+    }
+    if r == 4 {
+        let call = is_call(text, start, end, after);
+        return !call;
+    }
+    if r == 5 {
+        let invocation = is_invocation(text, start, end, after);
+        return !invocation;
+    }
+    false
+}

@@ -1,0 +1,6 @@
+// Refusal 31 of a LanQ text (Paper 1), by places in its bytes: one loop over the tokens keeps the lowest place at
+// fault. Whether a name is in scope is found by going over its method's tokens once more.
+pub mod fault;
+pub mod level;
+pub mod refusal;
+pub mod scan;

@@ -1,0 +1,118 @@
+// The lowest place at which a name is at fault.
+ghost use mathlib.Core.Path.{_≡_};
+ghost use mathlib.Core.Bool.{cond, _||_};
+ghost use Prim.Native.Nat.{_^_, _<_};
+ghost use lib.Dec.{eqb};
+ghost use Rattle.text_names.specs.FaultsCode.{indexAfter, lowerOf, placeIf};
+ghost use Rattle.text_names.specs.FaultCode.{lowestFault, Refuses};
+ghost use Rattle.text_names.specs.Answer.{faultIn};
+use crate::fault::fault_here;
+use crate::scan::mode_after;
+use crate::scan::role;
+use text_methods::braces::braces_after;
+use text_methods::find::find_row;
+use text_tokens::kinds::END;
+use text_tokens::next::next_token;
+use text_types::place::next_kind;
+
+// A place, where there is one.
+pub struct LowestAt {
+    pub found: bool,
+    pub at: usize,
+}
+
+pub enum NameFault {
+    NoFault,
+    FaultAt(usize),
+}
+
+// The lower of two places, where there are any.
+fn lower_place(found: bool, low: usize, fault: bool, at: usize) -> usize
+    ensures { λ r. ⌜ placeIf (found || fault) r ≡ lowerOf (placeIf found low) (placeIf fault at) ⌝ }
+{
+    if !fault {
+        return low;
+    }
+    if !found {
+        return at;
+    }
+    if low <= at {
+        return low;
+    }
+    at
+}
+
+// A method's tokens are gone over from after its name on.
+fn from_after(r: u8, from: usize, end: usize) -> usize
+    ensures { λ n. ⌜ n ≡ cond (eqb r 1) end from ⌝ }
+{
+    if r == 1 {
+        return end;
+    }
+    from
+}
+
+fn index_after(r: u8, i: usize) -> usize
+    requires { ⌜ i < 2 ^ 63 ⌝ }
+    ensures { λ n. ⌜ n ≡ indexAfter r i ⌝ }
+{
+    if r == 1 {
+        return i + 1;
+    }
+    i
+}
+
+// Of all faults but a missing main.
+fn lowest_fault(text: &[u8]) -> LowestAt
+    ensures { λ r. ⌜ placeIf (r .found) (r .at) ≡ lowestFault (now (text .entry)) ⌝ }
+{
+    let mut at = 0;
+    let mut mode = 0;
+    let mut braces = 0;
+    let mut from = 0;
+    let mut index = 0;
+    let mut found = false;
+    let mut low = 0;
+    let mut kind = next_kind(text, at);
+    while kind != END {
+        let t = next_token(text, at);
+        let u = next_token(text, t.end);
+        let r = role(mode, braces, t.kind, u.kind);
+        let fault = fault_here(text, from, braces, index, r, t.start, t.end, u.end);
+        low = lower_place(found, low, fault, t.start);
+        found = found | fault;
+        from = from_after(r, from, t.end);
+        index = index_after(r, index);
+        mode = mode_after(mode, braces, t.kind);
+        braces = braces_after(braces, t.kind);
+        at = t.end;
+        kind = u.kind;
+    }
+    LowestAt {
+        found: found,
+        at: low,
+    }
+}
+
+fn answer(found: bool, at: usize) -> NameFault
+    ensures { λ r. ⌜ faultIn r ≡ placeIf found at ⌝ }
+{
+    if found {
+        return NameFault::FaultAt(at);
+    }
+    NameFault::NoFault
+}
+
+// "31 when a name is undeclared, declared twice in one block or twice as a method, or called with a wrong argument
+// count", at its lowest place; "a missing main is 31 at the text's end". The text is in the grammar.
+pub fn name_fault(text: &[u8]) -> NameFault
+    ensures { λ r. ⌜ Refuses (now (text .entry)) (faultIn r) ⌝ }
+{
+    let lowest = lowest_fault(text);
+    let main = find_row(text, b"main");
+    if main.found {
+        return answer(lowest.found, lowest.at);
+    }
+    let end = lower_place(lowest.found, lowest.at, true, text.len());
+    NameFault::FaultAt(end)
+}
