@@ -24,19 +24,19 @@ use Rattle.text_types.proofs.TypeLaws.{not-both, starts-kind}
 use Rattle.text_types.proofs.Finding.{or-none, or-assoc, found-one, found-append}
 
 -- which codes are those of channels
-plain-code : (t : Carried) → isChannel (typeCode (plain t)) ≡ false
+pub plain-code : (t : Carried) → isChannel (typeCode (plain t)) ≡ false
 unfolding typeCode carriedCode
 plain-code intType = refl
 plain-code booleanType = refl
 plain-code qbitType = refl
 
-channel-code : (t : Carried) → isChannel (typeCode (channelType t)) ≡ true
+pub channel-code : (t : Carried) → isChannel (typeCode (channelType t)) ≡ true
 unfolding typeCode carriedCode
 channel-code intType = refl
 channel-code booleanType = refl
 channel-code qbitType = refl
 
-end-code : (t : Carried) → isChannel (typeCode (endType t)) ≡ false
+pub end-code : (t : Carried) → isChannel (typeCode (endType t)) ≡ false
 unfolding typeCode carriedCode
 end-code intType = refl
 end-code booleanType = refl
@@ -46,7 +46,7 @@ marked : (b : Bool) → _≡_ {A = ℕ} (cond (eqb (cond b 1 0) 0) 0 2) (cond b 
 marked true = refl
 marked false = refl
 
-and-second : (a b : Bool) → a ≡ true → (a && b) ≡ false → b ≡ false
+pub and-second : (a b : Bool) → a ≡ true → (a && b) ≡ false → b ≡ false
 and-second a b e f = sym (rw e refl) ∙ f
 
 module _ (text x : List ℕ) where
@@ -110,14 +110,14 @@ module _ (text x : List ℕ) where
         off-at = later .off-at;
       })))))
 
-declared-append : (ds es : List Declaration) → declaredBy (ds ++ es) ≡ declaredBy ds ++ declaredBy es
+pub declared-append : (ds es : List Declaration) → declaredBy (ds ++ es) ≡ declaredBy ds ++ declaredBy es
 unfolding declaredBy
 declared-append [] es = refl
 declared-append (d ∷ ds) es =
     ap (λ us. declaredIn d ++ us) (declared-append ds es) ∙ sym
     (append-assoc (declaredIn d) (declaredBy ds) (declaredBy es))
 
-declared-one : (d : Declaration) → declaredBy (d ∷ []) ≡ declaredIn d
+pub declared-one : (d : Declaration) → declaredBy (d ∷ []) ≡ declaredIn d
 unfolding declaredBy
 declared-one d = append-nil (declaredIn d)
 

@@ -22,7 +22,7 @@ or-assoc zero b c = refl
 or-assoc (suc a) b c =
     let more = ne-eqb (suc a) 0 (λ e. omega arith) in rw (more, more) refl
 
-map-append : {A : Type 0} (f : A → Declared) (ys zs : List A) → map f (ys ++ zs) ≡ map f ys ++ map f zs
+pub map-append : {A : Type 0} (f : A → Declared) (ys zs : List A) → map f (ys ++ zs) ≡ map f ys ++ map f zs
 map-append f [] zs = refl
 map-append f (y ∷ ys) zs = ap (λ ds. f y ∷ ds) (map-append f ys zs)
 

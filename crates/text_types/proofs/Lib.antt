@@ -1,4 +1,5 @@
 pub mod Answers
+pub mod Every
 pub mod TypeLaws
 pub mod Finding
 pub mod NameLaws

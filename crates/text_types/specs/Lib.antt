@@ -1,3 +1,4 @@
 pub mod SaysCode
 pub mod Found
 pub mod FoundCode
+pub mod Every

@@ -18,7 +18,7 @@ use crate::types::starts_type;
 use text_tokens::kinds::WITHENDS;
 
 // The code of a channel.
-fn is_channel(code: u8) -> bool
+pub fn is_channel(code: u8) -> bool
     ensures { λ r. ⌜ r ≡ isChannel code ⌝ }
 {
     (16 < code) & (code < 32)

@@ -1,0 +1,3 @@
+pub mod NotedLaws
+pub mod ReadingLaws
+pub mod HeaderLaws
