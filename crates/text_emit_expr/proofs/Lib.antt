@@ -1,0 +1,15 @@
+pub mod CodeLaws
+pub mod RestLaws
+pub mod NameRest
+pub mod EndedRest
+pub mod StackLaws
+pub mod EndsLaws
+pub mod StateLaws
+pub mod FlushLaws
+pub mod PartLaws
+pub mod StepLaws
+pub mod OperandLaws
+pub mod NameSteps
+pub mod EndedSteps
+pub mod ExpressionLaws
+pub mod ArgumentLaws

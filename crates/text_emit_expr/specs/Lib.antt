@@ -1,0 +1,5 @@
+pub mod CodeBy
+pub mod RestCode
+pub mod EndsCode
+pub mod PartsCode
+pub mod Emitted
