@@ -1,0 +1,6 @@
+pub mod Numbered
+pub mod Quiet
+pub mod Words
+pub mod Outcomes
+pub mod Steps
+pub mod Forms

@@ -1,0 +1,2 @@
+pub mod StatementBy
+pub mod OutcomeCode
