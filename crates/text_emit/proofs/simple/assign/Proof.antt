@@ -1,0 +1,54 @@
+-- `assign`: its parts one after the other.
+use borrow.Author.Needs.{needs}
+use Rattle.text_emit.proofs.SimpleLaws.{assign-emits}
+use Rattle.text_emit.proofs.simple.assign.Statement.{statement}
+use Rattle.text_emit.proofs.simple.assign.Tie as tie
+
+next-token-requires : tie.Need-next-token-requires
+next-token-requires c κs = search needs
+
+pass-requires : tie.Need-pass-requires
+pass-requires c κs = search needs
+
+pass-requires-2 : tie.Need-pass-requires-2
+pass-requires-2 c κs = search needs
+
+expression-requires : tie.Need-expression-requires
+expression-requires c κs = search needs
+
+pass-requires-3 : tie.Need-pass-requires-3
+pass-requires-3 c κs = search needs
+
+slot-of-requires : tie.Need-slot-of-requires
+slot-of-requires c κs = search needs
+
+put-value-requires : tie.Need-put-value-requires
+put-value-requires c κs = search needs
+
+same-length : tie.Need-same-length
+same-length c = search needs
+
+same-length-2 : tie.Need-same-length-2
+same-length-2 c = search needs
+
+returns : tie.Need-returns
+returns c =
+    assign-emits _ _ _ _ _ _ _ _ _ _ _ _ _ _ _ (c .before .before .before .before .before .before .before .before .before .before .before .before .before .before .before .next-token .ensures) (c .before .before .before .before .before .before .before .before .before .before .before .before .before .before .pass .ensures) (c .before .before .before .before .before .before .before .before .before .before .before .before .before .pass2 .ensures)
+    (c .before .before .before .before .before .before .before .before .before .before .expression .ensures)
+    (c .before .before .before .before .before .pass3 .ensures)
+    (c .before .before .before .before .slot-of .ensures) (c .before .before .put-value .ensures)
+
+pub assign-spec : {M : Type 1} → statement M
+assign-spec =
+    tie.close
+    (tie.spec
+    next-token-requires
+    pass-requires
+    pass-requires-2
+    expression-requires
+    pass-requires-3
+    slot-of-requires
+    put-value-requires
+    same-length
+    same-length-2
+    returns)

@@ -1,0 +1,46 @@
+-- `measure`: its parts one after the other.
+use borrow.Author.Needs.{needs}
+use Rattle.text_emit.proofs.SimpleLaws.{measure-emits}
+use Rattle.text_emit.proofs.simple.measure.Statement.{statement}
+use Rattle.text_emit.proofs.simple.measure.Tie as tie
+
+measured-requires : tie.Need-measured-requires
+measured-requires c κs = search needs
+
+pass-requires : tie.Need-pass-requires
+pass-requires c κs = search needs
+
+slot-of-requires : tie.Need-slot-of-requires
+slot-of-requires c κs = search needs
+
+put-requires : tie.Need-put-requires
+put-requires c κs = search needs
+
+put-requires-2 : tie.Need-put-requires-2
+put-requires-2 c κs = search needs
+
+put-requires-3 : tie.Need-put-requires-3
+put-requires-3 c κs = search needs
+
+same-length : tie.Need-same-length
+same-length c = search needs
+
+returns : tie.Need-returns
+returns c =
+    measure-emits _ _ _ _ _ _ _ _ (c .before .before .before .before .before .before .before .before .before .before .before .before .before .before .measured .result .start) (c .before .before .before .before .before .before .before .before .before .before .before .before .before .before .measured .result .end) (c .before .before .before .before .before .before .before .before .before .before .before .before .before .before .measured .result .at) _ _ _ _ _ _
+    (c .before .before .before .before .before .before .before .before .before .before .before .before .before .before .measured .ensures .0) (c .before .before .before .before .before .before .before .before .before .before .before .before .slot-of .ensures) (c .before .before .before .before .before .before .before .before .before .before .before .before .before .pass .ensures)
+    (c .before .before .before .before .before .before .before .before .before .before .put .ensures)
+    (c .before .before .before .before .before .before .put2 .ensures) (c .before .before .put3 .ensures)
+
+pub measure-spec : {M : Type 1} → statement M
+measure-spec =
+    tie.close
+    (tie.spec
+    measured-requires
+    pass-requires
+    slot-of-requires
+    put-requires
+    put-requires-2
+    put-requires-3
+    same-length
+    returns)
