@@ -1,0 +1,6 @@
+pub mod Frames
+pub mod LevelLaws
+pub mod BranchLaws
+pub mod StatementsLaws
+pub mod BlockLaws
+pub mod ClearLaws
