@@ -78,12 +78,12 @@ unfolding marked
 marked-length p zero ts = refl
 marked-length p (suc n) ts = marks-length _ _ (marked p n ts) ∙ marked-length p n ts
 
-any-last : {A : Type 0} (f : A → Bool) (xs : List A) (x : A) → any f (xs ++ x ∷ []) ≡ (any f xs || f x)
+pub any-last : {A : Type 0} (f : A → Bool) (xs : List A) (x : A) → any f (xs ++ x ∷ []) ≡ (any f xs || f x)
 any-last f [] x = or-false (f x)
 any-last f (y ∷ ys) x = ap (λ b. f y || b) (any-last f ys x) ∙ sym (or-assoc (f y) (any f ys) (f x))
 
 -- what one more mark does at index i
-mark-at : (b : Bool) (target : ℕ) (us : List ℕ) (i : ℕ) → i < length us
+pub mark-at : (b : Bool) (target : ℕ) (us : List ℕ) (i : ℕ) → i < length us
     → ltb 0 (getD (cond b (set us target 1) us) i 0) ≡ (ltb 0 (getD us i 0) || (b && eqb target i))
 mark-at false target us i h = sym (or-false (ltb 0 (getD us i 0)))
 mark-at true target us i h = at-target (ℕ-discrete target i)

@@ -12,7 +12,7 @@ ghost use Rattle.table.proofs.Accepted.{Sizes, Pairs};
 ghost use Rattle.check_arguments.specs.LimitsCode.{limitsFor};
 ghost use Rattle.check_arguments.specs.MarksCode.{marks, marked};
 
-mod ranges;
+pub mod ranges;
 
 use check_instructions::owner::Owner;
 use check_instructions::words::arg_at;

@@ -50,10 +50,10 @@ result-passes (some gs) rest bare b =
     both-pass (leb (length (gs ++ rest)) 8) (not bare || isNil (gs ++ rest)) b (some (gs ++ rest))
 
 -- those that the operands do not decide
-abbrev free : List ℕ → ℕ → Bool
+abbrev pub free : List ℕ → ℕ → Bool
 free p i = (not (isTarget p i) || isNil (before p i)) && (not (isLast p i) || opThere p i .closes)
 
-read-on : (p : List ℕ) (i : ℕ)
+pub read-on : (p : List ℕ) (i : ℕ)
     → readOn p i ≡ cond (free p i) (stepped p (ownerOf p i) (opAt p i) (argAt p i) (before p i)) none
 unfolding readOn reads after stepped stepOf givenAt takenAt
 read-on p i = result-passes (givenAt p i (before p i)) (drop (takenAt p i) (before p i)) (opThere p i .bare) (free p i)
@@ -64,12 +64,12 @@ above-zero : (t : ℕ) → ltb 0 t ≡ not (eqb t 0)
 above-zero zero = refl
 above-zero (suc t) = rw (leb·suc-suc 0 t, leb·zero t, eqb·suc-zero t)
 
-none-in : (n w : ℕ) → isNil (typesIn n w) ≡ eqb n 0
+pub none-in : (n w : ℕ) → isNil (typesIn n w) ≡ eqb n 0
 unfolding typesIn
 none-in zero w = refl
 none-in (suc n) w = sym (eqb·suc-zero n)
 
-not-both : (a b : Bool) → (not a || not b) ≡ not (a && b)
+pub not-both : (a b : Bool) → (not a || not b) ≡ not (a && b)
 not-both true b = refl
 not-both false b = refl
 
@@ -120,7 +120,7 @@ module _ (p : List ℕ) (count : ℕ) (o : Owner) (i target : ℕ) (q : Pending)
 
 -- From one instruction to the next
 
-outcome-some : (n w : ℕ) (ts : List ℕ) → resultOf n w ≡ some ts → (n ≤ 8) × (typesIn n w ≡ ts)
+pub outcome-some : (n w : ℕ) (ts : List ℕ) → resultOf n w ≡ some ts → (n ≤ 8) × (typesIn n w ≡ ts)
 unfolding resultOf
 outcome-some n w ts e = ⊎-elim few many (decide (leb n 8))
   where

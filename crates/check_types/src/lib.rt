@@ -7,8 +7,8 @@ ghost use Rattle.table.specs.Reading.{reads};
 ghost use Rattle.check_types.specs.PendingCode.{Held, resultIn};
 ghost use Rattle.check_types.specs.ReadOnCode.{readOn, ReadingPoint, FirstFour};
 
-mod pending;
-mod steps;
+pub mod pending;
+pub mod steps;
 
 use check_instructions::owner::Owner;
 use check_instructions::words::arg_at;
@@ -17,7 +17,7 @@ use pending::Pending;
 use steps::step;
 
 // Whether the op may be the last of its method.
-fn closes(op: usize) -> bool
+pub fn closes(op: usize) -> bool
     ensures { λ r. ⌜ r ≡ opOf op .closes ⌝ }
 {
     (op == 13) | (op == 17)

@@ -56,7 +56,7 @@ start-of ms (suc n) l =
     end-of ms n m e ∙ sym (codeBefore-next ms ms n m e)
 
 -- every method has an instruction, at least the RET that it ends on
-closing-some : (o : Option NonVoidType) (hole : ℕ) → 1 ≤ length (closing o hole)
+pub closing-some : (o : Option NonVoidType) (hole : ℕ) → 1 ≤ length (closing o hole)
 unfolding closing
 closing-some none hole = omega arith
 closing-some (some t) hole = omega arith

@@ -39,7 +39,7 @@ type-code (endType booleanType) = (tt, tt)
 type-code (endType qbitType) = (tt, tt)
 
 -- a return type's code is a type
-return-code : (o : Option NonVoidType) → T (isType (returnCode o))
+pub return-code : (o : Option NonVoidType) → T (isType (returnCode o))
 unfolding isType returnCode
 return-code none = tt
 return-code (some t) = type-code t .0
@@ -85,13 +85,13 @@ all-at P (x ∷ xs) zero d a h = a .0
 all-at P (x ∷ xs) (suc n) d a h = all-at P xs n d (a .1) (omega arith)
 
 -- the code of each slot is a type: 0 past the slots that are used
-slot-type : (m : Method) (s : ℕ) → T (isType (getD (slotCodes m) s 0))
+pub slot-type : (m : Method) (s : ℕ) → T (isType (getD (slotCodes m) s 0))
 unfolding isType
 slot-type m s =
     All-getD (λ t. T (isType t)) (slotCodes m) s 0 (All-implies _ _ (λ t h. h .0) (slotCodes m) (slot-codes m)) tt
 
 -- a parameter's is not 0
-parameter-type : (m : Method) (s : ℕ) → s < length (m .parameters) → T (not (eqb (getD (slotCodes m) s 0) 0))
+pub parameter-type : (m : Method) (s : ℕ) → s < length (m .parameters) → T (not (eqb (getD (slotCodes m) s 0) 0))
 parameter-type m s l = all-at IsCode (slotCodes m) s 0 (slot-codes m) (omega (arith, parameters-within m)) .1
 
 -- The row

@@ -1,0 +1,10 @@
+pub mod TwoRows
+pub mod ByRows
+pub mod Jumps
+pub mod Single
+pub mod Judgement
+pub mod Marking
+pub mod Judging
+pub mod Copying
+pub mod Resuming
+pub mod AtHand

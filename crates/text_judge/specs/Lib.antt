@@ -1,0 +1,3 @@
+pub mod RowsCode
+pub mod JudgeCode
+pub mod ResumeCode
