@@ -1,0 +1,23 @@
+-- `callee_row` reads the header of the first method of the name.
+use Rattle.text_judged.proofs.Stepping.{header-at}
+use borrow.Author.Needs.{needs}
+use Rattle.text_judged.proofs.callee.callee_row.Statement.{statement}
+use Rattle.text_judged.proofs.callee.callee_row.Tie as tie
+
+next-token-requires : tie.Need-next-token-requires
+next-token-requires c κs = search needs
+
+find-method-requires : tie.Need-find-method-requires
+find-method-requires c κs = (c .next-token .ensures .ends, c .next-token .ensures .within (c .before .before .pre))
+
+header-row-requires : tie.Need-header-row-requires
+header-row-requires c κs = search needs
+
+returns : tie.Need-returns
+returns c =
+    header-at _ _ _ (c .before .before .next-token .ensures) _ _ _ _ (c .before .find-method .ensures) _
+    (c .header-row .ensures)
+
+pub callee-row-spec : {M : Type 1} → statement M
+callee-row-spec =
+    tie.close (tie.spec next-token-requires find-method-requires header-row-requires returns)
