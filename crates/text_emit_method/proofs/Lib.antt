@@ -1,0 +1,4 @@
+pub mod HeaderLaws
+pub mod BodyLaws
+pub mod EndLaws
+pub mod MethodLaws
