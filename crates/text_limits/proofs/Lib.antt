@@ -1,0 +1,4 @@
+pub mod Within
+pub mod Emission
+pub mod Onward
+pub mod Measuring

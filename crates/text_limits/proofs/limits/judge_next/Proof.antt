@@ -1,0 +1,79 @@
+-- `judge_next` judges the method, and keeps what the table needs of it.
+use native.Mathlib.Omega.{arith}
+use mathlib.Core.Path.{sym}
+use borrow.Author.Needs.{needs}
+use borrow.Author.Tests.{not-true, not-false}
+use Rattle.text_limits.proofs.Measuring.{few, row-long, none-kept, both-kept}
+use Rattle.text_limits.proofs.limits.judge_next.Statement.{statement}
+use Rattle.text_limits.proofs.limits.judge_next.Tie as tie
+
+judge-method-requires : tie.Need-judge-method-requires
+judge-method-requires c κs = search needs
+
+same-length : tie.Need-same-length
+same-length c = search needs
+
+same-length-2 : tie.Need-same-length-2
+same-length-2 c = search needs
+
+returns : tie.Need-returns
+returns c =
+    let call = c .before .before .before .before .before .before in
+    λ h. none-kept _ _ _ _ h _ _ _ _ _ _ _ _ _ (call .judge-method .ensures h) (not-true _ (c .if1 .taken))
+
+slice-aggregate-keep : tie.Need-slice-aggregate-keep
+slice-aggregate-keep c =
+    let call = c .before .before .before .before .before .before .before .before .before in
+    let start = call .before .before .before .before .before .before .before .before .before .before in
+    let h = start .pre .0 in
+    let ok = not-false _ (c .before .before .before .if1 .left) in
+    sym (row-long _ _ _ _ h _ _ _ _ _ (call .judge-method .ensures h) ok)
+
+keep-requires : tie.Need-keep-requires
+keep-requires c κs =
+    let call = c .before .before .before .before .before .before .before .before .before in
+    let start = call .before .before .before .before .before .before .before .before .before .before in
+    let h = start .pre .0 in
+    let ok = not-false _ (c .before .before .before .if1 .left) in
+    let small = few _ _ _ _ h _ _ _ _ _ (call .judge-method .ensures h) ok in (
+      small .0,
+      omega (arith, small .1),
+      start .pre .5,
+      start .pre .6,
+      row-long _ _ _ _ h _ _ _ _ _ (call .judge-method .ensures h) ok,
+    )
+
+same-length-3 : tie.Need-same-length-3
+same-length-3 c = search needs
+
+same-length-4 : tie.Need-same-length-4
+same-length-4 c = search needs
+
+same-length-5 : tie.Need-same-length-5
+same-length-5 c = search needs
+
+same-length-6 : tie.Need-same-length-6
+same-length-6 c = search needs
+
+returns-2 : tie.Need-returns-2
+returns-2 c =
+    let keeping = c .before .before .before .before in
+    let call = keeping .before .before .before .before .before .before .before .before .before .before in
+    λ h. both-kept _ _ _ _ h _ _ _ _ _ _ _ _ _ (call .judge-method .ensures h) (keeping .keep .ensures .0)
+    (keeping .keep .ensures .1)
+
+pub judge-next-spec : {M : Type 1} → statement M
+judge-next-spec =
+    tie.close
+    (tie.spec
+    judge-method-requires
+    same-length
+    same-length-2
+    returns
+    slice-aggregate-keep
+    keep-requires
+    same-length-3
+    same-length-4
+    same-length-5
+    same-length-6
+    returns-2)

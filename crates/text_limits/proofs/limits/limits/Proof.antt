@@ -1,0 +1,177 @@
+-- `limits` judges one method after the other.
+use Prim.Native.Nat.{_-_, _≤_, _<_}
+use native.Mathlib.Omega.{arith}
+use mathlib.Core.Path.{_≡_, refl, _∙_}
+use lib.ListN.{length}
+use borrow.Author.Needs.{needs}
+use borrow.Author.Tests.{not-true, not-false}
+use Rattle.text_limits.specs.LimitsCode.{WellNamed}
+use Rattle.text_limits.specs.MeasuresCode.{Progress}
+use Rattle.text_limits.proofs.Measuring.{at-first, here, bounded, onward, stops, at-last}
+use Rattle.text_limits.proofs.limits.limits.Statement.{statement}
+use Rattle.text_limits.proofs.limits.limits.Tie as tie
+
+abbrev Inv-loop : tie.InvT-loop
+Inv-loop text pending₀ code₀ lengths₀ rows₀ n at₀ k₀ total₀ pending code lengths rows at k total =
+    (length pending ≡ length pending₀) × (length code ≡ length code₀) × (length lengths ≡ length lengths₀)
+    × (length rows ≡ length rows₀) × (k ≤ 32) × (total ≤ 4096)
+    × ((w : WellNamed text) → Progress text (w .program) at k total lengths rows)
+
+abbrev μ-loop : tie.MeasureT-loop
+μ-loop text pending₀ code₀ lengths₀ rows₀ n at₀ k₀ total₀ pending code lengths rows at k total = n - k
+
+method-count-requires : tie.Need-method-count-requires Inv-loop μ-loop
+method-count-requires c κs = search needs
+
+loop-holds : tie.Need-loop-holds Inv-loop μ-loop
+loop-holds c = (refl, refl, refl, refl, omega arith, omega arith, λ w. at-first _ w _ _)
+
+judge-next-requires : tie.Need-judge-next-requires Inv-loop μ-loop
+judge-next-requires c κs =
+    let turn = c .before .before .before .before in
+    let known = turn .before .loop .inv in
+    let counted = turn .before .before in
+    let start = counted .before .before .before .before .before .before in
+    let w = start .pre .0 in
+    let n = counted .method-count .ensures (w .program) (w .left) (w .reads) in (
+      here _ w _ _ _ _ _ (known .6 w) (omega (arith, n, turn .loop-test .taken)),
+      known .4,
+      known .5,
+      omega (arith, known .0, start .pre .1),
+      omega (arith, known .1, start .pre .2),
+      omega (arith, known .2, start .pre .3),
+      omega (arith, known .3, start .pre .4),
+    )
+
+same-length : tie.Need-same-length Inv-loop μ-loop
+same-length c =
+    let call = c .before .before .before .before .before .before .before .before .before .before in
+    let known = call .before .before .before .before .before .before .loop .inv in
+    c .before .before .before .before .before .before .before .before .before .pending .given ∙ known .0
+
+same-length-2 : tie.Need-same-length-2 Inv-loop μ-loop
+same-length-2 c =
+    let call = c .before .before .before .before .before .before .before .before .before .before in
+    let known = call .before .before .before .before .before .before .loop .inv in
+    c .before .before .before .before .before .before .before .code .given ∙ known .1
+
+same-length-3 : tie.Need-same-length-3 Inv-loop μ-loop
+same-length-3 c =
+    let call = c .before .before .before .before .before .before .before .before .before .before in
+    let known = call .before .before .before .before .before .before .loop .inv in
+    c .before .before .before .before .before .lengths .given ∙ known .2
+
+same-length-4 : tie.Need-same-length-4 Inv-loop μ-loop
+same-length-4 c =
+    let call = c .before .before .before .before .before .before .before .before .before .before in
+    let known = call .before .before .before .before .before .before .loop .inv in
+    c .before .before .before .rows .given ∙ known .3
+
+returns : tie.Need-returns Inv-loop μ-loop
+returns c =
+    let call = c .before .before .before .before .before .before .before .before .before .before in
+    let turn = call .before .before .before .before .before in
+    let known = turn .before .loop .inv in
+    let counted = turn .before .before in
+    λ w. let n = counted .method-count .ensures (w .program) (w .left) (w .reads) in
+    let l : turn .before .loop .k < length (w .program) = omega (arith, n, turn .loop-test .taken) in
+    stops _ w _ _ _ _ _ (known .6 w) l _ _ _ _ _ _ (call .judge-next .ensures (here _ w _ _ _ _ _ (known .6 w) l))
+    (not-true _ (c .if1 .taken)) _ _
+
+add-total : tie.Need-add-total Inv-loop μ-loop
+add-total c =
+    let call = c .before .before .before .before .before .before .before .before .before .before .before in
+    let turn = call .before .before .before .before .before in
+    let known = turn .before .loop .inv in
+    let counted = turn .before .before in
+    let start = counted .before .before .before .before .before .before in
+    let w = start .pre .0 in
+    let n = counted .method-count .ensures (w .program) (w .left) (w .reads) in
+    let l : turn .before .loop .k < length (w .program) = omega (arith, n, turn .loop-test .taken) in
+    let j = call .judge-next .ensures (here _ w _ _ _ _ _ (known .6 w) l) in
+    let small = bounded _ w _ _ _ _ _ (known .6 w) l _ _ _ _ _ _ j (not-false _ (c .before .if1 .left)) in
+    omega (arith, small .1)
+
+add-k : tie.Need-add-k Inv-loop μ-loop
+add-k c =
+    let call = c .before .before .before .before .before .before .before .before .before .before .before in
+    let turn = call .before .before .before .before .before in
+    let known = turn .before .loop .inv in
+    let counted = turn .before .before in
+    omega (arith, known .4)
+
+loop-less : tie.Need-loop-less Inv-loop μ-loop
+loop-less c =
+    let call = c .before .before .before .before .before .before .before .before .before .before .before in
+    let turn = call .before .before .before .before .before in
+    let known = turn .before .loop .inv in
+    let counted = turn .before .before in
+    omega (arith, turn .loop-test .taken)
+
+loop-again : tie.Need-loop-again Inv-loop μ-loop
+loop-again c =
+    let call = c .before .before .before .before .before .before .before .before .before .before .before in
+    let turn = call .before .before .before .before .before in
+    let known = turn .before .loop .inv in
+    let counted = turn .before .before in
+    let start = counted .before .before .before .before .before .before in
+    let w = start .pre .0 in
+    let n = counted .method-count .ensures (w .program) (w .left) (w .reads) in
+    let l : turn .before .loop .k < length (w .program) = omega (arith, n, turn .loop-test .taken) in
+    let j = call .judge-next .ensures (here _ w _ _ _ _ _ (known .6 w) l) in
+    let small = bounded _ w _ _ _ _ _ (known .6 w) l _ _ _ _ _ _ j (not-false _ (c .before .if1 .left)) in (
+      c .before .before .before .before .before .before .before .before .before .before .pending .given ∙ known .0,
+      c .before .before .before .before .before .before .before .before .code .given ∙ known .1,
+      c .before .before .before .before .before .before .lengths .given ∙ known .2,
+      c .before .before .before .before .rows .given ∙ known .3,
+      omega (arith, small .0),
+      small .1,
+      λ v. let n′ = counted .method-count .ensures (v .program) (v .left) (v .reads) in
+          let l′ : turn .before .loop .k < length (v .program) = omega (arith, n′, turn .loop-test .taken) in
+          onward _ v _ _ _ _ _ (known .6 v) l′ _ _ _ _ _ _
+          (call .judge-next .ensures (here _ v _ _ _ _ _ (known .6 v) l′)) (not-false _ (c .before .if1 .left))
+          (omega (arith, known .2, start .pre .3)) (omega (arith, known .3, start .pre .4)),
+    )
+
+same-length-5 : tie.Need-same-length-5 Inv-loop μ-loop
+same-length-5 c = c .before .loop .inv .0
+
+same-length-6 : tie.Need-same-length-6 Inv-loop μ-loop
+same-length-6 c = c .before .loop .inv .1
+
+same-length-7 : tie.Need-same-length-7 Inv-loop μ-loop
+same-length-7 c = c .before .loop .inv .2
+
+same-length-8 : tie.Need-same-length-8 Inv-loop μ-loop
+same-length-8 c = c .before .loop .inv .3
+
+returns-2 : tie.Need-returns-2 Inv-loop μ-loop
+returns-2 c =
+    let known = c .before .loop .inv in
+    λ w. at-last _ _ _ _ _ _ _ (known .6 w)
+    (omega (arith, c .loop-test .left, c .before .before .method-count .ensures (w .program) (w .left) (w .reads)))
+    (known .4) (known .5)
+
+pub limits-spec : {M : Type 1} → statement M
+limits-spec =
+    tie.close
+    (tie.spec
+    Inv-loop
+    μ-loop
+    method-count-requires
+    loop-holds
+    judge-next-requires
+    same-length
+    same-length-2
+    same-length-3
+    same-length-4
+    returns
+    add-total
+    add-k
+    loop-less
+    loop-again
+    same-length-5
+    same-length-6
+    same-length-7
+    same-length-8
+    returns-2)

@@ -1,0 +1,2 @@
+pub mod LimitsCode
+pub mod MeasuresCode

@@ -1,0 +1,109 @@
+// The limits of all methods of a text, one after the other.
+ghost use mathlib.Core.Path.{_≡_};
+ghost use Prim.Native.Nat.{_+_, _*_, _<_, _≤_};
+ghost use lib.ListN.{length, set};
+ghost use Rattle.text_judge.specs.RowsCode.{copied};
+ghost use Rattle.text_limits.specs.LimitsCode.{WellNamed, MethodThere};
+ghost use Rattle.text_limits.specs.MeasuresCode.{Judgement, LimitsSay};
+use crate::method::Verdict;
+use crate::method::judge_method;
+use text_methods::find::method_count;
+
+// A row copied among the rows, from word `at` on.
+fn put_row(rows: &mut [u16], at: usize, row: &[u16])
+    requires { ⌜ (length (now row) ≡ 18) × (at + 18 ≤ length (now rows)) ⌝ }
+    ensures { λ r. ⌜ now (rows .exit) ≡ copied (now (rows .entry)) at (now (row .entry)) 18 ⌝ }
+{
+    let mut i = 0;
+    while i < 18 {
+        rows[at + i] = row[i];
+        i += 1;
+    }
+}
+
+// The length and the row of method k, kept for when the table is written.
+fn keep(lengths: &mut [u16], rows: &mut [u16], k: usize, long: usize, row: &[u16])
+    requires { ⌜ (k < 32) × (long ≤ 4096) × (32 ≤ length (now lengths)) × (576 ≤ length (now rows))
+        × (length (now row) ≡ 18) ⌝ }
+    ensures { λ r. ⌜ (now (lengths .exit) ≡ set (now (lengths .entry)) k long)
+        × (now (rows .exit) ≡ copied (now (rows .entry)) (18 * k) (now (row .entry)) 18) ⌝ }
+{
+    lengths[k] = long as u16;
+    put_row(rows, 18 * k, row);
+}
+
+// The next method: where no limit is passed with it, its length and its row are kept.
+fn judge_next(
+    text: &[u8],
+    at: usize,
+    k: usize,
+    total: usize,
+    pending: &mut [usize],
+    code: &mut [usize],
+    lengths: &mut [u16],
+    rows: &mut [u16],
+) -> Verdict
+    requires { ⌜ MethodThere (now text) at k × (k ≤ 32) × (total ≤ 4096) × (12288 ≤ length (now pending))
+        × (8192 ≤ length (now code)) × (32 ≤ length (now lengths)) × (576 ≤ length (now rows)) ⌝ }
+    ensures { λ r. ⌜ ((h : MethodThere (now (text .entry)) at k)
+        → Judgement (now (text .entry)) at k h total (r .ok) (r .at) (r .start) (r .long) (now (lengths .entry))
+        (now (rows .entry)) (now (lengths .exit)) (now (rows .exit))) ⌝ }
+{
+    let mut row = [0u16; 18];
+    let mut scope = [0usize; 64];
+    let v = judge_method(text, at, k, total, &mut row, &mut scope, pending, code);
+    if !v.ok {
+        return v;
+    }
+    keep(lengths, rows, k, v.long, &row);
+    v
+}
+
+// Whether no limit is passed, and how many methods and instructions there are; else the place of the name of the first
+// method with which one is passed.
+pub struct LimitsAt {
+    pub ok: bool,
+    pub at: usize,
+    pub methods: usize,
+    pub instructions: usize,
+}
+
+// The methods are judged in text order.
+pub fn limits(
+    text: &[u8],
+    pending: &mut [usize],
+    code: &mut [usize],
+    lengths: &mut [u16],
+    rows: &mut [u16],
+) -> LimitsAt
+    requires { ⌜ WellNamed (now text) × (12288 ≤ length (now pending)) × (8192 ≤ length (now code))
+        × (32 ≤ length (now lengths)) × (576 ≤ length (now rows)) ⌝ }
+    ensures { λ r. ⌜ ((w : WellNamed (now (text .entry)))
+        → LimitsSay (w .program) (r .ok) (r .at) (r .methods) (r .instructions) (now (lengths .exit))
+        (now (rows .exit))) ⌝ }
+{
+    let n = method_count(text);
+    let mut at = 0;
+    let mut k = 0;
+    let mut total = 0;
+    while k < n {
+        let v = judge_next(text, at, k, total, pending, code, lengths, rows);
+        if !v.ok {
+            return LimitsAt {
+                ok: false,
+                at: v.start,
+                methods: k,
+                instructions: total,
+            };
+        }
+        at = v.at;
+        total += v.long;
+        k += 1;
+    }
+    LimitsAt {
+        ok: true,
+        at: at,
+        methods: k,
+        instructions: total,
+    }
+}
