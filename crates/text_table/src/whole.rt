@@ -1,0 +1,66 @@
+// The whole table.
+ghost use mathlib.Core.Path.{_≡_};
+ghost use Prim.Native.Nat.{_≤_, _<_};
+ghost use lib.ListN.{length};
+ghost use Rattle.lists.specs.Lists.{putFrom};
+ghost use Rattle.text.specs.Tree.{Program};
+ghost use Rattle.text.specs.Statement.{textTable};
+ghost use Rattle.text_put.specs.TableCode.{Writes};
+ghost use Rattle.text_put.specs.Measures.{TableText, Measures};
+ghost use Rattle.text_table.specs.WrittenCode.{headWords};
+use crate::code::put_method;
+use crate::code::put_others;
+use text_methods::find::find_main;
+use text_put::words::put_pair;
+use text_put::words::put_pairs;
+use text_put::words::put_rows;
+
+// The words before the code.
+fn put_head(
+    main: usize,
+    methods: usize,
+    instructions: usize,
+    lengths: &[u16],
+    rows: &[u16],
+    table: &mut [u16],
+) -> usize
+    requires { ⌜ (length (now rows) ≡ 576) × (methods ≤ 32) × (main < 32) ⌝ }
+    ensures { λ r. ⌜
+        Writes (now (table .entry)) 0
+        (headWords methods instructions (now (lengths .entry)) (now (rows .entry)) main) (now (table .exit)) r ⌝ }
+{
+    let i = put_pair(table, 0, methods, instructions);
+    let j = put_pairs(lengths, main, methods, table, i);
+    put_rows(rows, main, methods, table, j)
+}
+
+// The table of a text that is refused neither by 30, 31 nor 32, from the lengths and rows of its methods in text order;
+// the answer is how many words it has.
+pub fn write_table(
+    text: &[u8],
+    methods: usize,
+    instructions: usize,
+    lengths: &[u16],
+    rows: &[u16],
+    pending: &mut [usize],
+    code: &mut [usize],
+    table: &mut [u16],
+) -> usize
+    requires { ⌜ (length (now rows) ≡ 576) × (12288 ≤ length (now pending)) × (8192 ≤ length (now code)) ⌝ }
+    ensures { λ r. ⌜
+        ((ns : Program) → TableText (now (text .entry)) ns
+        → Measures ns methods instructions (now (lengths .entry)) (now (rows .entry))
+        → (now (table .exit) ≡ putFrom (now (table .entry)) 0 (textTable ns)) × (r ≡ length (textTable ns))) ⌝ }
+{
+    let m = find_main(text);
+    let main = m.index;
+    if 32 < methods {
+        return 0;
+    }
+    if 31 < main {
+        return 0;
+    }
+    let i = put_head(main, methods, instructions, lengths, rows, table);
+    let n = put_method(text, main, m.at, false, pending, code, table, i);
+    put_others(text, main, methods, pending, code, table, n.to)
+}
