@@ -46,12 +46,12 @@ split-at text at t n f =
 -- a row for the name t, and the rows after it, by the places of t and of the token after it
 module _ (text : List ℕ) (at h b : ℕ) (t u : TokenAt) (n : NextToken text at t) (m : NextToken text (t .end) u)
     (f : nextKind text at ≡ 32 → ⊥) where
-  later : List Row
+  pub later : List Row
   later =
       rowsFrom (tokensAt text (cond (endsMethod b (t .kind)) (t .end) h)) (bracesAfter b (t .kind))
       (tokensAt text (t .end))
 
-  row : Row
+  unfoldable pub row : Row
   row = record {
     name = nameOf (tokenOf text (t .start) (t .end));
     count = argumentCount (tokensAt text (u .end));
@@ -102,8 +102,18 @@ module _ (text : List ℕ) (at h b : ℕ) (t u : TokenAt) (n : NextToken text at
             tokens = tokensAt text h;
           } ∷ after) after
 
+  -- the rows after it, by what the code knows at the next place
+  pub later-at : (k h′ b′ : ℕ) → k ≡ t .kind → h′ ≡ cond (endsMethod b k) (t .end) h → b′ ≡ bracesAfter b k
+      → later ≡ rowsFrom (tokensAt text h′) b′ (tokensAt text (t .end))
+  unfolding later
+  later-at k h′ b′ kk hh bb =
+      let us = tokensAt text (t .end) in
+      ap (λ (j : ℕ). rowsFrom (tokensAt text (cond (endsMethod b j) (t .end) h)) (bracesAfter b j) us) (sym kk)
+      ∙ ap (λ (j : ℕ). rowsFrom (tokensAt text j) (bracesAfter b k) us) (sym hh)
+      ∙ ap (λ (j : ℕ). rowsFrom (tokensAt text h′) j us) (sym bb)
+
   -- where t names a method, and where it does not
-  rows-named : namesMethod b (t .kind) (u .kind) ≡ true
+  pub rows-named : namesMethod b (t .kind) (u .kind) ≡ true
       → rowsFrom (tokensAt text h) b (tokensAt text at) ≡ row ∷ later
   unfolding row
   rows-named e =
@@ -122,7 +132,7 @@ module _ (text : List ℕ) (at h b : ℕ) (t u : TokenAt) (n : NextToken text at
         tokens = tokensAt text h;
       } ∷ later) (counted-at open-next)
 
-  rows-unnamed : namesMethod b (t .kind) (u .kind) ≡ false
+  pub rows-unnamed : namesMethod b (t .kind) (u .kind) ≡ false
       → rowsFrom (tokensAt text h) b (tokensAt text at) ≡ later
   rows-unnamed e =
       rows-split
@@ -133,7 +143,7 @@ module _ (text : List ℕ) (at h b : ℕ) (t u : TokenAt) (n : NextToken text at
       } ∷ later) later) e
 
 -- at the token that ends the text
-rows-end : (hs : List Token) (b : ℕ) (ts : List Token) → kindAt ts ≡ 32 → rest ts ≡ [] → rowsFrom hs b ts ≡ []
+pub rows-end : (hs : List Token) (b : ℕ) (ts : List Token) → kindAt ts ≡ 32 → rest ts ≡ [] → rowsFrom hs b ts ≡ []
 unfolding rowsFrom
 rows-end hs b [] e r = refl
 rows-end hs b (t ∷ ts) e r =
@@ -194,16 +204,6 @@ module _ (text x : List ℕ) where
       same-kind : k ≡ t .kind
       same-kind = s .kind-is ∙ kind-next text at t n
 
-      next-rows : (h′ b′ : ℕ) → h′ ≡ cond (endsMethod b k) (t .end) h → b′ ≡ bracesAfter b k
-          → later text at h b t u n m further ≡ rowsAt text h′ b′ (t .end)
-      unfolding later
-      next-rows h′ b′ hh bb =
-          let us = tokensAt text (t .end) in
-          ap (λ (j : ℕ). rowsFrom (tokensAt text (cond (endsMethod b j) (t .end) h)) (bracesAfter b j) us)
-          (sym same-kind)
-          ∙ ap (λ (j : ℕ). rowsFrom (tokensAt text j) (bracesAfter b k) us) (sym hh)
-          ∙ ap (λ (j : ℕ). rowsFrom (tokensAt text h′) j us) (sym bb)
-
       module _ (named is : Bool) (e : named ≡ namesMethod b k (u .kind))
           (g′ : is ≡ same (slice (t .start) (t .end) text) x) where
         g : is ≡ same x (slice (t .start) (t .end) text)
@@ -247,7 +247,7 @@ module _ (text x : List ℕ) where
                 omega arith
 
             after-rows : later text at h b t u n m further ≡ rowsAt text h′ b′ (t .end)
-            after-rows = next-rows h′ b′ hh bb
+            after-rows = later-at text at h b t u n m further k h′ b′ same-kind hh bb
 
             by : (c : Bool) → named ≡ c → SearchSoFar text x (t .end) h′ b′ i′ (u .kind)
             by true y =

@@ -4,3 +4,5 @@ pub mod Counted
 pub mod Finding
 pub mod Found
 pub mod Slices
+pub mod Looking
+pub mod Indexing

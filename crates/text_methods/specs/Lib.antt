@@ -1,2 +1,3 @@
 pub mod RowsCode
 pub mod MethodSays
+pub mod IndexCode

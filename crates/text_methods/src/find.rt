@@ -27,14 +27,14 @@ pub struct MethodAt {
 }
 
 // Outside any brace a name before ( is a method's.
-fn names_method(braces: usize, kind: u8, following: u8) -> bool
+pub fn names_method(braces: usize, kind: u8, following: u8) -> bool
     ensures { λ r. ⌜ r ≡ namesMethod braces kind following ⌝ }
 {
     (braces == 0) & ((kind == NAME) & (following == OPEN))
 }
 
 // After the brace that ends a method the next header begins.
-fn header_after(braces: usize, kind: u8, header: usize, end: usize) -> usize
+pub fn header_after(braces: usize, kind: u8, header: usize, end: usize) -> usize
     ensures { λ r. ⌜ r ≡ cond (endsMethod braces kind) end header ⌝ }
 {
     if (braces == 1) & (kind == CLOSE_BRACE) {
@@ -43,7 +43,7 @@ fn header_after(braces: usize, kind: u8, header: usize, end: usize) -> usize
     header
 }
 
-fn add_if(n: usize, more: bool) -> usize
+pub fn add_if(n: usize, more: bool) -> usize
     requires { ⌜ n < 2 ^ 63 ⌝ }
     ensures { λ r. ⌜ r ≡ cond more (suc n) n ⌝ }
 {

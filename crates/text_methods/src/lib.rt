@@ -3,3 +3,4 @@
 pub mod arguments;
 pub mod braces;
 pub mod find;
+pub mod index;
