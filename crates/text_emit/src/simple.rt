@@ -2,6 +2,7 @@
 ghost use Prim.Native.Nat.{_≤_};
 ghost use lib.ListN.{length};
 ghost use Rattle.text_parse.specs.Equations.{recvRule, sendRule, forkRule};
+ghost use Rattle.text_methods.specs.IndexCode.{Indexed};
 ghost use Rattle.text_emit.specs.EmitCode.{StatementEmits, StatementFrom, InvokeFrom, NamedEmits, SimpleEmits, giveRule, measureRule, assignRule};
 use crate::calls::put_invocation;
 use crate::emit::Emit;
@@ -150,13 +151,14 @@ pub fn assign(
 // "methodCall ;" and "quantumOp ;": CALL, and DROP unless the method is void; or GATE.
 pub fn invoke(
     text: &[u8],
+    methods: &[usize],
     e: Emit,
     scope: &[usize; 64],
     n: usize,
     pending: &mut [usize],
     code: &mut [usize],
 ) -> Emit
-    requires { ⌜ 12288 ≤ length (now pending) ⌝ }
+    requires { ⌜ (12288 ≤ length (now pending)) × Indexed (now text) (now methods) ⌝ }
     ensures { λ r. ⌜ InvokeFrom (now (text .entry)) (now (scope .entry)) n e (now (code .entry)) r
         (now (code .exit)) ⌝ }
 {
@@ -165,19 +167,20 @@ pub fn invoke(
     let open = pass(text, name);
     let xs = arguments(text, open, scope, n, pending, code);
     let end = pass(text, xs);
-    put_invocation(text, code, end, t.start, t.end)
+    put_invocation(text, methods, code, end, t.start, t.end)
 }
 
 // A statement that starts with a name.
 fn named(
     text: &[u8],
+    methods: &[usize],
     e: Emit,
     scope: &[usize; 64],
     n: usize,
     pending: &mut [usize],
     code: &mut [usize],
 ) -> Emit
-    requires { ⌜ 12288 ≤ length (now pending) ⌝ }
+    requires { ⌜ (12288 ≤ length (now pending)) × Indexed (now text) (now methods) ⌝ }
     ensures { λ r. ⌜ NamedEmits (now (text .entry)) (now (scope .entry)) n e (now (code .entry)) r
         (now (code .exit)) ⌝ }
 {
@@ -186,19 +189,20 @@ fn named(
     if kind == ASSIGN {
         return assign(text, e, scope, n, pending, code);
     }
-    invoke(text, e, scope, n, pending, code)
+    invoke(text, methods, e, scope, n, pending, code)
 }
 
 // A statement that holds no other.
 pub fn simple(
     text: &[u8],
+    methods: &[usize],
     e: Emit,
     scope: &[usize; 64],
     n: usize,
     pending: &mut [usize],
     code: &mut [usize],
 ) -> Emit
-    requires { ⌜ 12288 ≤ length (now pending) ⌝ }
+    requires { ⌜ (12288 ≤ length (now pending)) × Indexed (now text) (now methods) ⌝ }
     ensures { λ r. ⌜ SimpleEmits (now (text .entry)) (now (scope .entry)) n e (now (code .entry)) r
         (now (code .exit)) ⌝ }
 {
@@ -222,5 +226,5 @@ pub fn simple(
     if t.kind == RETURN {
         return give(text, after, scope, n, pending, code);
     }
-    named(text, e, scope, n, pending, code)
+    named(text, methods, e, scope, n, pending, code)
 }

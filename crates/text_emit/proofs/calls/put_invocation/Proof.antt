@@ -15,8 +15,8 @@ returns-2 : tie.Need-returns-2
 returns-2 c =
     λ ms x k place s l w. absurd (omega (arith, w, c .if2 .taken))
 
-find-method-requires : tie.Need-find-method-requires
-find-method-requires c κs = search needs
+method-indexed-requires : tie.Need-method-indexed-requires
+method-indexed-requires c κs = search needs
 
 gate-number-requires : tie.Need-gate-number-requires
 gate-number-requires c κs = search needs
@@ -32,10 +32,10 @@ same-length c = search needs
 
 returns-3 : tie.Need-returns-3
 returns-3 c =
-    let m = c .before .before .before .before .before .before .before .find-method .result in
+    let m = c .before .before .before .before .before .before .before .method-indexed .result in
     invoke-gate _ _ _ (m .found) (m .index) (m .at) (m .params) _ _ _ _ _ (not-true (m .found)
     (c .before .before .before .before .before .if3 .taken))
-    (c .before .before .before .before .before .before .before .find-method .ensures)
+    (c .before .before .before .before .before .before .before .method-indexed .ensures)
     (c .before .before .before .before .gate-number .ensures) (c .before .before .put .ensures)
 
 put-requires-2 : tie.Need-put-requires-2
@@ -49,9 +49,9 @@ same-length-2 c = search needs
 
 returns-4 : tie.Need-returns-4
 returns-4 c =
-    let m = c .before .before .before .before .before .before .before .before .before .find-method .result in
-    invoke-void _ _ _ (m .found) (m .index) (m .at) (m .params) _ _ _ (c .before .before .before .before .before .before .before .before .before .before .before .before .before .before .args .e) _ _ [] (not-false (m .found) (c .before .before .before .before .before .before .before .if3 .left))
-    (c .before .before .before .before .before .before .before .before .before .find-method .ensures)
+    let m = c .before .before .before .before .before .before .before .before .before .method-indexed .result in
+    invoke-void _ _ _ (m .found) (m .index) (m .at) (m .params) _ _ _ (c .before .before .before .before .before .before .before .before .before .before .before .before .before .before .before .args .e) _ _ [] (not-false (m .found) (c .before .before .before .before .before .before .before .if3 .left))
+    (c .before .before .before .before .before .before .before .before .before .method-indexed .ensures)
     (c .before .before .return-type .ensures) (c .before .before .before .before .before .put2 .ensures)
     (c .if4 .taken)
 
@@ -63,10 +63,10 @@ same-length-3 c = search needs
 
 returns-5 : tie.Need-returns-5
 returns-5 c =
-    let m = c .before .before .before .before .before .before .before .before .before .before .before .before .before .find-method .result in
+    let m = c .before .before .before .before .before .before .before .before .before .before .before .before .before .method-indexed .result in
     invoke-value _ _ _ (m .found) (m .index) (m .at) (m .params) _ _ _ _ _ _ _ (not-false (m .found)
     (c .before .before .before .before .before .before .before .before .before .before .before .if3 .left))
-    (c .before .before .before .before .before .before .before .before .before .before .before .before .before .find-method .ensures) (c .before .before .before .before .before .before .return-type .ensures) (c .before .before .before .before .before .before .before .before .before .put2 .ensures) (c .before .before .before .before .if4 .left) (c .before .before .put3 .ensures)
+    (c .before .before .before .before .before .before .before .before .before .before .before .before .before .method-indexed .ensures) (c .before .before .before .before .before .before .return-type .ensures) (c .before .before .before .before .before .before .before .before .before .put2 .ensures) (c .before .before .before .before .if4 .left) (c .before .before .put3 .ensures)
 
 pub put-invocation-spec : {M : Type 1} → statement M
 put-invocation-spec =
@@ -74,7 +74,7 @@ put-invocation-spec =
     (tie.spec
     returns
     returns-2
-    find-method-requires
+    method-indexed-requires
     gate-number-requires
     cast-put
     put-requires

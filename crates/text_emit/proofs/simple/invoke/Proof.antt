@@ -20,7 +20,7 @@ pass-requires-3 : tie.Need-pass-requires-3
 pass-requires-3 c κs = search needs
 
 put-invocation-requires : tie.Need-put-invocation-requires
-put-invocation-requires c κs = search needs
+put-invocation-requires c κs = c .before .before .before .before .before .before .before .before .before .before .before .before .before .before .before .before .pre .1
 
 same-length : tie.Need-same-length
 same-length c = search needs
