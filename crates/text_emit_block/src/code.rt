@@ -2,6 +2,7 @@
 ghost use Prim.Native.Nat.{_≤_};
 ghost use lib.ListN.{length};
 ghost use Rattle.text_parse.specs.Equations.{statementFrom, bodyFrom, blockFrom, unbracedRule};
+ghost use Rattle.text_methods.specs.IndexCode.{Indexed};
 ghost use Rattle.text_emit_block.specs.BlockCode.{StatementTranslates, ThereTranslates, StatementsTranslate, OtherwiseTranslates, ifRule, whileRule};
 use crate::parts::advances;
 use crate::parts::clears;
@@ -23,6 +24,7 @@ use text_types::place::next_kind;
 // "code", where a block counts as one level more.
 fn statement(
     text: &[u8],
+    methods: &[usize],
     e: Emit,
     scope: &mut [usize; 64],
     n: usize,
@@ -31,7 +33,7 @@ fn statement(
     code: &mut [usize],
     left: usize,
 ) -> Emit
-    requires { ⌜ 12288 ≤ length (now pending) ⌝ }
+    requires { ⌜ (12288 ≤ length (now pending)) × Indexed (now text) (now methods) ⌝ }
     ensures { λ r. ⌜ StatementTranslates (statementFrom left) (now (text .entry)) n e (now (scope .entry))
         (now (row .entry)) (now (code .entry)) r (now (scope .exit)) (now (row .exit)) (now (code .exit)) ⌝ }
 {
@@ -43,14 +45,15 @@ fn statement(
         if left == 0 {
             return e;
         }
-        return block(text, e, scope, n, row, pending, code, left - 1);
+        return block(text, methods, e, scope, n, row, pending, code, left - 1);
     }
-    unbraced(text, e, scope, n, row, pending, code, left)
+    unbraced(text, methods, e, scope, n, row, pending, code, left)
 }
 
 // The body of an if, else or while: one level more, a block or not.
 fn body(
     text: &[u8],
+    methods: &[usize],
     e: Emit,
     scope: &mut [usize; 64],
     n: usize,
@@ -59,7 +62,7 @@ fn body(
     code: &mut [usize],
     left: usize,
 ) -> Emit
-    requires { ⌜ 12288 ≤ length (now pending) ⌝ }
+    requires { ⌜ (12288 ≤ length (now pending)) × Indexed (now text) (now methods) ⌝ }
     ensures { λ r. ⌜ StatementTranslates (bodyFrom left) (now (text .entry)) n e (now (scope .entry))
         (now (row .entry)) (now (code .entry)) r (now (scope .exit)) (now (row .exit)) (now (code .exit)) ⌝ }
 {
@@ -71,14 +74,15 @@ fn body(
     }
     let kind = next_kind(text, e.at);
     if kind == OPEN_BRACE {
-        return block(text, e, scope, n, row, pending, code, left - 1);
+        return block(text, methods, e, scope, n, row, pending, code, left - 1);
     }
-    unbraced(text, e, scope, n, row, pending, code, left - 1)
+    unbraced(text, methods, e, scope, n, row, pending, code, left - 1)
 }
 
 // An if, a while, or a statement that holds no other, where all fits so far.
 fn unbraced(
     text: &[u8],
+    methods: &[usize],
     e: Emit,
     scope: &mut [usize; 64],
     n: usize,
@@ -87,25 +91,26 @@ fn unbraced(
     code: &mut [usize],
     left: usize,
 ) -> Emit
-    requires { ⌜ 12288 ≤ length (now pending) ⌝ }
+    requires { ⌜ (12288 ≤ length (now pending)) × Indexed (now text) (now methods) ⌝ }
     ensures { λ r. ⌜ ThereTranslates (unbracedRule left) (now (text .entry)) n e (now (scope .entry))
         (now (row .entry)) (now (code .entry)) r (now (scope .exit)) (now (row .exit)) (now (code .exit)) ⌝ }
 {
     let kind = next_kind(text, e.at);
     if kind == IF {
         let word = pass(text, e);
-        return conditional(text, word, scope, n, row, pending, code, left);
+        return conditional(text, methods, word, scope, n, row, pending, code, left);
     }
     if kind == WHILE {
         let word = pass(text, e);
-        return repeated(text, word, scope, n, row, pending, code, left);
+        return repeated(text, methods, word, scope, n, row, pending, code, left);
     }
-    simple(text, e, scope, n, pending, code)
+    simple(text, methods, e, scope, n, pending, code)
 }
 
 // "if ( expr ) code ( else code)?", after if: E, JFALSE L, S, L:; "else goes to the nearest if"
 fn conditional(
     text: &[u8],
+    methods: &[usize],
     e: Emit,
     scope: &mut [usize; 64],
     n: usize,
@@ -114,20 +119,31 @@ fn conditional(
     code: &mut [usize],
     left: usize,
 ) -> Emit
-    requires { ⌜ 12288 ≤ length (now pending) ⌝ }
+    requires { ⌜ (12288 ≤ length (now pending)) × Indexed (now text) (now methods) ⌝ }
     ensures { λ r. ⌜ ThereTranslates (ifRule left) (now (text .entry)) n e (now (scope .entry))
         (now (row .entry)) (now (code .entry)) r (now (scope .exit)) (now (row .exit)) (now (code .exit)) ⌝ }
 {
     let c = condition(text, e, scope, n, pending, code);
     let test = put(code, c, 18, 0);
-    let s = body(text, test, scope, n, row, pending, code, left);
+    let s = body(text, methods, test, scope, n, row, pending, code, left);
     if !s.ok {
         return s;
     }
     let kind = next_kind(text, s.at);
     if kind == ELSE {
         let word = pass(text, s);
-        return otherwise(text, word, scope, n, row, pending, code, left, c.count);
+        return otherwise(
+            text,
+            methods,
+            word,
+            scope,
+            n,
+            row,
+            pending,
+            code,
+            left,
+            c.count,
+        );
     }
     patch(code, s, c.count, s.count);
     s
@@ -136,6 +152,7 @@ fn conditional(
 // "code" after else: JUMP K, L: T, K:; the JFALSE that goes to L is instruction k.
 fn otherwise(
     text: &[u8],
+    methods: &[usize],
     e: Emit,
     scope: &mut [usize; 64],
     n: usize,
@@ -145,13 +162,13 @@ fn otherwise(
     left: usize,
     k: usize,
 ) -> Emit
-    requires { ⌜ 12288 ≤ length (now pending) ⌝ }
+    requires { ⌜ (12288 ≤ length (now pending)) × Indexed (now text) (now methods) ⌝ }
     ensures { λ r. ⌜ OtherwiseTranslates left k (now (text .entry)) n e (now (scope .entry))
         (now (row .entry)) (now (code .entry)) r (now (scope .exit)) (now (row .exit)) (now (code .exit)) ⌝ }
 {
     let jump = put(code, e, 17, 0);
     patch(code, jump, k, jump.count);
-    let t = body(text, jump, scope, n, row, pending, code, left);
+    let t = body(text, methods, jump, scope, n, row, pending, code, left);
     patch(code, t, e.count, t.count);
     t
 }
@@ -159,6 +176,7 @@ fn otherwise(
 // "while ( expr ) code", after while: L: E, JFALSE K, S, JUMP L, K:
 fn repeated(
     text: &[u8],
+    methods: &[usize],
     e: Emit,
     scope: &mut [usize; 64],
     n: usize,
@@ -167,13 +185,13 @@ fn repeated(
     code: &mut [usize],
     left: usize,
 ) -> Emit
-    requires { ⌜ 12288 ≤ length (now pending) ⌝ }
+    requires { ⌜ (12288 ≤ length (now pending)) × Indexed (now text) (now methods) ⌝ }
     ensures { λ r. ⌜ ThereTranslates (whileRule left) (now (text .entry)) n e (now (scope .entry))
         (now (row .entry)) (now (code .entry)) r (now (scope .exit)) (now (row .exit)) (now (code .exit)) ⌝ }
 {
     let c = condition(text, e, scope, n, pending, code);
     let test = put(code, c, 18, 0);
-    let s = body(text, test, scope, n, row, pending, code, left);
+    let s = body(text, methods, test, scope, n, row, pending, code, left);
     let back = put(code, s, 17, e.count);
     patch(code, back, c.count, back.count);
     back
@@ -182,6 +200,7 @@ fn repeated(
 // "{ varDeclaration code* }", where all fits so far: CLEAR for each of its variables, then its statements.
 fn block(
     text: &[u8],
+    methods: &[usize],
     e: Emit,
     scope: &mut [usize; 64],
     n: usize,
@@ -190,7 +209,7 @@ fn block(
     code: &mut [usize],
     left: usize,
 ) -> Emit
-    requires { ⌜ 12288 ≤ length (now pending) ⌝ }
+    requires { ⌜ (12288 ≤ length (now pending)) × Indexed (now text) (now methods) ⌝ }
     ensures { λ r. ⌜ ThereTranslates (blockFrom left) (now (text .entry)) n e (now (scope .entry))
         (now (row .entry)) (now (code .entry)) r (now (scope .exit)) (now (row .exit)) (now (code .exit)) ⌝ }
 {
@@ -207,12 +226,13 @@ fn block(
         return inner;
     }
     let cleared = clears(code, inner, e.used, d.used);
-    statements(text, cleared, scope, d.n, row, pending, code, left)
+    statements(text, methods, cleared, scope, d.n, row, pending, code, left)
 }
 
 // "code*", up to and with the closing brace. A statement that is gone over ends further on.
 pub fn statements(
     text: &[u8],
+    methods: &[usize],
     e: Emit,
     scope: &mut [usize; 64],
     n: usize,
@@ -221,7 +241,7 @@ pub fn statements(
     code: &mut [usize],
     left: usize,
 ) -> Emit
-    requires { ⌜ 12288 ≤ length (now pending) ⌝ }
+    requires { ⌜ (12288 ≤ length (now pending)) × Indexed (now text) (now methods) ⌝ }
     ensures { λ r. ⌜ StatementsTranslate left (now (text .entry)) n e (now (scope .entry))
         (now (row .entry)) (now (code .entry)) r (now (scope .exit)) (now (row .exit)) (now (code .exit)) ⌝ }
 {
@@ -239,7 +259,7 @@ pub fn statements(
             used: used,
             count: count,
         };
-        let s = statement(text, here, scope, n, row, pending, code, left);
+        let s = statement(text, methods, here, scope, n, row, pending, code, left);
         let on = advances(text, at, s);
         if !on {
             return Emit {

@@ -60,85 +60,85 @@ use Rattle.text_emit_block.proofs.code.+block+body+conditional+otherwis
   close,
 }
 
-abbrev μ-block : Measures 5 block-kinds.ps ℕ
-μ-block κs a = 7 * a .1 .1 .1 .1 .1 .1 .1 .0 + 6
+abbrev μ-block : Measures 6 block-kinds.ps ℕ
+μ-block κs a = 7 * a .1 .1 .1 .1 .1 .1 .1 .1 .0 + 6
 
-abbrev μ-body : Measures 5 body-kinds.ps ℕ
-μ-body κs a = 7 * a .1 .1 .1 .1 .1 .1 .1 .0
+abbrev μ-body : Measures 6 body-kinds.ps ℕ
+μ-body κs a = 7 * a .1 .1 .1 .1 .1 .1 .1 .1 .0
 
-abbrev μ-conditional : Measures 5 conditional-kinds.ps ℕ
-μ-conditional κs a = 7 * a .1 .1 .1 .1 .1 .1 .1 .0 + 2
+abbrev μ-conditional : Measures 6 conditional-kinds.ps ℕ
+μ-conditional κs a = 7 * a .1 .1 .1 .1 .1 .1 .1 .1 .0 + 2
 
-abbrev μ-otherwise : Measures 5 otherwise-kinds.ps ℕ
-μ-otherwise κs a = 7 * a .1 .1 .1 .1 .1 .1 .1 .0 + 1
+abbrev μ-otherwise : Measures 6 otherwise-kinds.ps ℕ
+μ-otherwise κs a = 7 * a .1 .1 .1 .1 .1 .1 .1 .1 .0 + 1
 
-abbrev μ-repeated : Measures 5 repeated-kinds.ps ℕ
-μ-repeated κs a = 7 * a .1 .1 .1 .1 .1 .1 .1 .0 + 1
+abbrev μ-repeated : Measures 6 repeated-kinds.ps ℕ
+μ-repeated κs a = 7 * a .1 .1 .1 .1 .1 .1 .1 .1 .0 + 1
 
-abbrev μ-statement : Measures 5 statement-kinds.ps ℕ
-μ-statement κs a = 7 * a .1 .1 .1 .1 .1 .1 .1 .0 + 4
+abbrev μ-statement : Measures 6 statement-kinds.ps ℕ
+μ-statement κs a = 7 * a .1 .1 .1 .1 .1 .1 .1 .1 .0 + 4
 
-abbrev μ-statements : Measures 5 statements-kinds.ps ℕ
-μ-statements κs a = 7 * a .1 .1 .1 .1 .1 .1 .1 .0 + 5
+abbrev μ-statements : Measures 6 statements-kinds.ps ℕ
+μ-statements κs a = 7 * a .1 .1 .1 .1 .1 .1 .1 .1 .0 + 5
 
-abbrev μ-unbraced : Measures 5 unbraced-kinds.ps ℕ
-μ-unbraced κs a = 7 * a .1 .1 .1 .1 .1 .1 .1 .0 + 3
+abbrev μ-unbraced : Measures 6 unbraced-kinds.ps ℕ
+μ-unbraced κs a = 7 * a .1 .1 .1 .1 .1 .1 .1 .1 .0 + 3
 
-abbrev block-at : ℕ → In 5 block-kinds.ps
-block-at t = and 5 block-kinds.ps (is 5 block-kinds.ps μ-block t) block.Pre
+abbrev block-at : ℕ → In 6 block-kinds.ps
+block-at t = and 6 block-kinds.ps (is 6 block-kinds.ps μ-block t) block.Pre
 
-abbrev block-below : ℕ → In 5 block-kinds.ps
-block-below t = and 5 block-kinds.ps (falls 5 block-kinds.ps _<_ μ-block t) block.Pre
+abbrev block-below : ℕ → In 6 block-kinds.ps
+block-below t = and 6 block-kinds.ps (falls 6 block-kinds.ps _<_ μ-block t) block.Pre
 
-abbrev body-at : ℕ → In 5 body-kinds.ps
-body-at t = and 5 body-kinds.ps (is 5 body-kinds.ps μ-body t) body.Pre
+abbrev body-at : ℕ → In 6 body-kinds.ps
+body-at t = and 6 body-kinds.ps (is 6 body-kinds.ps μ-body t) body.Pre
 
-abbrev body-below : ℕ → In 5 body-kinds.ps
-body-below t = and 5 body-kinds.ps (falls 5 body-kinds.ps _<_ μ-body t) body.Pre
+abbrev body-below : ℕ → In 6 body-kinds.ps
+body-below t = and 6 body-kinds.ps (falls 6 body-kinds.ps _<_ μ-body t) body.Pre
 
-abbrev conditional-at : ℕ → In 5 conditional-kinds.ps
+abbrev conditional-at : ℕ → In 6 conditional-kinds.ps
 conditional-at t =
-    and 5 conditional-kinds.ps (is 5 conditional-kinds.ps μ-conditional t) conditional.Pre
+    and 6 conditional-kinds.ps (is 6 conditional-kinds.ps μ-conditional t) conditional.Pre
 
-abbrev conditional-below : ℕ → In 5 conditional-kinds.ps
+abbrev conditional-below : ℕ → In 6 conditional-kinds.ps
 conditional-below t =
-    and 5 conditional-kinds.ps (falls 5 conditional-kinds.ps _<_ μ-conditional t) conditional.Pre
+    and 6 conditional-kinds.ps (falls 6 conditional-kinds.ps _<_ μ-conditional t) conditional.Pre
 
-abbrev otherwise-at : ℕ → In 5 otherwise-kinds.ps
-otherwise-at t = and 5 otherwise-kinds.ps (is 5 otherwise-kinds.ps μ-otherwise t) otherwise.Pre
+abbrev otherwise-at : ℕ → In 6 otherwise-kinds.ps
+otherwise-at t = and 6 otherwise-kinds.ps (is 6 otherwise-kinds.ps μ-otherwise t) otherwise.Pre
 
-abbrev otherwise-below : ℕ → In 5 otherwise-kinds.ps
+abbrev otherwise-below : ℕ → In 6 otherwise-kinds.ps
 otherwise-below t =
-    and 5 otherwise-kinds.ps (falls 5 otherwise-kinds.ps _<_ μ-otherwise t) otherwise.Pre
+    and 6 otherwise-kinds.ps (falls 6 otherwise-kinds.ps _<_ μ-otherwise t) otherwise.Pre
 
-abbrev repeated-at : ℕ → In 5 repeated-kinds.ps
-repeated-at t = and 5 repeated-kinds.ps (is 5 repeated-kinds.ps μ-repeated t) repeated.Pre
+abbrev repeated-at : ℕ → In 6 repeated-kinds.ps
+repeated-at t = and 6 repeated-kinds.ps (is 6 repeated-kinds.ps μ-repeated t) repeated.Pre
 
-abbrev repeated-below : ℕ → In 5 repeated-kinds.ps
+abbrev repeated-below : ℕ → In 6 repeated-kinds.ps
 repeated-below t =
-    and 5 repeated-kinds.ps (falls 5 repeated-kinds.ps _<_ μ-repeated t) repeated.Pre
+    and 6 repeated-kinds.ps (falls 6 repeated-kinds.ps _<_ μ-repeated t) repeated.Pre
 
-abbrev statement-at : ℕ → In 5 statement-kinds.ps
-statement-at t = and 5 statement-kinds.ps (is 5 statement-kinds.ps μ-statement t) statement′.Pre
+abbrev statement-at : ℕ → In 6 statement-kinds.ps
+statement-at t = and 6 statement-kinds.ps (is 6 statement-kinds.ps μ-statement t) statement′.Pre
 
-abbrev statement-below : ℕ → In 5 statement-kinds.ps
+abbrev statement-below : ℕ → In 6 statement-kinds.ps
 statement-below t =
-    and 5 statement-kinds.ps (falls 5 statement-kinds.ps _<_ μ-statement t) statement′.Pre
+    and 6 statement-kinds.ps (falls 6 statement-kinds.ps _<_ μ-statement t) statement′.Pre
 
-abbrev statements-at : ℕ → In 5 statements-kinds.ps
+abbrev statements-at : ℕ → In 6 statements-kinds.ps
 statements-at t =
-    and 5 statements-kinds.ps (is 5 statements-kinds.ps μ-statements t) statements.Pre
+    and 6 statements-kinds.ps (is 6 statements-kinds.ps μ-statements t) statements.Pre
 
-abbrev statements-below : ℕ → In 5 statements-kinds.ps
+abbrev statements-below : ℕ → In 6 statements-kinds.ps
 statements-below t =
-    and 5 statements-kinds.ps (falls 5 statements-kinds.ps _<_ μ-statements t) statements.Pre
+    and 6 statements-kinds.ps (falls 6 statements-kinds.ps _<_ μ-statements t) statements.Pre
 
-abbrev unbraced-at : ℕ → In 5 unbraced-kinds.ps
-unbraced-at t = and 5 unbraced-kinds.ps (is 5 unbraced-kinds.ps μ-unbraced t) unbraced.Pre
+abbrev unbraced-at : ℕ → In 6 unbraced-kinds.ps
+unbraced-at t = and 6 unbraced-kinds.ps (is 6 unbraced-kinds.ps μ-unbraced t) unbraced.Pre
 
-abbrev unbraced-below : ℕ → In 5 unbraced-kinds.ps
+abbrev unbraced-below : ℕ → In 6 unbraced-kinds.ps
 unbraced-below t =
-    and 5 unbraced-kinds.ps (falls 5 unbraced-kinds.ps _<_ μ-unbraced t) unbraced.Pre
+    and 6 unbraced-kinds.ps (falls 6 unbraced-kinds.ps _<_ μ-unbraced t) unbraced.Pre
 
 block-words-requires : (t : ℕ) → block-lts.Need-words-requires (
   words-reads.Asked,
@@ -195,7 +195,7 @@ block-returns : (t : ℕ) → block-lts.Need-returns (
   statements.Post,
 ) (block-at t) block.Post
 block-returns t c = λ on ms m. let g =
-    c .before .before .before .before .before .before .before .before .before .before .before .before .args in
+    c .before .before .before .before .before .before .before .before .before .before .before .before .before .args in
     let long : length (g .scope .now) ≡ 64 =
     c .before .before .before .before .before .before .before .words-arg2 .given .0 in
     block-many (g .text .now) (g .n) (g .left) (g .e) _ (g .scope .now) (g .row .now) (g .code .now) _ _ _ _ _ _ on long
@@ -228,8 +228,8 @@ block-statements-requires : (t : ℕ) → block-lts.Need-statements-requires (
   statements-below t,
   statements.Post,
 ) (block-at t) block.Post
-block-statements-requires t c κs = let g = c .before .before .before .before .before .before .before .before .before .before .before .before .before .before .before .before .before .before .before .before .args in
-    let is : 7 * g .left + 6 ≡ t = c .before .before .before .before .before .before .before .before .before .before .before .before .before .before .before .before .before .before .before .before .pre .0 in (omega arith, c .before .before .before .before .before .before .before .before .before .before .before .before .before .before .before .before .before .before .before .before .pre .1)
+block-statements-requires t c κs = let g = c .before .before .before .before .before .before .before .before .before .before .before .before .before .before .before .before .before .before .before .before .before .args in
+    let is : 7 * g .left + 6 ≡ t = c .before .before .before .before .before .before .before .before .before .before .before .before .before .before .before .before .before .before .before .before .before .pre .0 in (omega arith, c .before .before .before .before .before .before .before .before .before .before .before .before .before .before .before .before .before .before .before .before .before .pre .1)
 
 block-same-length : (t : ℕ) → block-lts.Need-same-length (
   words-reads.Asked,
@@ -271,7 +271,7 @@ block-returns-2 : (t : ℕ) → block-lts.Need-returns-2 (
   statements-below t,
   statements.Post,
 ) (block-at t) block.Post
-block-returns-2 t c = λ on ms m. let g = c .before .before .before .before .before .before .before .before .before .before .before .before .before .before .before .before .before .before .before .before .before .before .before .before .before .args in
+block-returns-2 t c = λ on ms m. let g = c .before .before .before .before .before .before .before .before .before .before .before .before .before .before .before .before .before .before .before .before .before .before .before .before .before .before .args in
     let long : length (g .scope .now) ≡ 64 = c .before .before .before .before .before .before .before .before .before .before .before .before .before .before .before .before .before .before .before .before .words-arg2 .given .0 in
     block-ends (g .text .now) (g .n) (g .left) (g .e) _ (g .scope .now) (g .row .now) (g .code .now) _ _ _ _ _ _ on long
     (c .before .before .before .before .before .before .before .before .before .before .before .before .before .before .before .before .before .before .pass .ensures) (c .before .before .before .before .before .before .before .before .before .before .before .before .before .before .before .declarations .ensures) _ _ _ _ _ _ (not-false (c .before .before .before .before .before .before .before .before .before .before .before .before .before .before .before .declarations .result .ok) (c .before .before .before .before .before .before .before .before .before .before .before .before .before .if1 .left))
@@ -286,7 +286,7 @@ body-returns : (t : ℕ) → body-lts.Need-returns (
   unbraced-below t,
   unbraced.Post,
 ) (body-at t) body.Post
-body-returns t c = let g = c .before .before .before .before .before .args in
+body-returns t c = let g = c .before .before .before .before .before .before .args in
     let stuck = not-true (g .e .ok) (c .if1 .taken) in
     nothing-done (g .text .now) (g .n) (g .e) _ _ _ (g .e) _ _ _ (bodyFrom (g .left)) stuck stuck
 
@@ -298,7 +298,7 @@ body-returns-2 : (t : ℕ) → body-lts.Need-returns-2 (
   unbraced-below t,
   unbraced.Post,
 ) (body-at t) body.Post
-body-returns-2 t c = let g = c .before .before .before .before .before .before .args in
+body-returns-2 t c = let g = c .before .before .before .before .before .before .before .args in
     body-deep (g .text .now) (g .n) (g .e) _ _ _ (g .e) _ _ _ (g .left) (not-false (g .e .ok) (c .before .if1 .left))
     (c .if2 .taken)
 
@@ -321,7 +321,7 @@ body-sub-block : (t : ℕ) → body-lts.Need-sub-block (
   unbraced.Post,
 ) (body-at t) body.Post
 body-sub-block t c = let g =
-    c .before .before .before .before .before .before .before .before .before .before .before .before .args in
+    c .before .before .before .before .before .before .before .before .before .before .before .before .before .args in
     let some = c .before .before .before .before .before .before .if2 .left in omega arith
 
 body-block-requires : (t : ℕ) → body-lts.Need-block-requires (
@@ -333,12 +333,12 @@ body-block-requires : (t : ℕ) → body-lts.Need-block-requires (
   unbraced.Post,
 ) (body-at t) body.Post
 body-block-requires t c κs = let g =
-    c .before .before .before .before .before .before .before .before .before .before .before .before .args in
+    c .before .before .before .before .before .before .before .before .before .before .before .before .before .args in
     let is : 7 * g .left ≡ t =
-    c .before .before .before .before .before .before .before .before .before .before .before .before .pre .0 in
+    c .before .before .before .before .before .before .before .before .before .before .before .before .before .pre .0 in
     let some = c .before .before .before .before .before .before .if2 .left in (
       omega arith,
-      c .before .before .before .before .before .before .before .before .before .before .before .before .pre .1,
+      c .before .before .before .before .before .before .before .before .before .before .before .before .before .pre .1,
     )
 
 body-same-length : (t : ℕ) → body-lts.Need-same-length (
@@ -369,7 +369,7 @@ body-returns-3 : (t : ℕ) → body-lts.Need-returns-3 (
   unbraced-below t,
   unbraced.Post,
 ) (body-at t) body.Post
-body-returns-3 t c = let g = c .before .before .before .before .before .before .before .before .before .before .before .before .before .before .before .before .before .args in
+body-returns-3 t c = let g = c .before .before .before .before .before .before .before .before .before .before .before .before .before .before .before .before .before .before .args in
     body-block (g .text .now) (g .n) (g .e) (g .scope .now) (g .row .now) (g .code .now) _ _ _ _ (g .left)
     (not-false (g .e .ok)
     (c .before .before .before .before .before .before .before .before .before .before .before .before .if1 .left))
@@ -387,7 +387,7 @@ body-sub-unbraced : (t : ℕ) → body-lts.Need-sub-unbraced (
   unbraced.Post,
 ) (body-at t) body.Post
 body-sub-unbraced t c = let g =
-    c .before .before .before .before .before .before .before .before .before .before .before .before .args in
+    c .before .before .before .before .before .before .before .before .before .before .before .before .before .args in
     let some = c .before .before .before .before .before .before .if2 .left in omega arith
 
 body-unbraced-requires : (t : ℕ) → body-lts.Need-unbraced-requires (
@@ -399,12 +399,12 @@ body-unbraced-requires : (t : ℕ) → body-lts.Need-unbraced-requires (
   unbraced.Post,
 ) (body-at t) body.Post
 body-unbraced-requires t c κs = let g =
-    c .before .before .before .before .before .before .before .before .before .before .before .before .args in
+    c .before .before .before .before .before .before .before .before .before .before .before .before .before .args in
     let is : 7 * g .left ≡ t =
-    c .before .before .before .before .before .before .before .before .before .before .before .before .pre .0 in
+    c .before .before .before .before .before .before .before .before .before .before .before .before .before .pre .0 in
     let some = c .before .before .before .before .before .before .if2 .left in (
       omega arith,
-      c .before .before .before .before .before .before .before .before .before .before .before .before .pre .1,
+      c .before .before .before .before .before .before .before .before .before .before .before .before .before .pre .1,
     )
 
 body-same-length-3 : (t : ℕ) → body-lts.Need-same-length-3 (
@@ -435,7 +435,7 @@ body-returns-4 : (t : ℕ) → body-lts.Need-returns-4 (
   unbraced-below t,
   unbraced.Post,
 ) (body-at t) body.Post
-body-returns-4 t c = let g = c .before .before .before .before .before .before .before .before .before .before .before .before .before .before .before .before .before .args in
+body-returns-4 t c = let g = c .before .before .before .before .before .before .before .before .before .before .before .before .before .before .before .before .before .before .args in
     body-other (g .text .now) (g .n) (g .e) (g .scope .now) (g .row .now) (g .code .now) _ _ _ _ (g .left)
     (not-false (g .e .ok)
     (c .before .before .before .before .before .before .before .before .before .before .before .before .if1 .left))
@@ -460,7 +460,7 @@ conditional-condition-requires : (t : ℕ) → conditional-lts.Need-condition-re
   patch-reads.Asked,
   patch-reads.Learnt,
 ) (conditional-at t) conditional.Post
-conditional-condition-requires t c κs = c .before .before .before .before .before .before .pre .1
+conditional-condition-requires t c κs = c .before .before .before .before .before .before .before .pre .1 .0
 
 conditional-put-requires : (t : ℕ) → conditional-lts.Need-put-requires (
   condition-reads.Asked,
@@ -496,9 +496,9 @@ conditional-body-requires : (t : ℕ) → conditional-lts.Need-body-requires (
   patch-reads.Asked,
   patch-reads.Learnt,
 ) (conditional-at t) conditional.Post
-conditional-body-requires t c κs = let g = c .before .before .before .before .before .before .before .before .before .before .before .before .before .before .before .before .before .before .before .args in
-    let is : 7 * g .left + 2 ≡ t = c .before .before .before .before .before .before .before .before .before .before .before .before .before .before .before .before .before .before .before .pre .0 in
-    let long = c .before .before .before .before .before .before .before .before .before .before .before .before .before .before .before .before .before .before .before .pre .1 in (omega arith, omega (arith, c .before .before .before .before .before .before .before .before .before .before .before .pending .given))
+conditional-body-requires t c κs = let g = c .before .before .before .before .before .before .before .before .before .before .before .before .before .before .before .before .before .before .before .before .args in
+    let is : 7 * g .left + 2 ≡ t = c .before .before .before .before .before .before .before .before .before .before .before .before .before .before .before .before .before .before .before .before .pre .0 in
+    let long = c .before .before .before .before .before .before .before .before .before .before .before .before .before .before .before .before .before .before .before .before .pre .1 .0 in (omega arith, (omega (arith, c .before .before .before .before .before .before .before .before .before .before .before .pending .given), c .before .before .before .before .before .before .before .before .before .before .before .before .before .before .before .before .before .before .before .before .pre .1 .1))
 
 conditional-same-length : (t : ℕ) → conditional-lts.Need-same-length (
   condition-reads.Asked,
@@ -552,7 +552,7 @@ conditional-returns : (t : ℕ) → conditional-lts.Need-returns (
   patch-reads.Asked,
   patch-reads.Learnt,
 ) (conditional-at t) conditional.Post
-conditional-returns t c = λ on ms m. let g = c .before .before .before .before .before .before .before .before .before .before .before .before .before .before .before .before .before .before .before .before .before .before .before .before .before .before .args in
+conditional-returns t c = λ on ms m. let g = c .before .before .before .before .before .before .before .before .before .before .before .before .before .before .before .before .before .before .before .before .before .before .before .before .before .before .before .args in
     if-stuck (g .text .now) (g .n) (g .left) ms m (g .e) _ _ _ (g .scope .now) (g .row .now) (g .code .now) _ _ _ _ _ on
     (c .before .before .before .before .before .before .before .before .before .before .before .before .before .before .before .before .before .before .before .condition .ensures) (c .before .before .before .before .before .before .before .before .before .before .before .before .before .put .ensures) (c .before .before .before .before .before .before .body .ensures) (not-true (c .before .before .before .before .before .before .body .result .ok) (c .if1 .taken))
 
@@ -608,9 +608,9 @@ conditional-otherwise-requires : (t : ℕ) → conditional-lts.Need-otherwise-re
   patch-reads.Asked,
   patch-reads.Learnt,
 ) (conditional-at t) conditional.Post
-conditional-otherwise-requires t c κs = let g = c .before .before .before .before .before .before .before .before .before .before .before .before .before .before .before .before .before .before .before .before .before .before .before .before .before .before .before .before .before .before .before .before .before .args in
-    let is : 7 * g .left + 2 ≡ t = c .before .before .before .before .before .before .before .before .before .before .before .before .before .before .before .before .before .before .before .before .before .before .before .before .before .before .before .before .before .before .before .before .before .pre .0 in
-    let long = c .before .before .before .before .before .before .before .before .before .before .before .before .before .before .before .before .before .before .before .before .before .before .before .before .before .before .before .before .before .before .before .before .before .pre .1 in (omega arith, omega (arith, c .before .before .before .before .before .before .before .before .before .before .before .before .before .before .before .before .before .before .before .before .before .before .before .before .before .pending .given, c .before .before .before .before .before .before .before .before .before .before .before .before .pending2 .given))
+conditional-otherwise-requires t c κs = let g = c .before .before .before .before .before .before .before .before .before .before .before .before .before .before .before .before .before .before .before .before .before .before .before .before .before .before .before .before .before .before .before .before .before .before .args in
+    let is : 7 * g .left + 2 ≡ t = c .before .before .before .before .before .before .before .before .before .before .before .before .before .before .before .before .before .before .before .before .before .before .before .before .before .before .before .before .before .before .before .before .before .before .pre .0 in
+    let long = c .before .before .before .before .before .before .before .before .before .before .before .before .before .before .before .before .before .before .before .before .before .before .before .before .before .before .before .before .before .before .before .before .before .before .pre .1 .0 in (omega arith, (omega (arith, c .before .before .before .before .before .before .before .before .before .before .before .before .before .before .before .before .before .before .before .before .before .before .before .before .before .pending .given, c .before .before .before .before .before .before .before .before .before .before .before .before .pending2 .given), c .before .before .before .before .before .before .before .before .before .before .before .before .before .before .before .before .before .before .before .before .before .before .before .before .before .before .before .before .before .before .before .before .before .before .pre .1 .1))
 
 conditional-same-length-3 : (t : ℕ) → conditional-lts.Need-same-length-3 (
   condition-reads.Asked,
@@ -664,7 +664,7 @@ conditional-returns-2 : (t : ℕ) → conditional-lts.Need-returns-2 (
   patch-reads.Asked,
   patch-reads.Learnt,
 ) (conditional-at t) conditional.Post
-conditional-returns-2 t c = λ on ms m. let g = c .before .before .before .before .before .before .before .before .before .before .before .before .before .before .before .before .before .before .before .before .before .before .before .before .before .before .before .before .before .before .before .before .before .before .before .before .before .before .args in
+conditional-returns-2 t c = λ on ms m. let g = c .before .before .before .before .before .before .before .before .before .before .before .before .before .before .before .before .before .before .before .before .before .before .before .before .before .before .before .before .before .before .before .before .before .before .before .before .before .before .before .args in
     if-else (g .text .now) (g .n) (g .left) ms m (g .e) _ _ _ (g .scope .now) (g .row .now) (g .code .now) _ _ _ _ _ on
     (c .before .before .before .before .before .before .before .before .before .before .before .before .before .before .before .before .before .before .before .before .before .before .before .before .before .before .before .before .before .before .before .condition .ensures) (c .before .before .before .before .before .before .before .before .before .before .before .before .before .before .before .before .before .before .before .before .before .before .before .before .before .put .ensures) (c .before .before .before .before .before .before .before .before .before .before .before .before .before .before .before .before .before .before .body .ensures) _ _ _ _ _ (not-false (c .before .before .before .before .before .before .before .before .before .before .before .before .before .before .before .before .before .before .body .result .ok) (c .before .before .before .before .before .before .before .before .before .before .before .before .if1 .left))
     (sym (c .before .before .before .before .before .before .before .before .before .before .before .next-kind .ensures)
@@ -742,7 +742,7 @@ conditional-returns-3 : (t : ℕ) → conditional-lts.Need-returns-3 (
   patch-reads.Asked,
   patch-reads.Learnt,
 ) (conditional-at t) conditional.Post
-conditional-returns-3 t c = λ on ms m. let g = c .before .before .before .before .before .before .before .before .before .before .before .before .before .before .before .before .before .before .before .before .before .before .before .before .before .before .before .before .before .before .before .before .args in
+conditional-returns-3 t c = λ on ms m. let g = c .before .before .before .before .before .before .before .before .before .before .before .before .before .before .before .before .before .before .before .before .before .before .before .before .before .before .before .before .before .before .before .before .before .args in
     if-ends (g .text .now) (g .n) (g .left) ms m (g .e) _ _ _ (g .scope .now) (g .row .now) (g .code .now) _ _ _ _ _ on
     (c .before .before .before .before .before .before .before .before .before .before .before .before .before .before .before .before .before .before .before .before .before .before .before .before .before .condition .ensures) (c .before .before .before .before .before .before .before .before .before .before .before .before .before .before .before .before .before .before .before .put .ensures) (c .before .before .before .before .before .before .before .before .before .before .before .before .body .ensures) _ (not-false (c .before .before .before .before .before .before .before .before .before .before .before .before .body .result .ok) (c .before .before .before .before .before .before .if1 .left))
     (λ e. c .before .before .before .before .if2 .left (c .before .before .before .before .before .next-kind .ensures ∙
@@ -776,8 +776,8 @@ otherwise-body-requires : (t : ℕ) → otherwise-lts.Need-body-requires (
   body-below t,
   body.Post,
 ) (otherwise-at t) otherwise.Post
-otherwise-body-requires t c κs = let g = c .before .before .before .before .before .before .before .before .before .before .before .before .before .before .before .args in
-    let is : 7 * g .left + 1 ≡ t = c .before .before .before .before .before .before .before .before .before .before .before .before .before .before .before .pre .0 in (omega arith, c .before .before .before .before .before .before .before .before .before .before .before .before .before .before .before .pre .1)
+otherwise-body-requires t c κs = let g = c .before .before .before .before .before .before .before .before .before .before .before .before .before .before .before .before .args in
+    let is : 7 * g .left + 1 ≡ t = c .before .before .before .before .before .before .before .before .before .before .before .before .before .before .before .before .pre .0 in (omega arith, c .before .before .before .before .before .before .before .before .before .before .before .before .before .before .before .before .pre .1)
 
 otherwise-patch-requires-2 : (t : ℕ) → otherwise-lts.Need-patch-requires-2 (
   put-reads.Asked,
@@ -817,7 +817,7 @@ otherwise-returns : (t : ℕ) → otherwise-lts.Need-returns (
   body-below t,
   body.Post,
 ) (otherwise-at t) otherwise.Post
-otherwise-returns t c = λ ms m on. let g = c .before .before .before .before .before .before .before .before .before .before .before .before .before .before .before .before .before .before .before .before .before .before .before .before .args in
+otherwise-returns t c = λ ms m on. let g = c .before .before .before .before .before .before .before .before .before .before .before .before .before .before .before .before .before .before .before .before .before .before .before .before .before .args in
     otherwise-ends (g .text .now) (g .n) (g .left) ms m (g .e) _ _ (g .k) (g .scope .now) (g .row .now) (g .code .now) _
     _
     _ _ _ _ on (c .before .before .before .before .before .before .before .before .before .before .before .before .before .before .before .before .before .before .before .put .ensures) (c .before .before .before .before .before .before .before .before .before .before .before .before .before .before .before .patch .ensures) (c .before .before .before .before .before .before .before .before .body .ensures) (c .before .before .patch2 .ensures)
@@ -832,7 +832,7 @@ repeated-condition-requires : (t : ℕ) → repeated-lts.Need-condition-requires
   patch-reads.Asked,
   patch-reads.Learnt,
 ) (repeated-at t) repeated.Post
-repeated-condition-requires t c κs = c .before .before .before .before .before .before .pre .1
+repeated-condition-requires t c κs = c .before .before .before .before .before .before .before .pre .1 .0
 
 repeated-put-requires : (t : ℕ) → repeated-lts.Need-put-requires (
   condition-reads.Asked,
@@ -856,9 +856,9 @@ repeated-body-requires : (t : ℕ) → repeated-lts.Need-body-requires (
   patch-reads.Asked,
   patch-reads.Learnt,
 ) (repeated-at t) repeated.Post
-repeated-body-requires t c κs = let g = c .before .before .before .before .before .before .before .before .before .before .before .before .before .before .before .before .before .before .before .args in
-    let is : 7 * g .left + 1 ≡ t = c .before .before .before .before .before .before .before .before .before .before .before .before .before .before .before .before .before .before .before .pre .0 in
-    let long = c .before .before .before .before .before .before .before .before .before .before .before .before .before .before .before .before .before .before .before .pre .1 in (omega arith, omega (arith, c .before .before .before .before .before .before .before .before .before .before .before .pending .given))
+repeated-body-requires t c κs = let g = c .before .before .before .before .before .before .before .before .before .before .before .before .before .before .before .before .before .before .before .before .args in
+    let is : 7 * g .left + 1 ≡ t = c .before .before .before .before .before .before .before .before .before .before .before .before .before .before .before .before .before .before .before .before .pre .0 in
+    let long = c .before .before .before .before .before .before .before .before .before .before .before .before .before .before .before .before .before .before .before .before .pre .1 .0 in (omega arith, (omega (arith, c .before .before .before .before .before .before .before .before .before .before .before .pending .given), c .before .before .before .before .before .before .before .before .before .before .before .before .before .before .before .before .before .before .before .before .pre .1 .1))
 
 repeated-put-requires-2 : (t : ℕ) → repeated-lts.Need-put-requires-2 (
   condition-reads.Asked,
@@ -918,7 +918,7 @@ repeated-returns : (t : ℕ) → repeated-lts.Need-returns (
   patch-reads.Asked,
   patch-reads.Learnt,
 ) (repeated-at t) repeated.Post
-repeated-returns t c = λ on ms m. let g = c .before .before .before .before .before .before .before .before .before .before .before .before .before .before .before .before .before .before .before .before .before .before .before .before .before .before .before .before .before .before .before .before .args in
+repeated-returns t c = λ on ms m. let g = c .before .before .before .before .before .before .before .before .before .before .before .before .before .before .before .before .before .before .before .before .before .before .before .before .before .before .before .before .before .before .before .before .before .args in
     while-ends (g .text .now) (g .n) (g .left) ms m (g .e) _ _ _ (g .scope .now) (g .row .now) (g .code .now) _ _ _ _ _
     on
     (c .before .before .before .before .before .before .before .before .before .before .before .before .before .before .before .before .before .before .before .before .before .before .before .before .before .condition .ensures) (c .before .before .before .before .before .before .before .before .before .before .before .before .before .before .before .before .before .before .before .put .ensures) (c .before .before .before .before .before .before .before .before .before .before .before .before .body .ensures) _ _ _ (c .before .before .before .before .before .before .put2 .ensures) (c .before .before .patch .ensures)
@@ -931,7 +931,7 @@ statement-returns : (t : ℕ) → statement-lts.Need-returns (
   unbraced-below t,
   unbraced.Post,
 ) (statement-at t) statement′.Post
-statement-returns t c = let g = c .before .before .before .before .before .args in
+statement-returns t c = let g = c .before .before .before .before .before .before .args in
     let stuck = not-true (g .e .ok) (c .if1 .taken) in
     nothing-done (g .text .now) (g .n) (g .e) _ _ _ (g .e) _ _ _ (statementFrom (g .left)) stuck stuck
 
@@ -953,7 +953,7 @@ statement-returns-2 : (t : ℕ) → statement-lts.Need-returns-2 (
   unbraced-below t,
   unbraced.Post,
 ) (statement-at t) statement′.Post
-statement-returns-2 t c = let g = c .before .before .before .before .before .before .before .before .args in
+statement-returns-2 t c = let g = c .before .before .before .before .before .before .before .before .before .args in
     statement-deep (g .text .now) (g .n) (g .e) _ _ _ (g .e) _ _ _ (g .left) (not-false (g .e .ok)
     (c .before .before .before .if1 .left))
     (sym (c .before .before .next-kind .ensures) ∙ c .before .if2 .taken) (c .if3 .taken)
@@ -967,7 +967,7 @@ statement-sub-block : (t : ℕ) → statement-lts.Need-sub-block (
   unbraced.Post,
 ) (statement-at t) statement′.Post
 statement-sub-block t c = let g =
-    c .before .before .before .before .before .before .before .before .before .before .before .before .args in
+    c .before .before .before .before .before .before .before .before .before .before .before .before .before .args in
     let some = c .before .before .before .before .if3 .left in omega arith
 
 statement-block-requires : (t : ℕ) → statement-lts.Need-block-requires (
@@ -979,12 +979,12 @@ statement-block-requires : (t : ℕ) → statement-lts.Need-block-requires (
   unbraced.Post,
 ) (statement-at t) statement′.Post
 statement-block-requires t c κs = let g =
-    c .before .before .before .before .before .before .before .before .before .before .before .before .args in
+    c .before .before .before .before .before .before .before .before .before .before .before .before .before .args in
     let is : 7 * g .left + 4 ≡ t =
-    c .before .before .before .before .before .before .before .before .before .before .before .before .pre .0 in
+    c .before .before .before .before .before .before .before .before .before .before .before .before .before .pre .0 in
     let some = c .before .before .before .before .if3 .left in (
       omega arith,
-      c .before .before .before .before .before .before .before .before .before .before .before .before .pre .1,
+      c .before .before .before .before .before .before .before .before .before .before .before .before .before .pre .1,
     )
 
 statement-same-length : (t : ℕ) → statement-lts.Need-same-length (
@@ -1015,7 +1015,7 @@ statement-returns-3 : (t : ℕ) → statement-lts.Need-returns-3 (
   unbraced-below t,
   unbraced.Post,
 ) (statement-at t) statement′.Post
-statement-returns-3 t c = let g = c .before .before .before .before .before .before .before .before .before .before .before .before .before .before .before .before .before .args in
+statement-returns-3 t c = let g = c .before .before .before .before .before .before .before .before .before .before .before .before .before .before .before .before .before .before .args in
     statement-block (g .text .now) (g .n) (g .e) (g .scope .now) (g .row .now) (g .code .now) _ _ _ _ (g .left)
     (not-false (g .e .ok)
     (c .before .before .before .before .before .before .before .before .before .before .before .before .if1 .left))
@@ -1034,12 +1034,12 @@ statement-unbraced-requires : (t : ℕ) → statement-lts.Need-unbraced-requires
   unbraced.Post,
 ) (statement-at t) statement′.Post
 statement-unbraced-requires t c κs = let g =
-    c .before .before .before .before .before .before .before .before .before .before .before .args in
+    c .before .before .before .before .before .before .before .before .before .before .before .before .args in
     let is : 7 * g .left + 4 ≡ t =
-    c .before .before .before .before .before .before .before .before .before .before .before .pre .0 in (
+    c .before .before .before .before .before .before .before .before .before .before .before .before .pre .0 in (
       omega
           arith,
-      c .before .before .before .before .before .before .before .before .before .before .before .pre .1,
+      c .before .before .before .before .before .before .before .before .before .before .before .before .pre .1,
     )
 
 statement-same-length-3 : (t : ℕ) → statement-lts.Need-same-length-3 (
@@ -1070,7 +1070,7 @@ statement-returns-4 : (t : ℕ) → statement-lts.Need-returns-4 (
   unbraced-below t,
   unbraced.Post,
 ) (statement-at t) statement′.Post
-statement-returns-4 t c = let g = c .before .before .before .before .before .before .before .before .before .before .before .before .before .before .before .before .args in
+statement-returns-4 t c = let g = c .before .before .before .before .before .before .before .before .before .before .before .before .before .before .before .before .before .args in
     statement-other (g .text .now) (g .n) (g .e) (g .scope .now) (g .row .now) (g .code .now) _ _ _ _ (g .left)
     (not-false (g .e .ok)
     (c .before .before .before .before .before .before .before .before .before .before .before .if1 .left))
@@ -1079,7 +1079,7 @@ statement-returns-4 t c = let g = c .before .before .before .before .before .bef
     (c .before .before .before .before .unbraced .ensures)
 
 abbrev statements-Inv-loop : statements-lts.InvT-loop
-statements-Inv-loop text scope₀ n row₀ pending₀ code₀ left at₀ used₀ count₀ kind₀ scope row pending code at used count
+statements-Inv-loop text methods scope₀ n row₀ pending₀ code₀ left at₀ used₀ count₀ kind₀ scope row pending code at used count
     kind =
     (kind ≡ nextKind text at)
     × (((length pending ≡ length pending₀) × (length code ≡ length code₀))
@@ -1088,7 +1088,7 @@ statements-Inv-loop text scope₀ n row₀ pending₀ code₀ left at₀ used₀
     → StatementsFramed left text n (emitAt true at₀ used₀ count₀) scope₀ row₀ code₀ r scope₁ row₁ code₁))
 
 abbrev statements-μ-loop : statements-lts.MeasureT-loop
-statements-μ-loop text scope₀ n row₀ pending₀ code₀ left at₀ used₀ count₀ kind₀ scope row pending code at used count
+statements-μ-loop text methods scope₀ n row₀ pending₀ code₀ left at₀ used₀ count₀ kind₀ scope row pending code at used count
     kind =
     length text - at
 
@@ -1102,7 +1102,7 @@ statements-returns : (t : ℕ) → statements-lts.Need-returns (
   pass-reads.Asked,
   pass-reads.Learnt,
 ) (statements-at t) statements.Post statements-Inv-loop statements-μ-loop
-statements-returns t c = let g = c .before .before .before .before .before .args in
+statements-returns t c = let g = c .before .before .before .before .before .before .args in
     let stuck = not-true (g .e .ok) (c .if1 .taken) in
     statements-stuck (g .text .now) (g .n) (g .left) (g .e) _ _ _ (g .e) _ _ _ stuck stuck
 
@@ -1141,12 +1141,11 @@ statements-statement-requires : (t : ℕ) → statements-lts.Need-statement-requ
   pass-reads.Learnt,
 ) (statements-at t) statements.Post statements-Inv-loop statements-μ-loop
 statements-statement-requires t c κs = let g =
-    c .before .before .before .before .before .before .before .before .before .before .before .before .args in
+    c .before .before .before .before .before .before .before .before .before .before .before .before .before .args in
     let is : 7 * g .left + 5 ≡ t =
-    c .before .before .before .before .before .before .before .before .before .before .before .before .pre .0 in
-    let long = c .before .before .before .before .before .before .before .before .before .before .before .before .pre .1
-    in
-    let same = c .before .before .before .before .before .loop .inv .1 .0 .0 in (omega arith, omega arith)
+    c .before .before .before .before .before .before .before .before .before .before .before .before .before .pre .0 in
+    let long = c .before .before .before .before .before .before .before .before .before .before .before .before .before .pre .1 .0 in
+    let same = c .before .before .before .before .before .loop .inv .1 .0 .0 in (omega arith, (omega arith, c .before .before .before .before .before .before .before .before .before .before .before .before .before .pre .1 .1))
 
 statements-advances-requires : (t : ℕ) → statements-lts.Need-advances-requires (
   next-kind-reads.Asked,
@@ -1194,7 +1193,7 @@ statements-returns-2 : (t : ℕ) → statements-lts.Need-returns-2 (
   pass-reads.Asked,
   pass-reads.Learnt,
 ) (statements-at t) statements.Post statements-Inv-loop statements-μ-loop
-statements-returns-2 t c = let g = c .before .before .before .before .before .before .before .before .before .before .before .before .before .before .before .before .before .before .before .args in
+statements-returns-2 t c = let g = c .before .before .before .before .before .before .before .before .before .before .before .before .before .before .before .before .before .before .before .before .args in
     let l = c .before .before .before .before .before .before .before .before .before .before .before .before .loop in
     let on = not-false (g .e .ok) (c .before .before .before .before .before .before .before .before .before .before .before .before .before .before .if1 .left) in
     statements-framed (g .text .now) (g .n) (g .left) (g .e) (g .scope .now) (g .row .now) (g .code .now) _ _ _ _ on
@@ -1227,7 +1226,7 @@ statements-loop-less : (t : ℕ) → statements-lts.Need-loop-less (
   pass-reads.Asked,
   pass-reads.Learnt,
 ) (statements-at t) statements.Post statements-Inv-loop statements-μ-loop
-statements-loop-less t c = let g = c .before .before .before .before .before .before .before .before .before .before .before .before .before .before .before .before .before .before .before .before .args in
+statements-loop-less t c = let g = c .before .before .before .before .before .before .before .before .before .before .before .before .before .before .before .before .before .before .before .before .before .args in
     let l = c .before .before .before .before .before .before .before .before .before .before .before .before .before .loop in
     let s = c .before .before .before .before .before .before .before .statement .result in
     let bounds = c .before .before .advances .ensures .on (not-false (c .before .before .advances .result)
@@ -1245,7 +1244,7 @@ statements-loop-again : (t : ℕ) → statements-lts.Need-loop-again (
   pass-reads.Asked,
   pass-reads.Learnt,
 ) (statements-at t) statements.Post statements-Inv-loop statements-μ-loop
-statements-loop-again t c = let g = c .before .before .before .before .before .before .before .before .before .before .before .before .before .before .before .before .before .before .before .before .args in
+statements-loop-again t c = let g = c .before .before .before .before .before .before .before .before .before .before .before .before .before .before .before .before .before .before .before .before .before .args in
     let l = c .before .before .before .before .before .before .before .before .before .before .before .before .before .loop in
     let s = c .before .before .before .before .before .before .before .statement .result in
     let bounds = c .before .before .advances .ensures .on (not-false (c .before .before .advances .result)
@@ -1259,14 +1258,14 @@ statements-loop-again t c = let g = c .before .before .before .before .before .b
         (λ r scope₁ row₁ code₁ later. l .inv .1 .1 r scope₁ row₁ code₁
             (statements-on (g .text .now) (g .n) (g .left) (emitAt true (l .at) (l .used) (l .count)) s (l .scope)
             (l .row)
-            (l .code) (c .before .before .before .before .before .before .before .statement .last .1 .1 .0)
-            (c .before .before .before .before .before .before .before .statement .last .1 .1 .1 .1 .0)
-            (c .before .before .before .before .before .before .before .statement .last .1 .1 .1 .1 .1 .1 .0) refl
+            (l .code) (c .before .before .before .before .before .before .before .statement .last .1 .1 .1 .0)
+            (c .before .before .before .before .before .before .before .statement .last .1 .1 .1 .1 .1 .0)
+            (c .before .before .before .before .before .before .before .statement .last .1 .1 .1 .1 .1 .1 .1 .0) refl
             (λ e. c .before .before .before .before .before .before .before .before .before .before .before .before .loop-test .taken (l .inv .0 ∙ e)) (c .before .before .before .before .before .before .before .statement .ensures) r scope₁ row₁ code₁
             (statements-as (g .text .now) (g .n) (g .left) s
-            (c .before .before .before .before .before .before .before .statement .last .1 .1 .0)
-            (c .before .before .before .before .before .before .before .statement .last .1 .1 .1 .1 .0)
-            (c .before .before .before .before .before .before .before .statement .last .1 .1 .1 .1 .1 .1 .0) r scope₁
+            (c .before .before .before .before .before .before .before .statement .last .1 .1 .1 .0)
+            (c .before .before .before .before .before .before .before .statement .last .1 .1 .1 .1 .1 .0)
+            (c .before .before .before .before .before .before .before .statement .last .1 .1 .1 .1 .1 .1 .1 .0) r scope₁
             row₁ code₁ (bounds .0) later))),
       ),
     )
@@ -1317,7 +1316,7 @@ statements-returns-3 : (t : ℕ) → statements-lts.Need-returns-3 (
   pass-reads.Asked,
   pass-reads.Learnt,
 ) (statements-at t) statements.Post statements-Inv-loop statements-μ-loop
-statements-returns-3 t c = let g = c .before .before .before .before .before .before .before .before .before .args in
+statements-returns-3 t c = let g = c .before .before .before .before .before .before .before .before .before .before .args in
     let l = c .before .before .loop in
     let on = not-false (g .e .ok) (c .before .before .before .before .if1 .left) in
     statements-framed (g .text .now) (g .n) (g .left) (g .e) (g .scope .now) (g .row .now) (g .code .now) _ _ _ _ on
@@ -1366,11 +1365,11 @@ unbraced-conditional-requires : (t : ℕ) → unbraced-lts.Need-conditional-requ
   simple-reads.Learnt,
 ) (unbraced-at t) unbraced.Post
 unbraced-conditional-requires t c κs = let g =
-    c .before .before .before .before .before .before .before .before .before .before .args in
+    c .before .before .before .before .before .before .before .before .before .before .before .args in
     let is : 7 * g .left + 3 ≡ t =
-    c .before .before .before .before .before .before .before .before .before .before .pre .0 in (
+    c .before .before .before .before .before .before .before .before .before .before .before .pre .0 in (
       omega arith,
-      c .before .before .before .before .before .before .before .before .before .before .pre .1,
+      c .before .before .before .before .before .before .before .before .before .before .before .pre .1,
     )
 
 unbraced-same-length : (t : ℕ) → unbraced-lts.Need-same-length (
@@ -1413,7 +1412,7 @@ unbraced-returns : (t : ℕ) → unbraced-lts.Need-returns (
   simple-reads.Asked,
   simple-reads.Learnt,
 ) (unbraced-at t) unbraced.Post
-unbraced-returns t c = λ on. let g = c .before .before .before .before .before .before .before .before .before .before .before .before .before .before .before .args in
+unbraced-returns t c = λ on. let g = c .before .before .before .before .before .before .before .before .before .before .before .before .before .before .before .before .args in
     unbraced-if (g .text .now) (g .n) (g .e) (g .scope .now) (g .row .now) (g .code .now) _ _ _ _ (g .left) on _
     (sym (c .before .before .before .before .before .before .before .before .before .before .before .next-kind .ensures)
     ∙ c .before .before .before .before .before .before .before .before .before .before .if1 .taken)
@@ -1447,12 +1446,12 @@ unbraced-repeated-requires : (t : ℕ) → unbraced-lts.Need-repeated-requires (
   simple-reads.Learnt,
 ) (unbraced-at t) unbraced.Post
 unbraced-repeated-requires t c κs = let g =
-    c .before .before .before .before .before .before .before .before .before .before .before .args in
+    c .before .before .before .before .before .before .before .before .before .before .before .before .args in
     let is : 7 * g .left + 3 ≡ t =
-    c .before .before .before .before .before .before .before .before .before .before .before .pre .0 in (
+    c .before .before .before .before .before .before .before .before .before .before .before .before .pre .0 in (
       omega
           arith,
-      c .before .before .before .before .before .before .before .before .before .before .before .pre .1,
+      c .before .before .before .before .before .before .before .before .before .before .before .before .pre .1,
     )
 
 unbraced-same-length-3 : (t : ℕ) → unbraced-lts.Need-same-length-3 (
@@ -1495,7 +1494,7 @@ unbraced-returns-2 : (t : ℕ) → unbraced-lts.Need-returns-2 (
   simple-reads.Asked,
   simple-reads.Learnt,
 ) (unbraced-at t) unbraced.Post
-unbraced-returns-2 t c = λ on. let g = c .before .before .before .before .before .before .before .before .before .before .before .before .before .before .before .before .args in
+unbraced-returns-2 t c = λ on. let g = c .before .before .before .before .before .before .before .before .before .before .before .before .before .before .before .before .before .args in
     unbraced-while (g .text .now) (g .n) (g .e) (g .scope .now) (g .row .now) (g .code .now) _ _ _ _ (g .left) on _
     (sym (c .before .before .before .before .before .before .before .before .before .before .before .before .next-kind .ensures) ∙ c .before .before .before .before .before .before .before .before .before .before .if2 .taken) (c .before .before .before .before .before .before .before .before .before .pass2 .ensures) (c .before .before .before .before .repeated .ensures)
 
@@ -1511,7 +1510,7 @@ unbraced-simple-requires : (t : ℕ) → unbraced-lts.Need-simple-requires (
   simple-reads.Asked,
   simple-reads.Learnt,
 ) (unbraced-at t) unbraced.Post
-unbraced-simple-requires t c κs = c .before .before .before .before .before .before .before .before .before .pre .1
+unbraced-simple-requires t c κs = c .before .before .before .before .before .before .before .before .before .before .pre .1
 
 unbraced-same-length-5 : (t : ℕ) → unbraced-lts.Need-same-length-5 (
   next-kind-reads.Asked,
@@ -1553,7 +1552,7 @@ unbraced-returns-3 : (t : ℕ) → unbraced-lts.Need-returns-3 (
   simple-reads.Asked,
   simple-reads.Learnt,
 ) (unbraced-at t) unbraced.Post
-unbraced-returns-3 t c = λ on. let g = c .before .before .before .before .before .before .before .before .before .before .before .before .before .before .args in
+unbraced-returns-3 t c = λ on. let g = c .before .before .before .before .before .before .before .before .before .before .before .before .before .before .before .args in
     unbraced-simple (g .text .now) (g .n) (g .e) (g .scope .now) (g .row .now) (g .code .now) _ _ (g .left) on
     (λ e. c .before .before .before .before .before .before .before .before .before .if1 .left
     (c .before .before .before .before .before .before .before .before .before .before .next-kind .ensures ∙ e))
