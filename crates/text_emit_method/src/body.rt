@@ -1,6 +1,7 @@
 // "{ varDeclaration code* }" of a method: no CLEAR, and its block is the first level of nesting.
 ghost use Prim.Native.Nat.{_≤_};
 ghost use lib.ListN.{length};
+ghost use Rattle.text_methods.specs.IndexCode.{Indexed};
 ghost use Rattle.text_emit_method.specs.StepsCode.{BodyTranslates};
 use text_declare::declarations::declarations;
 use text_emit::emit::Emit;
@@ -10,6 +11,7 @@ use text_tokens::next::next_token;
 // The n parameters have the first slots. Nothing is written where `pending` is too short for what waits.
 pub fn body(
     text: &[u8],
+    methods: &[usize],
     from: usize,
     n: usize,
     row: &mut [u16; 18],
@@ -17,6 +19,7 @@ pub fn body(
     pending: &mut [usize],
     code: &mut [usize],
 ) -> Emit
+    requires { ⌜ Indexed (now text) (now methods) ⌝ }
     ensures { λ r. ⌜
         (12288 ≤ length (now (pending .entry))
         → BodyTranslates (now (text .entry)) from n (now (scope .entry)) (now (row .entry)) (now (code .entry)) r
@@ -41,5 +44,5 @@ pub fn body(
     if !d.ok {
         return begin;
     }
-    statements(text, begin, scope, d.n, row, pending, code, 31)
+    statements(text, methods, begin, scope, d.n, row, pending, code, 31)
 }

@@ -8,6 +8,7 @@ ghost use Rattle.text_parse.specs.Tokens.{Token, tokensOf};
 ghost use Rattle.text_parse.specs.Grammar.{read, programOf};
 ghost use Rattle.text_parse.specs.Equations.{methodFrom};
 ghost use Rattle.text_tokens.specs.Places.{tokensAt};
+ghost use Rattle.text_methods.specs.IndexCode.{Indexed};
 ghost use Rattle.text_emit_method.specs.MethodCode.{MethodEmits};
 use crate::body::body;
 use crate::close::close;
@@ -26,12 +27,14 @@ pub struct MethodAt {
 // The method that begins at this place.
 pub fn emit_method(
     text: &[u8],
+    methods: &[usize],
     at: usize,
     row: &mut [u16; 18],
     scope: &mut [usize; 64],
     pending: &mut [usize],
     code: &mut [usize],
 ) -> MethodAt
+    requires { ⌜ Indexed (now text) (now methods) ⌝ }
     ensures { λ r. ⌜
         ((ns : Program) (us : List Token) → programOf (tokensOf (now (text .entry))) ≡ read ns us
         → 12288 ≤ length (now (pending .entry)) → 8192 ≤ length (now (code .entry))
@@ -49,7 +52,7 @@ pub fn emit_method(
             long: 0,
         };
     }
-    let b = body(text, h.at, h.n, row, scope, pending, code);
+    let b = body(text, methods, h.at, h.n, row, scope, pending, code);
     let e = close(row, code, b, h.code);
     MethodAt {
         ok: e.ok,

@@ -33,10 +33,9 @@ same-length-2 c = search needs
 
 returns-3 : tie.Need-returns-3
 returns-3 c =
-    let back = c .before .before .before .before .before .before .before .before in
-    let brace = back .before .before .before .before .before .before .next-token in
-    let d = back .before .before .before .declarations in
-    let left = back .before .if2 .left in
+    let brace = c .before .before .before .before .before .before .before .before .before .before .before .before .before .before .next-token in
+    let d = c .before .before .before .before .before .before .before .before .before .before .before .declarations in
+    let left = c .before .before .before .before .before .before .before .before .before .if2 .left in
     λ p. body-written _ _ _ _ _ _ _ _ (brace .result) _ _ _ _ (brace .ensures) (d .ensures) _ _ _ _
     (not-false (d .result .ok) left) (c .before .before .before .before .statements .ensures)
 
