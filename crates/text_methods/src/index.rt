@@ -1,4 +1,6 @@
-// The methods of a text, written down in one pass, so that no name that is called makes the text be read again.
+// The methods of a text, written down in one pass, so that no name that is called makes the text be read again. Word 0
+// of an index is how many methods there are. Words 4 i + 1 to 4 i + 4 are of method i in text order, for the first 32:
+// where its name starts and ends, a place from which on its tokens stand, and how many parameters it has.
 ghost use mathlib.Core.Path.{_≡_};
 ghost use mathlib.Core.Bool.{true, cond, _&&_};
 ghost use Prim.Native.Nat.{_+_, _*_, _≤_, _<_};
@@ -59,6 +61,7 @@ fn enter(
     }
 }
 
+// The index of a text.
 pub fn index_methods(text: &[u8], index: &mut [usize])
     requires { ⌜ 129 ≤ length (now index) ⌝ }
     ensures { λ r. ⌜ Indexed (now (text .entry)) (now (index .exit)) ⌝ }
