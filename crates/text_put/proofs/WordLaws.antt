@@ -171,13 +171,13 @@ module _ (f : ℕ → ℕ) (op a : ℕ) where
 
 -- the number of the method whose name stands at a place
 
-pub called-in : (text : List ℕ) (main a : ℕ) (t : TokenAt) (x : List ℕ) (index r : ℕ) → a ≤ length text
-    → NextToken text a t → x ≡ slice (t .start) (t .end) text → index ≡ rowIndex x (rowsOf text)
-    → r ≡ numberIn main index → r ≡ calledAt text main a
+pub called-in : (text : List ℕ) (main a : ℕ) (t : TokenAt) (index r : ℕ) → a ≤ length text → NextToken text a t
+    → index ≡ rowIndex (slice (t .start) (t .end) text) (rowsOf text) → r ≡ numberIn main index
+    → r ≡ calledAt text main a
 unfolding calledAt
-called-in text main a t x index r l n e i q =
+called-in text main a t index r l n i q =
     rw (le-leb a (length text) l)
-    (q ∙ ap (numberIn main) (i ∙ ap (λ y. rowIndex y (rowsOf text)) (e ∙ ap (λ ts. first ts .bytes) (sym (n .reads)))))
+    (q ∙ ap (numberIn main) (i ∙ ap (λ y. rowIndex y (rowsOf text)) (ap (λ ts. first ts .bytes) (sym (n .reads)))))
 
 pub called-past : (text : List ℕ) (main a : ℕ) → length text < a → 0 ≡ calledAt text main a
 unfolding calledAt

@@ -11,13 +11,13 @@ number-at-requires c κs = search needs
 
 returns : tie.Need-returns
 returns c =
-    let args = c .before .before .before .args in
+    let args = c .before .before .before .before .args in
     c .number-at .ensures ∙ argument-called (calledAt (args .text .now) (args .main)) (args .op) (args .a)
     (c .before .if1 .taken)
 
 returns-2 : tie.Need-returns-2
 returns-2 c =
-    let args = c .before .before .args in
+    let args = c .before .before .before .args in
     argument-stays (calledAt (args .text .now) (args .main)) (args .op) (args .a) (c .if1 .left)
 
 pub argument-of-spec : {M : Type 1} → statement M
