@@ -6,6 +6,7 @@ ghost use lib.ListN.{length};
 ghost use Rattle.text.specs.Tree.{Program, mainFirst};
 ghost use Rattle.text_parse.specs.Tokens.{Token, tokensOf};
 ghost use Rattle.text_parse.specs.Grammar.{read, programOf};
+ghost use Rattle.text_methods.specs.IndexCode.{Indexed};
 ghost use Rattle.text_judge.specs.RowsCode.{judged};
 ghost use Rattle.text_judge.specs.JudgeCode.{subjectIn};
 ghost use Rattle.text_judge.specs.ResumeCode.{IsMethod, InMethod};
@@ -39,6 +40,7 @@ fn to_call(
 // A call, and on to the next one.
 fn past_call(
     text: &[u8],
+    methods: &[usize],
     code: &[usize],
     words: &[u16],
     own: &[u16],
@@ -47,11 +49,12 @@ fn past_call(
     j: Judgement,
 ) -> Judgement
     requires { ⌜ Prepared (now text) (now code) (now words) (now own) (now targets) n
-        × UpTo (now text) (now code) (now words) (now own) n j × (j .at < n .long) × (j .pending .count ≤ 8) ⌝ }
+        × UpTo (now text) (now code) (now words) (now own) n j × (j .at < n .long) × (j .pending .count ≤ 8)
+        × Indexed (now text) (now methods) ⌝ }
     ensures { λ r. ⌜
         UpTo (now (text .entry)) (now (code .entry)) (now (words .entry)) (now (own .entry)) n r × (j .at < r .at) ⌝ }
 {
-    let row = callee_row(text, code[2 * j.at + 1]);
+    let row = callee_row(text, methods, code[2 * j.at + 1]);
     let next = judge_call(words, own, &row, targets, n, j);
     let none = [0u16; 18];
     judge(words, own, &none, targets, n, next)
@@ -60,42 +63,52 @@ fn past_call(
 // All of it.
 fn judge_all(
     text: &[u8],
+    methods: &[usize],
     code: &[usize],
     words: &[u16],
     own: &[u16],
     targets: &[u8],
     n: Counts,
 ) -> bool
-    requires { ⌜ Prepared (now text) (now code) (now words) (now own) (now targets) n ⌝ }
+    requires { ⌜ Prepared (now text) (now code) (now words) (now own) (now targets) n
+        × Indexed (now text) (now methods) ⌝ }
     ensures { λ r. ⌜ ((ns : Program) (us : List Token) → programOf (tokensOf (now (text .entry))) ≡ read ns us
         → r ≡ judged (subjectIn (now (words .entry)) (now (own .entry)) n
         (calledRow (now (text .entry)) (mainFirst ns) (now (code .entry))))) ⌝ }
 {
     let mut j = to_call(text, code, words, own, targets, n);
     while (j.at < n.long) & (j.pending.count <= 8) {
-        let next = past_call(text, code, words, own, targets, n, j);
+        let next = past_call(text, methods, code, words, own, targets, n, j);
         j = next;
     }
     j.pending.count <= 8
 }
 
 // With the targets of its jumps.
-fn judge_words(text: &[u8], code: &[usize], words: &[u16], own: &[u16], n: Counts) -> bool
+fn judge_words(
+    text: &[u8],
+    methods: &[usize],
+    code: &[usize],
+    words: &[u16],
+    own: &[u16],
+    n: Counts,
+) -> bool
     requires { ⌜ IsMethod (now words) (now own) n × CallsIn (now text) (now code) (n .long)
         × Numbered (now code) (now words) (n .long) × (2 * n .long ≤ length (now code)) × (n .methods ≡ 4096)
-        × (n .known ≡ 0) ⌝ }
+        × (n .known ≡ 0) × Indexed (now text) (now methods) ⌝ }
     ensures { λ r. ⌜ ((ns : Program) (us : List Token) → programOf (tokensOf (now (text .entry))) ≡ read ns us
         → r ≡ judged (subjectIn (now (words .entry)) (now (own .entry)) n
         (calledRow (now (text .entry)) (mainFirst ns) (now (code .entry))))) ⌝ }
 {
     let mut targets = [0u8; 4096];
     mark_targets(words, n.long, &mut targets);
-    judge_all(text, code, words, own, &targets, n)
+    judge_all(text, methods, code, words, own, &targets, n)
 }
 
-// Whether questions 4 and 5 say yes to the code of a method, which stands in `code` with the places of the called names.
-pub fn method_kept(text: &[u8], code: &[usize], long: usize, own: &[u16]) -> bool
-    requires { ⌜ MethodHere (now text) (now code) (now own) long ⌝ }
+// Whether questions 4 and 5 say yes to the code of a method, which stands in `code` with the places of the called
+// names; `methods` is the index of the text's methods.
+pub fn method_kept(text: &[u8], methods: &[usize], code: &[usize], long: usize, own: &[u16]) -> bool
+    requires { ⌜ MethodHere (now text) (now code) (now own) long × Indexed (now text) (now methods) ⌝ }
     ensures { λ r. ⌜ ((h : MethodHere (now (text .entry)) (now (code .entry)) (now (own .entry)) long)
         → r ≡ keptHere h) ⌝ }
 {
@@ -107,5 +120,5 @@ pub fn method_kept(text: &[u8], code: &[usize], long: usize, own: &[u16]) -> boo
     let mut words = [0u16; 8192];
     number_calls(code, long, &mut words);
     let part = &words[0..2 * long];
-    judge_words(text, code, part, own, n)
+    judge_words(text, methods, code, part, own, n)
 }

@@ -15,15 +15,18 @@ slice-aggregate-judge-all : tie.Need-slice-aggregate-judge-all
 slice-aggregate-judge-all c = search needs
 
 judge-all-requires : tie.Need-judge-all-requires
-judge-all-requires c κs = record {
-  method = in-method _ _ _ _ _ (c .before .before .before .before .before .before .before .before .pre .0) (search
-      needs) (λ i l. getD-replicate 4096 i 0 0 l) (c .before .before .mark-targets .ensures);
-  called = c .before .before .before .before .before .before .before .before .pre .1;
-  numbered = c .before .before .before .before .before .before .before .before .pre .2;
-  enough = c .before .before .before .before .before .before .before .before .pre .3;
-  methods = c .before .before .before .before .before .before .before .before .pre .4;
-  known = c .before .before .before .before .before .before .before .before .pre .5;
-}
+judge-all-requires c κs = (
+  record {
+    method = in-method _ _ _ _ _ (c .before .before .before .before .before .before .before .before .before .pre .0)
+        (search needs) (λ i l. getD-replicate 4096 i 0 0 l) (c .before .before .mark-targets .ensures);
+    called = c .before .before .before .before .before .before .before .before .before .pre .1;
+    numbered = c .before .before .before .before .before .before .before .before .before .pre .2;
+    enough = c .before .before .before .before .before .before .before .before .before .pre .3;
+    methods = c .before .before .before .before .before .before .before .before .before .pre .4;
+    known = c .before .before .before .before .before .before .before .before .before .pre .5;
+  },
+  c .before .before .before .before .before .before .before .before .before .pre .6,
+)
 
 returns : tie.Need-returns
 returns c = c .judge-all .ensures

@@ -26,17 +26,19 @@ part-part-end c = search needs
 
 judge-words-requires : tie.Need-judge-words-requires
 judge-words-requires c κs = (
-  method-words _ _ _ _ _ (c .before .before .before .before .before .before .before .before .pre) (search needs),
-  calls-in _ _ _ _ (c .before .before .before .before .before .before .before .before .pre),
+  method-words _ _ _ _ _ (c .before .before .before .before .before .before .before .before .before .pre .0)
+      (search needs),
+  calls-in _ _ _ _ (c .before .before .before .before .before .before .before .before .before .pre .0),
   part-numbered _ _ _ (c .before .before .before .number-calls .ensures),
-  c .before .before .before .before .before .before .before .before .pre .enough,
+  c .before .before .before .before .before .before .before .before .before .pre .0 .enough,
   refl,
   refl,
+  c .before .before .before .before .before .before .before .before .before .pre .1,
 )
 
 returns : tie.Need-returns
 returns c =
-    let args = c .before .before .before .before .before .before .before .before .before .args in
+    let args = c .before .before .before .before .before .before .before .before .before .before .args in
     λ h. c .judge-words .ensures (h .program) (h .left) (h .reads)
     ∙ kept-by _ _ _ _ h _ (part-numbered _ _ _ (c .before .before .before .before .number-calls .ensures))
     (record { long = args .long; methods = 4096; known = 0 }) refl refl

@@ -17,61 +17,57 @@ mul-callee-row-2 c = search needs
 shared-slice-read-callee-row : tie.Need-shared-slice-read-callee-row
 shared-slice-read-callee-row c = omega (
   arith,
-  c .before .before .before .before .before .before .before .pre .0 .enough,
-  c .before .before .before .before .before .before .before .pre .2,
+  c .before .before .before .before .before .before .before .before .pre .0 .enough,
+  c .before .before .before .before .before .before .before .before .pre .2,
 )
 
 callee-row-requires : tie.Need-callee-row-requires
-callee-row-requires c κs =
-    call-place _ _ _ _ _ _ (c .before .before .before .before .before .before .before .pre .0) _
-    (c .before .before .before .before .before .before .before .pre .1)
-    (c .before .before .before .before .before .before .before .pre .2)
-    (c .before .before .before .before .before .before .before .pre .3)
+callee-row-requires c κs = (
+  call-place _ _ _ _ _ _ (c .before .before .before .before .before .before .before .before .pre .0) _
+      (c .before .before .before .before .before .before .before .before .pre .1)
+      (c .before .before .before .before .before .before .before .before .pre .2)
+      (c .before .before .before .before .before .before .before .before .pre .3),
+  c .before .before .before .before .before .before .before .before .pre .4,
+)
 
 slice-aggregate-judge-call : tie.Need-slice-aggregate-judge-call
 slice-aggregate-judge-call c = search needs
 
 judge-call-requires : tie.Need-judge-call-requires
 judge-call-requires c κs = (
-  c .before .before .before .before .before .before .before .before .before .pre .0 .method,
-  call-row _ _ _ _ _ _ (c .before .before .before .before .before .before .before .before .before .pre .0) _
-      (c .before .before .before .before .before .before .before .before .before .pre .1)
-      (c .before .before .before .before .before .before .before .before .before .pre .2)
-      (c .before .before .before .before .before .before .before .before .before .pre .3) _
+  c .before .before .before .before .before .before .before .before .before .before .pre .0 .method,
+  call-row _ _ _ _ _ _ (c .before .before .before .before .before .before .before .before .before .before .pre .0) _
+      (c .before .before .before .before .before .before .before .before .before .before .pre .1)
+      (c .before .before .before .before .before .before .before .before .before .before .pre .2)
+      (c .before .before .before .before .before .before .before .before .before .before .pre .3) _
       (c .before .callee-row .ensures),
-  c .before .before .before .before .before .before .before .before .before .pre .2,
-  c .before .before .before .before .before .before .before .before .before .pre .1 .stops
-      (c .before .before .before .before .before .before .before .before .before .pre .2)
-      (c .before .before .before .before .before .before .before .before .before .pre .3),
-  c .before .before .before .before .before .before .before .before .before .pre .3,
-  c .before .before .before .before .before .before .before .before .before .pre .1 .held,
+  c .before .before .before .before .before .before .before .before .before .before .pre .2,
+  c .before .before .before .before .before .before .before .before .before .before .pre .1 .stops
+      (c .before .before .before .before .before .before .before .before .before .before .pre .2)
+      (c .before .before .before .before .before .before .before .before .before .before .pre .3),
+  c .before .before .before .before .before .before .before .before .before .before .pre .3,
+  c .before .before .before .before .before .before .before .before .before .before .pre .1 .held,
 )
 
 slice-aggregate-judge : tie.Need-slice-aggregate-judge
 slice-aggregate-judge c = search needs
 
 judge-requires : tie.Need-judge-requires
-judge-requires c κs = (
-  c .before .before .before .before .before .before .before .before .before .before .before .pre .0 .method,
-  at-hand _ _
-      (c .before .before .before .before .before .before .before .before .before .before .before .pre .0 .known),
-  omega (
-    arith,
-    c .before .judge-call .ensures .0,
-    c .before .before .before .before .before .before .before .before .before .before .before .pre .2,
-  ),
-  c .before .judge-call .ensures .1,
-)
+judge-requires c κs =
+    let start = c .before .before .before .before .before .before .before .before .before .before .before .before in (
+      start .pre .0 .method,
+      at-hand _ _ (start .pre .0 .known),
+      omega (arith, c .before .judge-call .ensures .0, start .pre .2),
+      c .before .judge-call .ensures .1,
+    )
 
 returns : tie.Need-returns
 returns c =
-    past-one _ _ _ _ _ _
-    (c .before .before .before .before .before .before .before .before .before .before .before .before .pre .0) _
-    (c .before .before .before .before .before .before .before .before .before .before .before .before .pre .1)
-    (c .before .before .before .before .before .before .before .before .before .before .before .before .pre .2)
-    (c .before .before .before .before .before .before .before .before .before .before .before .before .pre .3) _ _
-    (c .before .before .before .before .callee-row .ensures) _ _
-    (c .before .before .judge-call .ensures .0) (c .before .before .judge-call .ensures .2) (c .judge .ensures)
+    let judged = c .before .before in
+    let start = judged .before .before .before .before .before .before .before .before .before .before .before in
+    past-one _ _ _ _ _ _ (start .pre .0) _ (start .pre .1) (start .pre .2) (start .pre .3) _ _
+    (judged .before .before .callee-row .ensures) _ _ (judged .judge-call .ensures .0) (judged .judge-call .ensures .2)
+    (c .judge .ensures)
 
 pub past-call-spec : {M : Type 1} → statement M
 past-call-spec =
