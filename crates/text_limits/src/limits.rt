@@ -2,6 +2,7 @@
 ghost use mathlib.Core.Path.{_≡_};
 ghost use Prim.Native.Nat.{_+_, _*_, _<_, _≤_};
 ghost use lib.ListN.{length, set};
+ghost use Rattle.text_methods.specs.IndexCode.{Indexed};
 ghost use Rattle.text_judge.specs.RowsCode.{copied};
 ghost use Rattle.text_limits.specs.LimitsCode.{WellNamed, MethodThere};
 ghost use Rattle.text_limits.specs.MeasuresCode.{Judgement, LimitsSay};
@@ -35,6 +36,7 @@ fn keep(lengths: &mut [u16], rows: &mut [u16], k: usize, long: usize, row: &[u16
 // The next method: where no limit is passed with it, its length and its row are kept.
 fn judge_next(
     text: &[u8],
+    methods: &[usize],
     at: usize,
     k: usize,
     total: usize,
@@ -44,14 +46,25 @@ fn judge_next(
     rows: &mut [u16],
 ) -> Verdict
     requires { ⌜ MethodThere (now text) at k × (k ≤ 32) × (total ≤ 4096) × (12288 ≤ length (now pending))
-        × (8192 ≤ length (now code)) × (32 ≤ length (now lengths)) × (576 ≤ length (now rows)) ⌝ }
+        × (8192 ≤ length (now code)) × (32 ≤ length (now lengths)) × (576 ≤ length (now rows))
+        × Indexed (now text) (now methods) ⌝ }
     ensures { λ r. ⌜ ((h : MethodThere (now (text .entry)) at k)
         → Judgement (now (text .entry)) at k h total (r .ok) (r .at) (r .start) (r .long) (now (lengths .entry))
         (now (rows .entry)) (now (lengths .exit)) (now (rows .exit))) ⌝ }
 {
     let mut row = [0u16; 18];
     let mut scope = [0usize; 64];
-    let v = judge_method(text, at, k, total, &mut row, &mut scope, pending, code);
+    let v = judge_method(
+        text,
+        methods,
+        at,
+        k,
+        total,
+        &mut row,
+        &mut scope,
+        pending,
+        code,
+    );
     if !v.ok {
         return v;
     }
@@ -68,16 +81,17 @@ pub struct LimitsAt {
     pub instructions: usize,
 }
 
-// The methods are judged in text order.
+// The methods are judged in text order; `methods` is the index by which the called ones are found.
 pub fn limits(
     text: &[u8],
+    methods: &[usize],
     pending: &mut [usize],
     code: &mut [usize],
     lengths: &mut [u16],
     rows: &mut [u16],
 ) -> LimitsAt
     requires { ⌜ WellNamed (now text) × (12288 ≤ length (now pending)) × (8192 ≤ length (now code))
-        × (32 ≤ length (now lengths)) × (576 ≤ length (now rows)) ⌝ }
+        × (32 ≤ length (now lengths)) × (576 ≤ length (now rows)) × Indexed (now text) (now methods) ⌝ }
     ensures { λ r. ⌜ ((w : WellNamed (now (text .entry)))
         → LimitsSay (w .program) (r .ok) (r .at) (r .methods) (r .instructions) (now (lengths .exit))
         (now (rows .exit))) ⌝ }
@@ -87,7 +101,7 @@ pub fn limits(
     let mut k = 0;
     let mut total = 0;
     while k < n {
-        let v = judge_next(text, at, k, total, pending, code, lengths, rows);
+        let v = judge_next(text, methods, at, k, total, pending, code, lengths, rows);
         if !v.ok {
             return LimitsAt {
                 ok: false,

@@ -7,6 +7,7 @@ ghost use lib.ListN.{getD, length};
 ghost use lib.Seq.{slice};
 ghost use Rattle.lists.specs.Lists.{same};
 ghost use Rattle.text.specs.Tree.{ascii, mainFirst};
+ghost use Rattle.text_methods.specs.IndexCode.{Indexed};
 ghost use Rattle.text_limits.specs.LimitsCode.{MethodThere, isWithin, Emitted, Answered};
 use text_emit_method::method::MethodAt;
 use text_emit_method::method::emit_method;
@@ -26,6 +27,7 @@ fn main_kept(text: &[u8], start: usize, end: usize, row: &[u16]) -> bool
 // No limit is passed with the method whose code and row are written.
 fn within_limits(
     text: &[u8],
+    methods: &[usize],
     code: &[usize],
     row: &[u16],
     m: MethodAt,
@@ -33,7 +35,7 @@ fn within_limits(
     total: usize,
 ) -> bool
     requires { ⌜ Emitted (now text) (now code) (now row) (m .start) (m .end) (m .long) × (before ≤ 32)
-        × (total ≤ 4096) ⌝ }
+        × (total ≤ 4096) × Indexed (now text) (now methods) ⌝ }
     ensures { λ r. ⌜ ((h : Emitted (now (text .entry)) (now (code .entry)) (now (row .entry)) (m .start) (m .end)
         (m .long)) → r ≡ isWithin before total (mainFirst (h .named .program)) (h .method)) ⌝ }
 {
@@ -49,7 +51,7 @@ fn within_limits(
     if !main_kept(text, m.start, m.end, row) {
         return false;
     }
-    method_kept(text, code, m.long, row)
+    method_kept(text, methods, code, m.long, row)
 }
 
 // How a method is judged: whether no limit is passed with it, the place after it, where its name stands, and how many
@@ -64,6 +66,7 @@ pub struct Verdict {
 // The method that begins at a place, with so many methods and instructions before it.
 pub fn judge_method(
     text: &[u8],
+    methods: &[usize],
     at: usize,
     before: usize,
     total: usize,
@@ -73,12 +76,13 @@ pub fn judge_method(
     code: &mut [usize],
 ) -> Verdict
     requires { ⌜ MethodThere (now text) at before × (before ≤ 32) × (total ≤ 4096) × (12288 ≤ length (now pending))
-        × (8192 ≤ length (now code)) × (length (now scope) ≡ 64) × (length (now row) ≡ 18) ⌝ }
+        × (8192 ≤ length (now code)) × (length (now scope) ≡ 64) × (length (now row) ≡ 18)
+        × Indexed (now text) (now methods) ⌝ }
     ensures { λ r. ⌜ ((h : MethodThere (now (text .entry)) at before)
         → Answered (now (text .entry)) at before h before total (r .ok) (r .at) (r .start) (r .long)
         (now (row .exit))) ⌝ }
 {
-    let m = emit_method(text, at, row, scope, pending, code);
+    let m = emit_method(text, methods, at, row, scope, pending, code);
     if !m.ok {
         return Verdict {
             ok: false,
@@ -90,7 +94,7 @@ pub fn judge_method(
     let at_end = m.at;
     let start = m.start;
     let long = m.long;
-    let ok = within_limits(text, code, row, m, before, total);
+    let ok = within_limits(text, methods, code, row, m, before, total);
     Verdict {
         ok: ok,
         at: at_end,

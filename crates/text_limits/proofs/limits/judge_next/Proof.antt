@@ -24,7 +24,7 @@ returns c =
 slice-aggregate-keep : tie.Need-slice-aggregate-keep
 slice-aggregate-keep c =
     let call = c .before .before .before .before .before .before .before .before .before in
-    let start = call .before .before .before .before .before .before .before .before .before .before in
+    let start = call .before .before .before .before .before .before .before .before .before .before .before in
     let h = start .pre .0 in
     let ok = not-false _ (c .before .before .before .if1 .left) in
     sym (row-long _ _ _ _ h _ _ _ _ _ (call .judge-method .ensures h) ok)
@@ -32,7 +32,7 @@ slice-aggregate-keep c =
 keep-requires : tie.Need-keep-requires
 keep-requires c κs =
     let call = c .before .before .before .before .before .before .before .before .before in
-    let start = call .before .before .before .before .before .before .before .before .before .before in
+    let start = call .before .before .before .before .before .before .before .before .before .before .before in
     let h = start .pre .0 in
     let ok = not-false _ (c .before .before .before .if1 .left) in
     let small = few _ _ _ _ h _ _ _ _ _ (call .judge-method .ensures h) ok in (

@@ -12,13 +12,13 @@ use Rattle.text_limits.proofs.limits.limits.Statement.{statement}
 use Rattle.text_limits.proofs.limits.limits.Tie as tie
 
 abbrev Inv-loop : tie.InvT-loop
-Inv-loop text pending₀ code₀ lengths₀ rows₀ n at₀ k₀ total₀ pending code lengths rows at k total =
+Inv-loop text methods pending₀ code₀ lengths₀ rows₀ n at₀ k₀ total₀ pending code lengths rows at k total =
     (length pending ≡ length pending₀) × (length code ≡ length code₀) × (length lengths ≡ length lengths₀)
     × (length rows ≡ length rows₀) × (k ≤ 32) × (total ≤ 4096)
     × ((w : WellNamed text) → Progress text (w .program) at k total lengths rows)
 
 abbrev μ-loop : tie.MeasureT-loop
-μ-loop text pending₀ code₀ lengths₀ rows₀ n at₀ k₀ total₀ pending code lengths rows at k total = n - k
+μ-loop text methods pending₀ code₀ lengths₀ rows₀ n at₀ k₀ total₀ pending code lengths rows at k total = n - k
 
 method-count-requires : tie.Need-method-count-requires Inv-loop μ-loop
 method-count-requires c κs = search needs
@@ -31,7 +31,7 @@ judge-next-requires c κs =
     let turn = c .before .before .before .before in
     let known = turn .before .loop .inv in
     let counted = turn .before .before in
-    let start = counted .before .before .before .before .before .before in
+    let start = counted .before .before .before .before .before .before .before in
     let w = start .pre .0 in
     let n = counted .method-count .ensures (w .program) (w .left) (w .reads) in (
       here _ w _ _ _ _ _ (known .6 w) (omega (arith, n, turn .loop-test .taken)),
@@ -41,6 +41,7 @@ judge-next-requires c κs =
       omega (arith, known .1, start .pre .2),
       omega (arith, known .2, start .pre .3),
       omega (arith, known .3, start .pre .4),
+      start .pre .5,
     )
 
 same-length : tie.Need-same-length Inv-loop μ-loop
@@ -84,7 +85,7 @@ add-total c =
     let turn = call .before .before .before .before .before in
     let known = turn .before .loop .inv in
     let counted = turn .before .before in
-    let start = counted .before .before .before .before .before .before in
+    let start = counted .before .before .before .before .before .before .before in
     let w = start .pre .0 in
     let n = counted .method-count .ensures (w .program) (w .left) (w .reads) in
     let l : turn .before .loop .k < length (w .program) = omega (arith, n, turn .loop-test .taken) in
@@ -114,7 +115,7 @@ loop-again c =
     let turn = call .before .before .before .before .before in
     let known = turn .before .loop .inv in
     let counted = turn .before .before in
-    let start = counted .before .before .before .before .before .before in
+    let start = counted .before .before .before .before .before .before .before in
     let w = start .pre .0 in
     let n = counted .method-count .ensures (w .program) (w .left) (w .reads) in
     let l : turn .before .loop .k < length (w .program) = omega (arith, n, turn .loop-test .taken) in

@@ -17,7 +17,7 @@ same-length-2 c = search needs
 returns : tie.Need-returns
 returns c =
     let emission = c .before .before .before .before .before .before in
-    let start = emission .before .before .before .before .before .before .before .before in
+    let start = emission .before .before .before .before .before .before .before .before .before in
     let k = start .pre in
     λ h. refused _ _ _ h _ _ _ _ _ _ _ _ (start .args .before) (start .args .total) (k .4)
     (emission .emit-method .ensures (h .named .program) (h .named .left) (h .named .reads) (k .3) (k .4) (k .5) (k .6))
@@ -26,7 +26,7 @@ returns c =
 within-limits-requires : tie.Need-within-limits-requires
 within-limits-requires c κs =
     let emission = c .before .before .before .before .before .before .before .before .before in
-    let start = emission .before .before .before .before .before .before .before .before in
+    let start = emission .before .before .before .before .before .before .before .before .before in
     let k = start .pre in
     let w = k .0 .named in (
       is-emitted _ _ _ (k .0) _ _ _ _ _ _ _ _ 0 0 (k .4)
@@ -34,6 +34,7 @@ within-limits-requires c κs =
           (not-false _ (c .before .before .before .if1 .left)),
       k .1,
       k .2,
+      k .7,
     )
 
 same-length-3 : tie.Need-same-length-3
@@ -45,7 +46,7 @@ same-length-4 c = search needs
 returns-2 : tie.Need-returns-2
 returns-2 c =
     let emission = c .before .before .before .before .before .before .before .before .before .before in
-    let start = emission .before .before .before .before .before .before .before .before in
+    let start = emission .before .before .before .before .before .before .before .before .before in
     let k = start .pre in
     λ h. answered _ _ _ h _ _ _ _ _ _ _ _ (start .args .before) (start .args .total) (k .4)
     (emission .emit-method .ensures (h .named .program) (h .named .left) (h .named .reads) (k .3) (k .4) (k .5) (k .6))
