@@ -1,4 +1,5 @@
-// The code of a text's table: each method is emitted into a buffer and put from there.
+// The code of a text's table: each method is emitted into a buffer and put from there. The methods that it calls are
+// found by the index of the text's methods.
 ghost use mathlib.Core.Path.{_≡_};
 ghost use mathlib.Core.Bool.{cond};
 ghost use mathlib.Core.List.{[]};
@@ -6,6 +7,7 @@ ghost use Prim.Native.Nat.{_≤_, _<_};
 ghost use lib.ListN.{length};
 ghost use Rattle.text.specs.Tree.{Program, mainFirst, withoutMain};
 ghost use Rattle.text.specs.Translation.{programCode, codeWords};
+ghost use Rattle.text_methods.specs.IndexCode.{Indexed};
 ghost use Rattle.text_put.specs.TableCode.{Writes, calledAt, codeTo};
 ghost use Rattle.text_table.specs.WrittenCode.{Writing, Reaches};
 use text_emit_method::method::emit_method;
@@ -14,6 +16,7 @@ use text_put::code::put_code;
 // The code in the buffer, unless it is to be left out or a table has no room for it.
 fn put_unless(
     text: &[u8],
+    index: &[usize],
     main: usize,
     leave: bool,
     code: &[usize],
@@ -21,7 +24,7 @@ fn put_unless(
     table: &mut [u16],
     at: usize,
 ) -> usize
-    requires { ⌜ 8192 ≤ length (now code) ⌝ }
+    requires { ⌜ (8192 ≤ length (now code)) × Indexed (now text) (now index) ⌝ }
     ensures { λ r. ⌜
         (long ≤ 4096 → at < 20000 → Writes (now (table .entry)) at
         (cond leave [] (codeTo (calledAt (now (text .entry)) main) (now (code .entry)) long)) (now (table .exit)) r)
@@ -36,7 +39,7 @@ fn put_unless(
     if 20000 <= at {
         return at;
     }
-    put_code(text, main, code, long, table, at)
+    put_code(text, index, main, code, long, table, at)
 }
 
 // The place after a method in the text, and the index after its code in the table.
@@ -48,6 +51,7 @@ pub struct Next {
 // The code of the method whose tokens stand from a place on, unless it is to be left out.
 pub fn put_method(
     text: &[u8],
+    index: &[usize],
     main: usize,
     from: usize,
     leave: bool,
@@ -56,21 +60,22 @@ pub fn put_method(
     table: &mut [u16],
     at: usize,
 ) -> Next
-    requires { ⌜ (12288 ≤ length (now pending)) × (8192 ≤ length (now code)) ⌝ }
+    requires { ⌜ (12288 ≤ length (now pending)) × (8192 ≤ length (now code)) × Indexed (now text) (now index) ⌝ }
     ensures { λ r. ⌜
         Reaches (now (text .entry)) main from leave (now (table .entry)) at (r .at) (now (table .exit)) (r .to)
         × (at < 30000 → r .to < 30000) ⌝ }
 {
     let mut row = [0u16; 18];
     let mut scope = [0usize; 64];
-    let m = emit_method(text, from, &mut row, &mut scope, pending, code);
-    let to = put_unless(text, main, leave, code, m.long, table, at);
+    let m = emit_method(text, index, from, &mut row, &mut scope, pending, code);
+    let to = put_unless(text, index, main, leave, code, m.long, table, at);
     Next { at: m.at, to: to }
 }
 
 // The code of the others, in text order.
 pub fn put_others(
     text: &[u8],
+    index: &[usize],
     main: usize,
     methods: usize,
     pending: &mut [usize],
@@ -78,7 +83,8 @@ pub fn put_others(
     table: &mut [u16],
     at: usize,
 ) -> usize
-    requires { ⌜ (12288 ≤ length (now pending)) × (8192 ≤ length (now code)) × (methods ≤ 32) × (at < 30000) ⌝ }
+    requires { ⌜ (12288 ≤ length (now pending)) × (8192 ≤ length (now code)) × (methods ≤ 32) × (at < 30000)
+        × Indexed (now text) (now index) ⌝ }
     ensures { λ r. ⌜
         ((ns : Program) → Writing (now (text .entry)) ns main → methods ≡ length ns → at ≤ 9000
         → Writes (now (table .entry)) at (codeWords (programCode (mainFirst ns) (withoutMain ns)))
@@ -88,7 +94,7 @@ pub fn put_others(
     let mut from = 0;
     let mut i = at;
     while k < methods {
-        let next = put_method(text, main, from, k == main, pending, code, table, i);
+        let next = put_method(text, index, main, from, k == main, pending, code, table, i);
         i = next.to;
         from = next.at;
         k += 1;

@@ -5,6 +5,7 @@ ghost use lib.ListN.{length};
 ghost use Rattle.lists.specs.Lists.{putFrom};
 ghost use Rattle.text.specs.Tree.{Program};
 ghost use Rattle.text.specs.Statement.{textTable};
+ghost use Rattle.text_methods.specs.IndexCode.{Indexed};
 ghost use Rattle.text_put.specs.TableCode.{Writes};
 ghost use Rattle.text_put.specs.Measures.{TableText, Measures};
 ghost use Rattle.text_table.specs.WrittenCode.{headWords};
@@ -38,6 +39,7 @@ fn put_head(
 // the answer is how many words it has.
 pub fn write_table(
     text: &[u8],
+    index: &[usize],
     methods: usize,
     instructions: usize,
     lengths: &[u16],
@@ -46,7 +48,8 @@ pub fn write_table(
     code: &mut [usize],
     table: &mut [u16],
 ) -> usize
-    requires { ⌜ (length (now rows) ≡ 576) × (12288 ≤ length (now pending)) × (8192 ≤ length (now code)) ⌝ }
+    requires { ⌜ (length (now rows) ≡ 576) × (12288 ≤ length (now pending)) × (8192 ≤ length (now code))
+        × Indexed (now text) (now index) ⌝ }
     ensures { λ r. ⌜
         ((ns : Program) → TableText (now (text .entry)) ns
         → Measures ns methods instructions (now (lengths .entry)) (now (rows .entry))
@@ -61,6 +64,6 @@ pub fn write_table(
         return 0;
     }
     let i = put_head(main, methods, instructions, lengths, rows, table);
-    let n = put_method(text, main, m.at, false, pending, code, table, i);
-    put_others(text, main, methods, pending, code, table, n.to)
+    let n = put_method(text, index, main, m.at, false, pending, code, table, i);
+    put_others(text, index, main, methods, pending, code, table, n.to)
 }

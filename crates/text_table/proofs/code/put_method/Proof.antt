@@ -23,7 +23,7 @@ same-length-3 c = search needs
 returns : tie.Need-returns
 returns c =
     let emitted = c .before .before .before .before .before .before .before .before .before in
-    let start = emitted .before .before .before .before .before .before .before .before .before in (
+    let start = emitted .before .before .before .before .before .before .before .before .before .before in (
       λ ns k m us w e q l. method-reached w (start .args .table .now) k m us e q (start .pre .1)
           (emitted .emit-method .ensures ns (w .given .left) (w .given .reads) (start .pre .0) (start .pre .1) refl
           refl)

@@ -11,26 +11,29 @@ use Rattle.text_table.proofs.code.put_others.Statement.{statement}
 use Rattle.text_table.proofs.code.put_others.Tie as tie
 
 abbrev Inv-loop : tie.InvT-loop
-Inv-loop text main methods pending₀ code₀ table₀ at k₀ from₀ i₀ pending code table k from i =
+Inv-loop text index main methods pending₀ code₀ table₀ at k₀ from₀ i₀ pending code table k from i =
     (k ≤ methods) × (i < 30000) × (length pending ≡ length pending₀) × (length code ≡ length code₀)
     × (length table ≡ length table₀)
     × ((ns : Program) → Writing text ns main → methods ≡ length ns → at ≤ 9000
     → OthersPut text ns k from at table₀ table i)
 
 abbrev μ-loop : tie.MeasureT-loop
-μ-loop text main methods pending₀ code₀ table₀ at k₀ from₀ i₀ pending code table k from i = methods - k
+μ-loop text index main methods pending₀ code₀ table₀ at k₀ from₀ i₀ pending code table k from i = methods - k
 
 loop-holds : tie.Need-loop-holds Inv-loop μ-loop
 loop-holds c =
-    let start = c .before .before .before .before in
+    let start = c .before .before .before .before .before in
     let args = start .args in
     (omega arith, start .pre .3, refl, refl, refl, λ ns w e l. others-start w (args .at) (args .table .now))
 
 put-method-requires : tie.Need-put-method-requires Inv-loop μ-loop
 put-method-requires c κs =
     let at-loop = c .before .before .before .before in
-    let start = at-loop .before .before .before .before .before in
-    (omega (arith, start .pre .0, at-loop .loop .inv .2), omega (arith, start .pre .1, at-loop .loop .inv .3))
+    let start = at-loop .before .before .before .before .before .before in (
+      omega (arith, start .pre .0, at-loop .loop .inv .2),
+      omega (arith, start .pre .1, at-loop .loop .inv .3),
+      start .pre .4,
+    )
 
 add-k : tie.Need-add-k Inv-loop μ-loop
 add-k c = search needs
@@ -63,7 +66,7 @@ same-length-3 c = c .before .loop .inv .4
 returns : tie.Need-returns Inv-loop μ-loop
 returns c =
     let loop = c .before .loop in
-    let args = c .before .before .before .before .before .before .args in
+    let args = c .before .before .before .before .before .before .before .args in
     λ ns w e l. others-all w
     (subst (λ k. OthersPut (args .text .now) ns k (loop .from) (args .at) (args .table .now) (loop .table) (loop .i))
     (omega (arith, e, loop .inv .0, c .loop-test .left)) (loop .inv .5 ns w e l))

@@ -23,7 +23,7 @@ same-length c = search needs
 returns-4 : tie.Need-returns-4
 returns-4 c =
     let before = c .before .before .before .before .before .before in
-    let a = before .before .before .before .before .args in
+    let a = before .before .before .before .before .before .args in
     let w = c .before .before .put-code .ensures in (
       all-put (a .text .now) (a .main) (a .code .now) (a .long) (a .table .now) (a .at) (a .leave) (before .if1 .left) _
           _ w,

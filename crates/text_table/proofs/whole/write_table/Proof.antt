@@ -26,7 +26,7 @@ put-others-requires c κs =
     let head = put .before .before .before .before .before .before in
     let past = head .before .before in
     let found = past .before .before .find-main in
-    let start = past .before .before .before .before .before .before .before .before .before in
+    let start = past .before .before .before .before .before .before .before .before .before .before in
     let args = start .args in
     let below = head-below (args .methods) (args .instructions) (found .result .index) (args .lengths .now)
     (args .rows .now) (args .table .now) (start .pre .0) (past .before .if1 .left) (omega (arith, past .if2 .left))
@@ -35,6 +35,7 @@ put-others-requires c κs =
       omega (arith, start .pre .2, c .before .before .before .before .before .before .code .given),
       past .before .if1 .left,
       put .put-method .ensures .1 (omega (arith, below)),
+      start .pre .3,
     )
 
 same-length : tie.Need-same-length
@@ -53,7 +54,7 @@ returns-3 c =
     let head = put .before .before .before .before .before .before in
     let past = head .before .before in
     let found = past .before .before .find-main in
-    let start = past .before .before .before .before .before .before .before .before .before in
+    let start = past .before .before .before .before .before .before .before .before .before .before in
     let args = start .args in
     let below = head-below (args .methods) (args .instructions) (found .result .index) (args .lengths .now)
     (args .rows .now) (args .table .now) (start .pre .0) (past .before .if1 .left) (omega (arith, past .if2 .left))
