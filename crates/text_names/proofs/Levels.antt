@@ -161,19 +161,19 @@ has-append x (a ∷ as′) bs = by (same x (a .spelling)) (has-append x as′ bs
     by true e = refl
     by false e = e
 
-or-true : (a : Bool) → (a || true) ≡ true
+pub or-true : (a : Bool) → (a || true) ≡ true
 or-true true = refl
 or-true false = refl
 
-or-false : (a : Bool) → (a || false) ≡ a
+pub or-false : (a : Bool) → (a || false) ≡ a
 or-false true = refl
 or-false false = refl
 
-some-level : (n : ℕ) → eqb n 0 ≡ false → ltb 0 n ≡ true
+pub some-level : (n : ℕ) → eqb n 0 ≡ false → ltb 0 n ≡ true
 some-level zero e = sym e
 some-level (suc n) e = lt-ltb 0 (suc n) (omega arith)
 
-level-test : (n : ℕ) (h : Bool) → ltb 0 (cond h (suc n) 0) ≡ h
+pub level-test : (n : ℕ) (h : Bool) → ltb 0 (cond h (suc n) 0) ≡ h
 level-test n true = lt-ltb 0 (suc n) (omega arith)
 level-test n false = refl
 

@@ -1,6 +1,7 @@
 pub mod Tests
 pub mod ByRole
 pub mod Levels
+pub mod OpenLaws
 pub mod Lowest
 pub mod Merged
 pub mod Blocks

@@ -1,4 +1,5 @@
 pub mod FoundCode
 pub mod FaultsCode
 pub mod FaultCode
+pub mod OpenCode
 pub mod Answer

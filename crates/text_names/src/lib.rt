@@ -2,5 +2,6 @@
 // fault. Whether a name is in scope is found by going over its method's tokens once more.
 pub mod fault;
 pub mod level;
+pub mod open;
 pub mod refusal;
 pub mod scan;
