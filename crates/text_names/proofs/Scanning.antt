@@ -33,8 +33,10 @@ use Rattle.text_methods.proofs.Finding.{split-at, braces-most}
 use Rattle.text_names.specs.FoundCode.{levelOf, foundAfter, foundUpTo, foundIn, blocksAfter}
 use Rattle.text_names.specs.FaultsCode.{allFaults, faultAt, indexAfter, lowerOf, placeIf}
 use Rattle.text_names.specs.FaultCode.{rowCount, rowEntry, methodsOf, bare, isCallAt, isInvocationAt, isKnownAt, faultHere, lowestFault}
+use Rattle.text_names.specs.OpenCode.{openOf, isOpen, openAfter, declaredIn, Turns, Knows}
 use Rattle.text_names.proofs.ByRole.{Other, by-role}
 use Rattle.text_names.proofs.Levels.{found-opened, found-after, in-scope, in-block}
+use Rattle.text_names.proofs.OpenLaws.{none-open, open-after, open-found}
 use Rattle.text_names.proofs.Blocks.{closes-level, blocks-level}
 use Rattle.text_names.proofs.Lowest.{lower-none, lower-assoc}
 use Rattle.text_names.proofs.Merged.{fault-step}
@@ -133,8 +135,11 @@ named-state m (suc b) k f = λ q. absurd (by (eqb k 33) (eqb m 4) (eqb m 3) (eqb
     by false c d g h false false q = passes q
 
 -- what the scan has come to at a place
-pub record ScanSoFar (text : List ℕ) (at m b from i : ℕ) (found : Bool) (low k : ℕ) : Type 0 where
+pub record ScanSoFar (text words : List ℕ) (at m b from i n : ℕ) (found : Bool) (low k : ℕ) : Type 0 where
   pub blocks : Blocks
+  pub room : length words ≡ 3072
+  pub count-low : n ≤ 1025
+  pub opens : n ≤ 1024 → openOf text words n ≡ declaredIn blocks
   pub kind-is : k ≡ nextKind text at
   pub braces-low : b ≤ at
   pub index-low : i ≤ at
@@ -149,10 +154,14 @@ none-found : (least : ℕ) (y : List ℕ) → foundIn least y ([] ∷ []) ≡ 0
 unfolding foundIn
 none-found least y = found-opened least y []
 
-pub scan-begins : (text : List ℕ) (k : ℕ) → k ≡ nextKind text 0 → ScanSoFar text 0 0 0 0 0 false 0 k
-unfolding lowestFault lowerOf levelOf
-scan-begins text k e = record {
+pub scan-begins : (text words : List ℕ) (k : ℕ) → length words ≡ 3072 → k ≡ nextKind text 0
+    → ScanSoFar text words 0 0 0 0 0 0 false 0 k
+unfolding lowestFault lowerOf levelOf declaredIn
+scan-begins text words k r e = record {
   blocks = [] ∷ [];
+  room = r;
+  count-low = omega arith;
+  opens = λ l. none-open text words;
   kind-is = e;
   braces-low = omega arith;
   index-low = omega arith;
@@ -185,8 +194,8 @@ end-events m b (t ∷ ts) e r =
     ∙ ap (λ (k : ℕ). withEvent (role m b k 32) (nameOf t) (argumentCount []) [] []) e
     ∙ ap (λ (j : ℕ). withEvent j (nameOf t) (argumentCount []) [] []) (end-role m b 32)
 
-module _ (text : List ℕ) (at m b from i : ℕ) (found : Bool) (low k : ℕ)
-    (s : ScanSoFar text at m b from i found low k) where
+module _ (text words : List ℕ) (at m b from i n : ℕ) (found : Bool) (low k : ℕ)
+    (s : ScanSoFar text words at m b from i n found low k) where
   pub scan-ends : k ≡ 32 → placeIf found low ≡ lowestFault text
   unfolding allFaults lowest
   scan-ends e =
@@ -196,12 +205,12 @@ module _ (text : List ℕ) (at m b from i : ℕ) (found : Bool) (low k : ℕ)
       (end-events m b (tokensAt text at) last (end-alone text at last))
       ∙ lower-none (placeIf found low))
 
-  module _ (f : k ≡ 32 → ⊥) (t u : TokenAt) (n : NextToken text at t) (p : NextToken text (t .end) u) where
+  module _ (f : k ≡ 32 → ⊥) (t u : TokenAt) (q : NextToken text at t) (p : NextToken text (t .end) u) where
     further : nextKind text at ≡ 32 → ⊥
     further e = f (s .kind-is ∙ e)
 
     pub scan-passes : Passed text at (t .end)
-    scan-passes = passes-token text at t n further
+    scan-passes = passes-token text at t q further
 
     name : Name
     name = nameOf (tokenOf text (t .start) (t .end))
@@ -216,9 +225,9 @@ module _ (text : List ℕ) (at m b from i : ℕ) (found : Bool) (low k : ℕ)
     known : (least : ℕ) (y : List ℕ)
         → foundUpTo least y (t .start) 0 0 0 (tokensAt text from) ≡ foundIn least y (s .blocks)
     known least y =
-        let starts : at ≤ t .start = n .starts in
-        let place : nextAt text at ≡ t .start = at-next text at t n in
-        s .finds least y (t .start) (n .starts)
+        let starts : at ≤ t .start = q .starts in
+        let place : nextAt text at ≡ t .start = at-next text at t q in
+        s .finds least y (t .start) (q .starts)
         ∙ found-there least y (t .start) m b (foundIn least y (s .blocks)) (tokensAt text at) (omega arith)
 
     -- the fault of the name, by its role
@@ -278,8 +287,8 @@ module _ (text : List ℕ) (at m b from i : ℕ) (found : Bool) (low k : ℕ)
         (eventsFrom (modeAfter m b (t .kind)) (bracesAfter b (t .kind)) (tokensAt text (t .end)))
     unfolding eventsFrom r name count
     events-split =
-        ap (eventsFrom m b) (split-at text at t n further)
-        ∙ ap (λ (j : ℕ). onward j (kindAt (tokensAt text (t .end)))) (sym (n .kind))
+        ap (eventsFrom m b) (split-at text at t q further)
+        ∙ ap (λ (j : ℕ). onward j (kindAt (tokensAt text (t .end)))) (sym (q .kind))
         ∙ ap (onward (t .kind)) (kind-next text (t .end) u p)
       where
         onward : ℕ → ℕ → List Event
@@ -326,10 +335,10 @@ module _ (text : List ℕ) (at m b from i : ℕ) (found : Bool) (low k : ℕ)
     unfolding r
     finds-onward least y to l =
         let us = tokensAt text (t .end) in
-        let before : t .start < t .end = starts-before text at t n further in
+        let before : t .start < t .end = starts-before text at t q further in
         let onward : at < t .end = scan-passes .onward in
         s .finds least y to (omega arith)
-        ∙ found-step text least y to at m b (foundIn least y (s .blocks)) t u n p further (omega arith)
+        ∙ found-step text least y to at m b (foundIn least y (s .blocks)) t u q p further (omega arith)
         ∙ ap (λ (j : ℕ). foundUpTo least y to (modeAfter m b (t .kind)) (bracesAfter b (t .kind)) j us)
         (found-onward least y)
 
@@ -377,14 +386,36 @@ module _ (text : List ℕ) (at m b from i : ℕ) (found : Bool) (low k : ℕ)
         ∙ ap (λ (c : Bool). lowest (unless (not c) name ++ later)) (same-fault r ∙ sym e)
         ∙ place-lowest fault name later
 
-    pub scan-goes : (r′ : ℕ) (fault : Bool) (low′ from′ i′ m′ b′ : ℕ) → r′ ≡ role m b (t .kind) (u .kind)
-        → fault ≡ faultHere text from b i r′ (t .start) (t .end) (u .end)
+    -- a name is looked up in the entries
+    pub scan-knows : Knows text words n from (t .start) (t .end)
+    unfolding isKnownAt
+    scan-knows least l =
+        let x = slice (t .start) (t .end) text in
+        ap (isOpen least x) (s .opens l) ∙ open-found least x (s .blocks) ∙ sym (ap (ltb 0) (known least x))
+
+    -- the entries after the token
+    opens-after : (words′ : List ℕ) (n′ r′ : ℕ) → r′ ≡ r
+        → Turns (λ text ds. openAfter b r′ (slice (t .start) (t .end) text) ds) words n words′ n′ → n′ ≤ 1024
+        → openOf text words′ n′ ≡ declaredIn after
+    unfolding after r name
+    opens-after words′ n′ r′ e o l =
+        o .1 text (declaredIn (s .blocks)) (s .opens) l
+        ∙ ap (λ (j : ℕ). openAfter b j (slice (t .start) (t .end) text) (declaredIn (s .blocks))) e
+        ∙ open-after b name (s .blocks) (s .level) r
+        (closes-level m b (t .kind) (u .kind) (s .blocks) (s .level))
+
+    pub scan-goes : (words′ : List ℕ) (r′ : ℕ) (fault : Bool) (low′ n′ from′ i′ m′ b′ : ℕ)
+        → r′ ≡ role m b (t .kind) (u .kind)
+        → (Knows text words n from (t .start) (t .end)
+        → fault ≡ faultHere text from b i r′ (t .start) (t .end) (u .end))
+        → length words′ ≡ length words
+        → Turns (λ text ds. openAfter b r′ (slice (t .start) (t .end) text) ds) words n words′ n′
         → placeIf (found || fault) low′ ≡ lowerOf (placeIf found low) (placeIf fault (t .start))
         → from′ ≡ cond (eqb r′ 1) (t .end) from → i′ ≡ indexAfter r′ i → m′ ≡ modeAfter m b (t .kind)
         → b′ ≡ bracesAfter b (t .kind)
-        → ScanSoFar text (t .end) m′ b′ from′ i′ (found || fault) low′ (u .kind)
+        → ScanSoFar text words′ (t .end) m′ b′ from′ i′ n′ (found || fault) low′ (u .kind)
     unfolding r rest-lowest
-    scan-goes r′ fault low′ from′ i′ m′ b′ rr ff ll oo ii mm bb =
+    scan-goes words′ r′ fault low′ n′ from′ i′ m′ b′ rr ff kept turns ll oo ii mm bb =
         let us = tokensAt text (t .end) in
         let onward : at < t .end = scan-passes .onward in
         let low-braces : b ≤ at = s .braces-low in
@@ -392,9 +423,12 @@ module _ (text : List ℕ) (at m b from i : ℕ) (found : Bool) (low k : ℕ)
         let low-index : i ≤ at = s .index-low in
         let most-index : indexAfter r i ≤ i + 1 = index-most in
         let index : i′ ≡ indexAfter r i = ii ∙ ap (λ (j : ℕ). indexAfter j i) rr in
-        let here = ff ∙ ap (λ (j : ℕ). faultHere text from b i j (t .start) (t .end) (u .end)) rr in
+        let here = ff scan-knows ∙ ap (λ (j : ℕ). faultHere text from b i j (t .start) (t .end) (u .end)) rr in
         record {
           blocks = after;
+          room = kept ∙ s .room;
+          count-low = turns .0;
+          opens = opens-after words′ n′ r′ rr turns;
           kind-is = sym (kind-next text (t .end) u p);
           braces-low = omega arith;
           index-low = omega arith;

@@ -1,7 +1,7 @@
--- The names declared in the blocks that are open, kept while the tokens are gone over: in a lent slice of three words for
--- each, where the name starts and ends in the text and the level of its block. There is room for 1,024; the count of one
--- more says that a name did not fit, and that nothing is known from the entries until the next method begins. That they
--- are the names of the blocks is proved (proofs/OpenLaws.antt).
+-- The names declared in the blocks that are open, kept while the tokens are gone over: in a lent slice of three words
+-- for each, where the name starts and ends in the text and the level of its block. There is room for 1,024; the count
+-- of one more says that a name did not fit, and that nothing is known from the entries until the next method begins.
+-- That they are the names of the blocks is proved (proofs/OpenLaws.antt).
 use Prim.Native.Nat.{ℕ, zero, suc, _+_, _*_, _≤_}
 use mathlib.Core.Path.{_≡_}
 use mathlib.Core.Bool.{Bool, cond, _&&_, _||_}

@@ -9,8 +9,10 @@ ghost use Rattle.table.specs.Ops.{gateQubits};
 ghost use Rattle.text.specs.Tree.{numbered, gateNames};
 ghost use Rattle.text_methods.specs.RowsCode.{rowsOf, rowIndex};
 ghost use Rattle.text_names.specs.FaultCode.{isCallAt, isInvocationAt, isKnownAt, faultHere};
+ghost use Rattle.text_names.specs.OpenCode.{Knows};
 use crate::level::found_level;
 use crate::level::level_of;
+use crate::open::is_open;
 use text_methods::arguments::count_arguments;
 use text_methods::find::find_row;
 use text_tokens::bytes::is_word;
@@ -92,17 +94,32 @@ fn is_repeated(text: &[u8], start: usize, end: usize, i: usize) -> bool
     m.index < i
 }
 
-// The name is declared at this level or a deeper one, in the method whose tokens stand from a place on.
-fn is_known(text: &[u8], from: usize, least: usize, start: usize, end: usize) -> bool
-    ensures { λ r. ⌜ r ≡ isKnownAt (now (text .entry)) from least start end ⌝ }
+// The name is declared at this level or a deeper one, in the method whose tokens stand from a place on: known from the
+// n entries, or where they did not fit from those tokens.
+fn is_known(
+    text: &[u8],
+    words: &[usize],
+    n: usize,
+    from: usize,
+    least: usize,
+    start: usize,
+    end: usize,
+) -> bool
+    ensures { λ r. ⌜ (Knows (now (text .entry)) (now (words .entry)) n from start end
+        → r ≡ isKnownAt (now (text .entry)) from least start end) ⌝ }
 {
-    let level = found_level(text, from, start, least, start, end);
-    0 < level
+    if 1024 < n {
+        let level = found_level(text, from, start, least, start, end);
+        return 0 < level;
+    }
+    is_open(text, words, n, least, start, end)
 }
 
-// The name from start up to end, of role r, with a bracket up to `after` behind it.
+// The name from start up to end, of role r, with a bracket up to `after` after it.
 pub fn fault_here(
     text: &[u8],
+    words: &[usize],
+    n: usize,
     from: usize,
     braces: usize,
     i: usize,
@@ -112,17 +129,18 @@ pub fn fault_here(
     after: usize,
 ) -> bool
     requires { ⌜ (start ≤ end) × (end ≤ length (now text)) ⌝ }
-    ensures { λ b. ⌜ b ≡ faultHere (now (text .entry)) from braces i r start end after ⌝ }
+    ensures { λ b. ⌜ (Knows (now (text .entry)) (now (words .entry)) n from start end
+        → b ≡ faultHere (now (text .entry)) from braces i r start end after) ⌝ }
 {
     if r == 1 {
         return is_repeated(text, start, end, i);
     }
     if r == 2 {
         let level = level_of(braces);
-        return is_known(text, from, level, start, end);
+        return is_known(text, words, n, from, level, start, end);
     }
     if r == 3 {
-        let known = is_known(text, from, 1, start, end);
+        let known = is_known(text, words, n, from, 1, start, end);
         return !known;
     }
     if r == 4 {

@@ -1,5 +1,6 @@
 // Refusal 31 of a LanQ text (Paper 1), by places in its bytes: one loop over the tokens keeps the lowest place at
-// fault. Whether a name is in scope is found by going over its method's tokens once more.
+// fault, and the names that are declared in the blocks that are open. Where these are more than 1,024, whether a name
+// is in scope is found by going over its method's tokens once more.
 pub mod fault;
 pub mod level;
 pub mod open;

@@ -1,5 +1,5 @@
-// The names declared in the blocks that are open, in a lent slice of three words for each of 1,024: where the name starts
-// and ends in the text, and the level of its block. A count of 1,025 says that one did not fit.
+// The names declared in the blocks that are open, in a lent slice of three words for each of 1,024: where the name
+// starts and ends in the text, and the level of its block. A count of 1,025 says that one did not fit.
 ghost use mathlib.Core.Path.{_≡_};
 ghost use mathlib.Core.List.{_∷_};
 ghost use Prim.Native.Nat.{_<_, _≤_};
@@ -35,7 +35,14 @@ fn is_this(text: &[u8], words: &[usize], j: usize, least: usize, start: usize, e
 }
 
 // One of the n entries has it.
-pub fn is_open(text: &[u8], words: &[usize], n: usize, least: usize, start: usize, end: usize) -> bool
+pub fn is_open(
+    text: &[u8],
+    words: &[usize],
+    n: usize,
+    least: usize,
+    start: usize,
+    end: usize,
+) -> bool
     requires { ⌜ n ≤ 1024 ⌝ }
     ensures { λ r. ⌜ r ≡ isOpen least (slice start end (now (text .entry)))
         (openOf (now (text .entry)) (now (words .entry)) n) ⌝ }
@@ -74,20 +81,27 @@ fn pop(words: &[usize], n: usize, level: usize) -> usize
     if 1024 < n {
         return n;
     }
-    let mut m = n;
-    while 0 < m {
-        let j = m - 1;
+    let mut left = n;
+    while 0 < left {
+        let j = left - 1;
         let top = word(words, 3 * j + 2);
         if top < level {
-            return m;
+            return left;
         }
-        m = j;
+        left = j;
     }
-    m
+    left
 }
 
 // The entries after a token of role r.
-pub fn open_after(words: &mut [usize], n: usize, braces: usize, r: u8, start: usize, end: usize) -> usize
+pub fn open_after(
+    words: &mut [usize],
+    n: usize,
+    braces: usize,
+    r: u8,
+    start: usize,
+    end: usize,
+) -> usize
     requires { ⌜ (length (now words) ≡ 3072) × (n ≤ 1025) ⌝ }
     ensures { λ m. ⌜ Turns (λ text ds. openAfter braces r (slice start end text) ds)
         (now (words .entry)) n (now (words .exit)) m ⌝ }

@@ -3,10 +3,12 @@ ghost use mathlib.Core.Path.{_≡_};
 ghost use mathlib.Core.Bool.{cond, _||_};
 ghost use Prim.Native.Nat.{_^_, _<_};
 ghost use lib.Dec.{eqb};
+ghost use lib.ListN.{length};
 ghost use Rattle.text_names.specs.FaultsCode.{indexAfter, lowerOf, placeIf};
 ghost use Rattle.text_names.specs.FaultCode.{lowestFault, Refuses};
 ghost use Rattle.text_names.specs.Answer.{faultIn};
 use crate::fault::fault_here;
+use crate::open::open_after;
 use crate::scan::mode_after;
 use crate::scan::role;
 use text_methods::braces::braces_after;
@@ -62,8 +64,9 @@ fn index_after(r: u8, i: usize) -> usize
     i
 }
 
-// Of all faults but a missing main.
-fn lowest_fault(text: &[u8]) -> LowestAt
+// Of all faults but a missing main, with room for the names that are declared.
+fn lowest_in(text: &[u8], words: &mut [usize]) -> LowestAt
+    requires { ⌜ length (now words) ≡ 3072 ⌝ }
     ensures { λ r. ⌜ placeIf (r .found) (r .at) ≡ lowestFault (now (text .entry)) ⌝ }
 {
     let mut at = 0;
@@ -71,6 +74,7 @@ fn lowest_fault(text: &[u8]) -> LowestAt
     let mut braces = 0;
     let mut from = 0;
     let mut index = 0;
+    let mut n = 0;
     let mut found = false;
     let mut low = 0;
     let mut kind = next_kind(text, at);
@@ -78,9 +82,21 @@ fn lowest_fault(text: &[u8]) -> LowestAt
         let t = next_token(text, at);
         let u = next_token(text, t.end);
         let r = role(mode, braces, t.kind, u.kind);
-        let fault = fault_here(text, from, braces, index, r, t.start, t.end, u.end);
+        let fault = fault_here(
+            text,
+            words,
+            n,
+            from,
+            braces,
+            index,
+            r,
+            t.start,
+            t.end,
+            u.end,
+        );
         low = lower_place(found, low, fault, t.start);
         found = found | fault;
+        n = open_after(words, n, braces, r, t.start, t.end);
         from = from_after(r, from, t.end);
         index = index_after(r, index);
         mode = mode_after(mode, braces, t.kind);
@@ -92,6 +108,13 @@ fn lowest_fault(text: &[u8]) -> LowestAt
         found: found,
         at: low,
     }
+}
+
+fn lowest_fault(text: &[u8]) -> LowestAt
+    ensures { λ r. ⌜ placeIf (r .found) (r .at) ≡ lowestFault (now (text .entry)) ⌝ }
+{
+    let mut words = [0usize; 3072];
+    lowest_in(text, &mut words)
 }
 
 fn answer(found: bool, at: usize) -> NameFault

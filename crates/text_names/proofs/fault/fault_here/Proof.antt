@@ -13,7 +13,10 @@ is-repeated-requires c κs = search needs
 
 returns : tie.Need-returns
 unfolding faultHere
-returns c = rw (eq-eqb (c .before .before .before .args .r) 1 (c .before .if1 .taken)) (c .is-repeated .ensures)
+returns c =
+    let c1 = c .before in
+    let c4 = c1 .before .before .before in
+    λ h. rw (eq-eqb (c4 .args .r) 1 (c1 .if1 .taken)) (c .is-repeated .ensures)
 
 level-of-requires : tie.Need-level-of-requires
 level-of-requires c κs = search needs
@@ -27,11 +30,11 @@ returns-2 c =
     let c1 = c .before in
     let c2 = c1 .before in
     let c3 = c2 .before in
-    let c5 = c3 .before .before in
-    rw (ne-eqb (c5 .args .r) 1 (c3 .if1 .left), eq-eqb (c5 .args .r) 2 (c2 .if2 .taken))
-    (c .is-known .ensures ∙ ap (λ (k : ℕ). isKnownAt (c5 .args .text .now) (c5 .args .from) k (c5 .args .start)
-    (c5 .args .end))
-    (c1 .level-of .ensures))
+    let c6 = c3 .before .before .before in
+    let g = c6 .args in
+    λ h. rw (ne-eqb (g .r) 1 (c3 .if1 .left), eq-eqb (g .r) 2 (c2 .if2 .taken))
+    (c .is-known .ensures h
+    ∙ ap (λ (k : ℕ). isKnownAt (g .text .now) (g .from) k (g .start) (g .end)) (c1 .level-of .ensures))
 
 is-known-requires-2 : tie.Need-is-known-requires-2
 is-known-requires-2 c κs = search needs
@@ -42,12 +45,10 @@ returns-3 c =
     let c1 = c .before in
     let c2 = c1 .before in
     let c3 = c2 .before in
-    let c5 = c3 .before .before in
-    rw (
-      ne-eqb (c5 .args .r) 1 (c3 .if1 .left),
-      ne-eqb (c5 .args .r) 2 (c2 .if2 .left),
-      eq-eqb (c5 .args .r) 3 (c1 .if3 .taken),
-    ) (ap not (c .is-known2 .ensures))
+    let c6 = c3 .before .before .before in
+    let g = c6 .args in
+    λ h. rw (ne-eqb (g .r) 1 (c3 .if1 .left), ne-eqb (g .r) 2 (c2 .if2 .left), eq-eqb (g .r) 3 (c1 .if3 .taken))
+    (ap not (c .is-known2 .ensures h))
 
 is-call-requires : tie.Need-is-call-requires
 is-call-requires c κs = search needs
@@ -59,12 +60,13 @@ returns-4 c =
     let c2 = c1 .before in
     let c3 = c2 .before in
     let c4 = c3 .before in
-    let c6 = c4 .before .before in
-    rw (
-      ne-eqb (c6 .args .r) 1 (c4 .if1 .left),
-      ne-eqb (c6 .args .r) 2 (c3 .if2 .left),
-      ne-eqb (c6 .args .r) 3 (c2 .if3 .left),
-      eq-eqb (c6 .args .r) 4 (c1 .if4 .taken),
+    let c7 = c4 .before .before .before in
+    let g = c7 .args in
+    λ h. rw (
+      ne-eqb (g .r) 1 (c4 .if1 .left),
+      ne-eqb (g .r) 2 (c3 .if2 .left),
+      ne-eqb (g .r) 3 (c2 .if3 .left),
+      eq-eqb (g .r) 4 (c1 .if4 .taken),
     ) (ap not (c .is-call .ensures))
 
 is-invocation-requires : tie.Need-is-invocation-requires
@@ -78,13 +80,14 @@ returns-5 c =
     let c3 = c2 .before in
     let c4 = c3 .before in
     let c5 = c4 .before in
-    let c7 = c5 .before .before in
-    rw (
-      ne-eqb (c7 .args .r) 1 (c5 .if1 .left),
-      ne-eqb (c7 .args .r) 2 (c4 .if2 .left),
-      ne-eqb (c7 .args .r) 3 (c3 .if3 .left),
-      ne-eqb (c7 .args .r) 4 (c2 .if4 .left),
-      eq-eqb (c7 .args .r) 5 (c1 .if5 .taken),
+    let c8 = c5 .before .before .before in
+    let g = c8 .args in
+    λ h. rw (
+      ne-eqb (g .r) 1 (c5 .if1 .left),
+      ne-eqb (g .r) 2 (c4 .if2 .left),
+      ne-eqb (g .r) 3 (c3 .if3 .left),
+      ne-eqb (g .r) 4 (c2 .if4 .left),
+      eq-eqb (g .r) 5 (c1 .if5 .taken),
     ) (ap not (c .is-invocation .ensures))
 
 returns-6 : tie.Need-returns-6
@@ -94,13 +97,14 @@ returns-6 c =
     let c2 = c1 .before in
     let c3 = c2 .before in
     let c4 = c3 .before in
-    let c6 = c4 .before .before in
-    rw (
-      ne-eqb (c6 .args .r) 1 (c4 .if1 .left),
-      ne-eqb (c6 .args .r) 2 (c3 .if2 .left),
-      ne-eqb (c6 .args .r) 3 (c2 .if3 .left),
-      ne-eqb (c6 .args .r) 4 (c1 .if4 .left),
-      ne-eqb (c6 .args .r) 5 (c .if5 .left),
+    let c7 = c4 .before .before .before in
+    let g = c7 .args in
+    λ h. rw (
+      ne-eqb (g .r) 1 (c4 .if1 .left),
+      ne-eqb (g .r) 2 (c3 .if2 .left),
+      ne-eqb (g .r) 3 (c2 .if3 .left),
+      ne-eqb (g .r) 4 (c1 .if4 .left),
+      ne-eqb (g .r) 5 (c .if5 .left),
     ) refl
 
 pub fault-here-spec : {M : Type 1} → statement M

@@ -25,40 +25,54 @@ sub-j c = search needs
 
 is-this-requires : tie.Need-is-this-requires Inv-loop μ-loop
 is-this-requires c κs =
-    let most : c .before .loop .m ≤ c .before .before .before .before .args .n = c .before .loop .inv .0 in
-    let room : c .before .before .before .before .args .n ≤ 1024 = c .before .before .before .before .pre in
-    let some : 0 < c .before .loop .m = c .loop-test .taken in
+    let c1 = c .before in
+    let c4 = c1 .before .before .before in
+    let most : c1 .loop .m ≤ c4 .args .n = c1 .loop .inv .0 in
+    let room : c4 .args .n ≤ 1024 = c4 .pre in
+    let some : 0 < c1 .loop .m = c .loop-test .taken in
     omega arith
 
 returns : tie.Need-returns Inv-loop μ-loop
 returns c =
-    let g = c .before .before .before .before .before .before .args in
-    let some : 0 < c .before .before .before .loop .m = c .before .before .loop-test .taken in
-    top-is (g .text .now) (g .words .now) (c .before .before .before .loop .m) _ (omega arith) (g .least)
-    (slice (g .start) (g .end) (g .text .now)) (sym (c .if1 .taken) ∙ c .before .is-this .ensures)
-    ∙ sym (c .before .before .before .loop .inv .1)
+    let c1 = c .before in
+    let c2 = c1 .before in
+    let c3 = c2 .before in
+    let c6 = c3 .before .before .before in
+    let g = c6 .args in
+    let some : 0 < c3 .loop .m = c2 .loop-test .taken in
+    top-is (g .text .now) (g .words .now) (c3 .loop .m) _ (omega arith) (g .least)
+    (slice (g .start) (g .end) (g .text .now)) (sym (c .if1 .taken) ∙ c1 .is-this .ensures)
+    ∙ sym (c3 .loop .inv .1)
 
 loop-less : tie.Need-loop-less Inv-loop μ-loop
 loop-less c =
-    let some : 0 < c .before .before .before .loop .m = c .before .before .loop-test .taken in
+    let c2 = c .before .before in
+    let c3 = c2 .before in
+    let some : 0 < c3 .loop .m = c2 .loop-test .taken in
     omega arith
 
 loop-again : tie.Need-loop-again Inv-loop μ-loop
 loop-again c =
-    let g = c .before .before .before .before .before .before .args in
-    let some : 0 < c .before .before .before .loop .m = c .before .before .loop-test .taken in
-    let most : c .before .before .before .loop .m ≤ g .n = c .before .before .before .loop .inv .0 in (
+    let c1 = c .before in
+    let c2 = c1 .before in
+    let c3 = c2 .before in
+    let c6 = c3 .before .before .before in
+    let g = c6 .args in
+    let some : 0 < c3 .loop .m = c2 .loop-test .taken in
+    let most : c3 .loop .m ≤ g .n = c3 .loop .inv .0 in (
       omega arith,
-      c .before .before .before .loop .inv .1 ∙ top-is-not (g .text .now) (g .words .now) (c .before .before .before .loop .m) _ (omega arith) (g .least)
-      (slice (g .start) (g .end) (g .text .now)) (sym (c .if1 .left) ∙ c .before .is-this .ensures),
+      c3 .loop .inv .1 ∙ top-is-not (g .text .now) (g .words .now) (c3 .loop .m) _ (omega arith) (g .least)
+          (slice (g .start) (g .end) (g .text .now)) (sym (c .if1 .left) ∙ c1 .is-this .ensures),
     )
 
 returns-2 : tie.Need-returns-2 Inv-loop μ-loop
 returns-2 c =
-    let g = c .before .before .before .before .args in
-    let none : c .before .loop .m ≤ 0 = c .loop-test .left in
-    sym (c .before .loop .inv .1
-    ∙ looked-through (g .text .now) (g .words .now) (c .before .loop .m) (omega arith) (g .least)
+    let c1 = c .before in
+    let c4 = c1 .before .before .before in
+    let g = c4 .args in
+    let none : c1 .loop .m ≤ 0 = c .loop-test .left in
+    sym (c1 .loop .inv .1
+    ∙ looked-through (g .text .now) (g .words .now) (c1 .loop .m) (omega arith) (g .least)
     (slice (g .start) (g .end) (g .text .now)))
 
 pub is-open-spec : {M : Type 1} → statement M

@@ -22,9 +22,11 @@ word-requires c κs = search needs
 
 returns : tie.Need-returns
 returns c =
-    let g = c .before .before .before .before .args in
-    let level = c .before .word .ensures in
-    let less : c .before .word .result < g .least = c .if1 .taken in
+    let c1 = c .before in
+    let c4 = c1 .before .before .before in
+    let g = c4 .args in
+    let level = c1 .word .ensures in
+    let less : c1 .word .result < g .least = c .if1 .taken in
     is-shallow (g .text .now) (g .words .now) (g .j) (g .least) (slice (g .start) (g .end) (g .text .now))
     (omega arith)
 
@@ -48,13 +50,18 @@ same-word-requires c κs = search needs
 
 returns-2 : tie.Need-returns-2
 returns-2 c =
-    let g = c .before .before .before .before .before .before .before .args in
+    let c1 = c .before in
+    let c2 = c1 .before in
+    let c3 = c2 .before in
+    let c4 = c3 .before in
+    let c7 = c4 .before .before .before in
+    let g = c7 .args in
     let x = slice (g .start) (g .end) (g .text .now) in
-    let level = c .before .before .before .before .word .ensures in
-    let least : g .least ≤ c .before .before .before .before .word .result = c .before .before .before .if1 .left in
+    let level = c4 .word .ensures in
+    let least : g .least ≤ c4 .word .result = c3 .if1 .left in
     c .same-word .ensures
-    ∙ ap (λ (i : ℕ). same x (slice i (c .before .word3 .result) (g .text .now))) (c .before .before .word2 .ensures)
-    ∙ ap (λ (i : ℕ). same x (slice (getD (g .words .now) (3 * g .j) 0) i (g .text .now))) (c .before .word3 .ensures)
+    ∙ ap (λ (i : ℕ). same x (slice i (c1 .word3 .result) (g .text .now))) (c2 .word2 .ensures)
+    ∙ ap (λ (i : ℕ). same x (slice (getD (g .words .now) (3 * g .j) 0) i (g .text .now))) (c1 .word3 .ensures)
     ∙ is-deep (g .text .now) (g .words .now) (g .j) (g .least) x (omega arith)
 
 pub is-this-spec : {M : Type 1} → statement M

@@ -10,11 +10,11 @@ use Rattle.text_names.proofs.open.pop.Statement.{statement}
 use Rattle.text_names.proofs.open.pop.Tie as tie
 
 abbrev Inv-loop : tie.InvT-loop
-Inv-loop words n level m₀ m =
-    (m ≤ n) × ((text : List ℕ) → leaving level (openOf text words n) ≡ leaving level (openOf text words m))
+Inv-loop words n level left₀ left =
+    (left ≤ n) × ((text : List ℕ) → leaving level (openOf text words n) ≡ leaving level (openOf text words left))
 
 abbrev μ-loop : tie.MeasureT-loop
-μ-loop words n level m₀ m = m
+μ-loop words n level left₀ left = left
 
 returns : tie.Need-returns Inv-loop μ-loop
 returns c =
@@ -30,14 +30,18 @@ sub-j c = search needs
 
 mul-word : tie.Need-mul-word Inv-loop μ-loop
 mul-word c =
-    let most : c .before .loop .m ≤ c .before .before .before .before .args .n = c .before .loop .inv .0 in
-    let room : c .before .before .before .before .args .n ≤ 1025 = c .before .before .before .before .pre in
+    let c1 = c .before in
+    let c4 = c1 .before .before .before in
+    let most : c1 .loop .left ≤ c4 .args .n = c1 .loop .inv .0 in
+    let room : c4 .args .n ≤ 1025 = c4 .pre in
     omega arith
 
 add-word : tie.Need-add-word Inv-loop μ-loop
 add-word c =
-    let most : c .before .loop .m ≤ c .before .before .before .before .args .n = c .before .loop .inv .0 in
-    let room : c .before .before .before .before .args .n ≤ 1025 = c .before .before .before .before .pre in
+    let c1 = c .before in
+    let c4 = c1 .before .before .before in
+    let most : c1 .loop .left ≤ c4 .args .n = c1 .loop .inv .0 in
+    let room : c4 .args .n ≤ 1025 = c4 .pre in
     omega arith
 
 word-requires : tie.Need-word-requires Inv-loop μ-loop
@@ -45,44 +49,59 @@ word-requires c κs = search needs
 
 returns-2 : tie.Need-returns-2 Inv-loop μ-loop
 returns-2 c =
-    let g = c .before .before .before .before .before .before .args in
-    let room : g .n ≤ 1024 = c .before .before .before .before .if1 .left in
-    let some : 0 < c .before .before .before .loop .m = c .before .before .loop-test .taken in
-    let most : c .before .before .before .loop .m ≤ g .n = c .before .before .before .loop .inv .0 in
-    let top = c .before .word .ensures in
-    let less : c .before .word .result < g .level = c .if2 .taken in (
+    let c1 = c .before in
+    let c2 = c1 .before in
+    let c3 = c2 .before in
+    let c4 = c3 .before in
+    let c6 = c4 .before .before in
+    let g = c6 .args in
+    let room : g .n ≤ 1024 = c4 .if1 .left in
+    let some : 0 < c3 .loop .left = c2 .loop-test .taken in
+    let most : c3 .loop .left ≤ g .n = c3 .loop .inv .0 in
+    let top = c1 .word .ensures in
+    let less : c1 .word .result < g .level = c .if2 .taken in (
       omega arith,
       λ text ds h l.
-          sym (ap (leaving (g .level)) (sym (h room)) ∙ c .before .before .before .loop .inv .1 text
-          ∙ top-stays text (g .words .now) (c .before .before .before .loop .m) (c .before .before .before .loop .m - 1) (omega arith) (g .level) (omega arith)),
+          sym (ap (leaving (g .level)) (sym (h room)) ∙ c3 .loop .inv .1 text
+          ∙ top-stays text (g .words .now) (c3 .loop .left) (c3 .loop .left - 1) (omega arith) (g .level)
+          (omega arith)),
     )
 
 loop-less : tie.Need-loop-less Inv-loop μ-loop
 loop-less c =
-    let some : 0 < c .before .before .before .loop .m = c .before .before .loop-test .taken in
+    let c2 = c .before .before in
+    let c3 = c2 .before in
+    let some : 0 < c3 .loop .left = c2 .loop-test .taken in
     omega arith
 
 loop-again : tie.Need-loop-again Inv-loop μ-loop
 loop-again c =
-    let g = c .before .before .before .before .before .before .args in
-    let some : 0 < c .before .before .before .loop .m = c .before .before .loop-test .taken in
-    let most : c .before .before .before .loop .m ≤ g .n = c .before .before .before .loop .inv .0 in
-    let top = c .before .word .ensures in
-    let high : g .level ≤ c .before .word .result = c .if2 .left in (
+    let c1 = c .before in
+    let c2 = c1 .before in
+    let c3 = c2 .before in
+    let c6 = c3 .before .before .before in
+    let g = c6 .args in
+    let some : 0 < c3 .loop .left = c2 .loop-test .taken in
+    let most : c3 .loop .left ≤ g .n = c3 .loop .inv .0 in
+    let top = c1 .word .ensures in
+    let high : g .level ≤ c1 .word .result = c .if2 .left in (
       omega arith,
-      λ text. c .before .before .before .loop .inv .1 text
-      ∙ top-leaves text (g .words .now) (c .before .before .before .loop .m) _ (omega arith) (g .level) (omega arith),
+      λ text. c3 .loop .inv .1 text
+          ∙ top-leaves text (g .words .now) (c3 .loop .left) _ (omega arith) (g .level) (omega arith),
     )
 
 returns-3 : tie.Need-returns-3 Inv-loop μ-loop
 returns-3 c =
-    let g = c .before .before .before .before .args in
-    let room : g .n ≤ 1024 = c .before .before .if1 .left in
-    let none : c .before .loop .m ≤ 0 = c .loop-test .left in (
+    let c1 = c .before in
+    let c2 = c1 .before in
+    let c4 = c2 .before .before in
+    let g = c4 .args in
+    let room : g .n ≤ 1024 = c2 .if1 .left in
+    let none : c1 .loop .left ≤ 0 = c .loop-test .left in (
       omega arith,
       λ text ds h l.
-          sym (ap (leaving (g .level)) (sym (h room)) ∙ c .before .loop .inv .1 text
-          ∙ all-left text (g .words .now) (c .before .loop .m) (omega arith) (g .level)),
+          sym (ap (leaving (g .level)) (sym (h room)) ∙ c1 .loop .inv .1 text
+          ∙ all-left text (g .words .now) (c1 .loop .left) (omega arith) (g .level)),
     )
 
 pub pop-spec : {M : Type 1} → statement M

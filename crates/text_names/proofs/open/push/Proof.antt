@@ -71,8 +71,8 @@ returns-2 c =
     let few : g .n < 1024 = c .if1 .left in (
       omega arith,
       λ text ds h l. open-more text (g .words .now) (g .n) (g .start) (g .end) (g .level) (omega arith)
-      ∙ ap (λ (es : List Declared). record { level = g .level; bytes = slice (g .start) (g .end) text } ∷ es)
-      (h (omega arith)),
+          ∙ ap (λ (es : List Declared). record { level = g .level; bytes = slice (g .start) (g .end) text } ∷ es)
+          (h (omega arith)),
     )
 
 pub push-spec : {M : Type 1} → statement M
