@@ -4,6 +4,7 @@ pub mod Levels
 pub mod OpenLaws
 pub mod Lowest
 pub mod Merged
+pub mod Passes
 pub mod Blocks
 pub mod Looking
 pub mod Calls

@@ -1,50 +1,20 @@
--- The faults told in one scan: token by token, and with the same lowest as those of methods and of their names apart.
+-- The faults found in one scan have the same lowest as those of methods and of their names apart.
 use Prim.Native.Nat.{ℕ, suc}
 use mathlib.Core.Path.{_≡_, refl, sym, ap, _∙_}
-use mathlib.Core.Bool.{Bool, true, false, not}
+use mathlib.Core.Bool.{not}
 use mathlib.Core.List.{List, [], _∷_, _++_}
 use mathlib.Core.Option.{Option}
 use lib.Dec.{ltb}
-use Rattle.text.specs.Tree.{Name, Program}
+use Rattle.text.specs.Tree.{Program}
 use Rattle.text.specs.Names.{unless, declaredAmong, useFault, lowest, nameRefusal}
 use Rattle.text_parse.specs.Tokens.{Token, tokensOf}
 use Rattle.text_parse.specs.Grammar.{read, programOf}
 use Rattle.text_scan.specs.Events.{Event, methodNamed, declared, used, called, invoked, opened, closed, ended}
-use Rattle.text_scan.specs.ScanCode.{withEvent, eventsFrom}
+use Rattle.text_scan.specs.ScanCode.{eventsFrom}
 use Rattle.text_scan.specs.FaultsCode.{Entry, eachMethod, entry, entriesOf, countOf, indexIn, callable, invocable, Blocks, innermost, withName, withoutBlock, namesIn, faultsOf, methodFaultsOf, mainFaultOf, faultsFrom}
 use Rattle.text_scan.proofs.SameFaults.{text-faults}
-use Rattle.text_names.specs.FoundCode.{blocksAfter}
-use Rattle.text_names.specs.FaultsCode.{allFaults, faultAt, indexAfter, lowerOf}
-use Rattle.text_names.proofs.ByRole.{Other, by-role}
+use Rattle.text_names.specs.FaultsCode.{allFaults, lowerOf}
 use Rattle.text_names.proofs.Lowest.{lower-assoc, lower-swap, lowest-append}
-
--- Token by token
-
-unless-not : (ok : Bool) (x : Name) → unless ok x ≡ unless (not (not ok)) x
-unless-not true x = refl
-unless-not false x = refl
-
-module _ (all : List Entry) (i : ℕ) (bs : Blocks) (x : Name) (n : ℕ) (us : List Token) (es : List Event) where
-  abbrev Step : ℕ → Type 0
-  Step r =
-      allFaults all i bs (withEvent r x n us es)
-      ≡ unless (not (faultAt all i bs r x n)) x ++ allFaults all (indexAfter r i) (blocksAfter r x bs) es
-
-  step-other : (r : ℕ) → Other r → Step r
-  unfolding withEvent faultAt indexAfter blocksAfter
-  step-other r o =
-      rw (o .not-1, o .not-2, o .not-3, o .not-4, o .not-5, o .not-6, o .not-7, o .not-8) refl
-
-  pub fault-step : (r : ℕ) → Step r
-  unfolding withEvent faultAt indexAfter blocksAfter allFaults useFault
-  fault-step r =
-      by-role Step refl refl
-      (ap (λ fs. fs ++ allFaults all i bs es) (unless-not (declaredAmong (namesIn bs) x) x))
-      (ap (λ fs. fs ++ allFaults all i bs es) (unless-not (callable n (countOf all x)) x))
-      (ap (λ fs. fs ++ allFaults all i bs es) (unless-not (invocable x n (countOf all x)) x))
-      refl refl refl step-other r
-
--- The lowest
 
 none-lowest : lowest [] ≡ lowerOf (lowest []) (lowest [])
 unfolding lowest lowerOf

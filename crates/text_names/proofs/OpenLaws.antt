@@ -2,18 +2,19 @@
 use Prim.Native.Nat.{ℕ, zero, suc, _+_, _*_, _≤_, _<_}
 use native.Mathlib.Omega.{arith}
 use mathlib.Core.Path.{_≡_, refl, sym, ap, _∙_}
-use mathlib.Core.Bool.{Bool, true, false, cond, _&&_, _||_}
-use mathlib.Core.List.{List, [], _∷_, _++_, map}
+use mathlib.Core.Bool.{Bool, true, false, cond, not, _&&_, _||_}
+use mathlib.Core.List.{List, [], _∷_, _++_}
 use lib.Dec.{eqb, eqb→eq, leb, ltb}
 use lib.ListN.{length, getD, set, length-set}
 use lib.Seq.{slice, getD-set-same, getD-set-other}
 use borrow.Author.Tests.{le-leb, lt-leb}
 use Rattle.lists.specs.Lists.{same, any}
-use Rattle.lists.proofs.Tests.{passes}
+use Rattle.lists.proofs.Tests.{passes, never}
+use Rattle.lists.proofs.Laws.{same-equal}
 use Rattle.text.specs.Tree.{Name}
 use Rattle.text_scan.specs.FaultsCode.{Blocks, withName, withoutBlock}
 use Rattle.text_names.specs.FoundCode.{levelOf, foundIn, blocksAfter}
-use Rattle.text_names.specs.OpenCode.{Declared, entryOf, openOf, isThis, isOpen, leaving, openAfter, declaredIn}
+use Rattle.text_names.specs.OpenCode.{Declared, entryOf, openOf, isThis, isOpen, leaving, openAfter, namesAt, declaredIn}
 use Rattle.text_names.proofs.ByRole.{Other, by-role}
 use Rattle.text_names.proofs.Levels.{no-level, or-true, or-false, some-level, level-test}
 
@@ -124,62 +125,91 @@ module _ (text words : List ℕ) (n s e l : ℕ) where
         ∙ rw (first-word, second-word, third-word)
         (ap (λ ds. record { level = l; bytes = slice s e text } ∷ ds) (open-kept n (omega arith)))
 
--- Blocks
+-- Blocks, of which the names that pass a test are entered
 
 abbrev at-level : ℕ → Name → Declared
 at-level l y = record { level = l; bytes = y .spelling }
 
--- a block of names at one level is left
-leaves-block : (l : ℕ) (b : List Name) (ds : List Declared)
-    → leaving l (map (at-level l) b ++ ds) ≡ leaving l ds
-unfolding leaving
-leaves-block l [] ds = refl
-leaves-block l (y ∷ b) ds = rw (le-leb l l (omega arith)) (leaves-block l b ds)
+module _ (test : List ℕ → Bool) where
+  -- a block of names at one level is left
+  leaves-block : (l : ℕ) (b : List Name) (ds : List Declared) → leaving l (namesAt test l b ++ ds) ≡ leaving l ds
+  unfolding leaving namesAt
+  leaves-block l [] ds = refl
+  leaves-block l (y ∷ b) ds = by (test (y .spelling)) (leaves-block l b ds)
+    where
+      by : (t : Bool) → leaving l (namesAt test l b ++ ds) ≡ leaving l ds
+          → leaving l (cond t (at-level l y ∷ namesAt test l b) (namesAt test l b) ++ ds) ≡ leaving l ds
+      by true e = rw (le-leb l l (omega arith)) e
+      by false e = e
 
--- the blocks outside it are not
-outer-stays : (l : ℕ) (bs : Blocks) → length bs < l → leaving l (declaredIn bs) ≡ declaredIn bs
-unfolding leaving declaredIn
-outer-stays l [] h = refl
-outer-stays l ([] ∷ bs) h = outer-stays l bs (omega arith)
-outer-stays l ((y ∷ b) ∷ bs) h = rw (lt-leb l (suc (length bs)) h) refl
+  -- those of lower levels are not
+  lower-stays : (l k : ℕ) (b : List Name) (ds : List Declared) → k < l → leaving l ds ≡ ds
+      → leaving l (namesAt test k b ++ ds) ≡ namesAt test k b ++ ds
+  unfolding leaving namesAt
+  lower-stays l k [] ds h e = e
+  lower-stays l k (y ∷ b) ds h e = by (test (y .spelling)) (lower-stays l k b ds h e)
+    where
+      by : (t : Bool) → leaving l (namesAt test k b ++ ds) ≡ namesAt test k b ++ ds
+          → leaving l (cond t (at-level k y ∷ namesAt test k b) (namesAt test k b) ++ ds)
+          ≡ cond t (at-level k y ∷ namesAt test k b) (namesAt test k b) ++ ds
+      by true q = rw (lt-leb l k h) refl
+      by false q = q
 
-without-same : (b : List Name) (bs : Blocks) → declaredIn (withoutBlock (b ∷ bs)) ≡ declaredIn bs
-unfolding withoutBlock declaredIn
-without-same b [] = refl
-without-same b (c ∷ bs) = refl
+  outer-stays : (l : ℕ) (bs : Blocks) → length bs < l → leaving l (declaredIn test bs) ≡ declaredIn test bs
+  unfolding leaving declaredIn
+  outer-stays l [] h = refl
+  outer-stays l (b ∷ bs) h =
+      lower-stays l (suc (length bs)) b (declaredIn test bs) h (outer-stays l bs (omega arith))
 
-block-left : (b : List Name) (bs : Blocks)
-    → leaving (suc (length bs)) (declaredIn (b ∷ bs)) ≡ declaredIn (withoutBlock (b ∷ bs))
-unfolding declaredIn
-block-left b bs =
-    leaves-block (suc (length bs)) b (declaredIn bs) ∙ outer-stays (suc (length bs)) bs (omega arith)
-    ∙ sym (without-same b bs)
+  without-same : (b : List Name) (bs : Blocks) → declaredIn test (withoutBlock (b ∷ bs)) ≡ declaredIn test bs
+  unfolding withoutBlock declaredIn namesAt
+  without-same b [] = refl
+  without-same b (c ∷ bs) = refl
 
--- the entries after a token are the names of the blocks after it
-abbrev After : ℕ → Name → Blocks → ℕ → Type 0
-After braces y bs r =
-    ((eqb r 7 || eqb r 8) ≡ true → braces ≡ length bs)
-    → openAfter braces r (y .spelling) (declaredIn bs) ≡ declaredIn (blocksAfter r y bs)
+  block-left : (b : List Name) (bs : Blocks)
+      → leaving (suc (length bs)) (declaredIn test (b ∷ bs)) ≡ declaredIn test (withoutBlock (b ∷ bs))
+  unfolding declaredIn
+  block-left b bs =
+      leaves-block (suc (length bs)) b (declaredIn test bs) ∙ outer-stays (suc (length bs)) bs (omega arith)
+      ∙ sym (without-same b bs)
 
-after-other : (braces : ℕ) (y : Name) (bs : Blocks) (r : ℕ) → Other r → After braces y bs r
-unfolding blocksAfter openAfter
-after-other braces y bs r o h = rw (o .not-1, o .not-2, o .not-6, o .not-7, o .not-8) refl
+  -- the entries after a token are the names of the blocks after it; a name that does not pass is not declared
+  abbrev After : ℕ → Name → Blocks → ℕ → Type 0
+  After braces y bs r =
+      ((eqb r 7 || eqb r 8) ≡ true → braces ≡ length bs)
+      → openAfter braces (cond (eqb r 2 && not (test (y .spelling))) 0 r) (y .spelling) (declaredIn test bs)
+      ≡ declaredIn test (blocksAfter r y bs)
 
-after-declared : (braces : ℕ) (y : Name) (b : List Name) (bs : Blocks) → suc (length bs) ≡ levelOf braces
-    → (at-level (levelOf braces) y ∷ declaredIn (b ∷ bs)) ≡ declaredIn (withName y (b ∷ bs))
-unfolding withName declaredIn
-after-declared braces y b bs e = ap (λ (l : ℕ). at-level l y ∷ declaredIn (b ∷ bs)) (sym e)
+  after-other : (braces : ℕ) (y : Name) (bs : Blocks) (r : ℕ) → Other r → After braces y bs r
+  unfolding blocksAfter openAfter
+  after-other braces y bs r o h =
+      ap (λ (t : Bool). openAfter braces (cond (t && not (test (y .spelling))) 0 r) (y .spelling)
+      (declaredIn test bs)) (o .not-2)
+      ∙ rw (o .not-1, o .not-2, o .not-6, o .not-7, o .not-8) refl
 
-pub open-after : (braces : ℕ) (y : Name) (bs : Blocks) → length bs ≡ levelOf braces → (r : ℕ) → After braces y bs r
-unfolding blocksAfter openAfter declaredIn
-open-after braces y [] e r = absurd (no-level braces e)
-open-after braces y (b ∷ bs) e r =
-    by-role (After braces y (b ∷ bs)) (λ h. refl) (λ h. after-declared braces y b bs e) (λ h. refl) (λ h. refl)
-    (λ h. refl) (λ h. refl) closed closed (after-other braces y (b ∷ bs)) r
-  where
-    closed : (true ≡ true → braces ≡ suc (length bs))
-        → leaving braces (declaredIn (b ∷ bs)) ≡ declaredIn (withoutBlock (b ∷ bs))
-    closed h = ap (λ (l : ℕ). leaving l (declaredIn (b ∷ bs))) (h refl) ∙ block-left b bs
+  after-declared : (braces : ℕ) (y : Name) (b : List Name) (bs : Blocks) → suc (length bs) ≡ levelOf braces
+      → openAfter braces (cond (not (test (y .spelling))) 0 2) (y .spelling) (declaredIn test (b ∷ bs))
+      ≡ declaredIn test (withName y (b ∷ bs))
+  unfolding withName declaredIn namesAt openAfter
+  after-declared braces y b bs e = by (test (y .spelling))
+    where
+      by : (t : Bool)
+          → openAfter braces (cond (not t) 0 2) (y .spelling) (declaredIn test (b ∷ bs))
+          ≡ cond t (at-level (suc (length bs)) y ∷ namesAt test (suc (length bs)) b) (namesAt test (suc (length bs)) b)
+          ++ declaredIn test bs
+      by true = ap (λ (l : ℕ). at-level l y ∷ declaredIn test (b ∷ bs)) (sym e)
+      by false = refl
+
+  pub open-after : (braces : ℕ) (y : Name) (bs : Blocks) → length bs ≡ levelOf braces → (r : ℕ) → After braces y bs r
+  unfolding blocksAfter openAfter declaredIn namesAt
+  open-after braces y [] e r = absurd (no-level braces e)
+  open-after braces y (b ∷ bs) e r =
+      by-role (After braces y (b ∷ bs)) (λ h. refl) (λ h. after-declared braces y b bs e) (λ h. refl) (λ h. refl)
+      (λ h. refl) (λ h. refl) closed closed (after-other braces y (b ∷ bs)) r
+    where
+      closed : (true ≡ true → braces ≡ suc (length bs))
+          → leaving braces (declaredIn test (b ∷ bs)) ≡ declaredIn test (withoutBlock (b ∷ bs))
+      closed h = ap (λ (l : ℕ). leaving l (declaredIn test (b ∷ bs))) (h refl) ∙ block-left b bs
 
 -- Looking for a name
 
@@ -195,35 +225,55 @@ open-append least x (d ∷ ds) es =
     by true a b c e = refl
     by false a b c e = e
 
-open-block : (least : ℕ) (x : List ℕ) (l : ℕ) (b : List Name)
-    → isOpen least x (map (at-level l) b) ≡ (leb least l && any (λ (y : Name). same x (y .spelling)) b)
-unfolding isOpen isThis
-open-block least x l [] = none (leb least l)
-  where
-    none : (t : Bool) → false ≡ (t && false)
-    none true = refl
-    none false = refl
-open-block least x l (y ∷ b) =
-    ap (_||_ (leb least l && same x (y .spelling))) (open-block least x l b)
-    ∙ by (leb least l) (same x (y .spelling)) (any (λ (y : Name). same x (y .spelling)) b)
-  where
-    by : (t d h : Bool) → ((t && d) || (t && h)) ≡ (t && (d || h))
-    by true d h = refl
-    by false d h = refl
+module _ (test : List ℕ → Bool) (least : ℕ) (x : List ℕ) (passed : test x ≡ true) where
+  -- no name that does not pass has the bytes of one that does
+  unlike : (y : List ℕ) → test y ≡ false → same x y ≡ false
+  unlike y e = by (same x y) refl
+    where
+      by : (t : Bool) → same x y ≡ t → t ≡ false
+      by true q = never (sym e ∙ ap test (sym (same-equal x y (passes q))) ∙ passed)
+      by false q = refl
 
-pub open-found : (least : ℕ) (x : List ℕ) (bs : Blocks) → isOpen least x (declaredIn bs) ≡ ltb 0 (foundIn least x bs)
-unfolding declaredIn foundIn isOpen
-open-found least x [] = refl
-open-found least x (b ∷ bs) =
-    open-append least x (map (at-level (suc (length bs))) b) (declaredIn bs)
-    ∙ ap (λ (t : Bool). t || isOpen least x (declaredIn bs)) (open-block least x (suc (length bs)) b)
-    ∙ by (leb least (suc (length bs)) && any (λ (y : Name). same x (y .spelling)) b) (eqb (foundIn least x bs) 0) refl
-    (open-found least x bs)
-  where
-    by : (h a : Bool) → eqb (foundIn least x bs) 0 ≡ a → isOpen least x (declaredIn bs) ≡ ltb 0 (foundIn least x bs)
-        → (h || isOpen least x (declaredIn bs)) ≡ ltb 0 (cond a (cond h (suc (length bs)) 0) (foundIn least x bs))
-    by h true e i =
-        ap (_||_ h) (i ∙ ap (ltb 0) (eqb→eq (foundIn least x bs) 0 (passes e))) ∙ or-false h
-        ∙ sym (level-test (length bs) h)
-    by h false e i =
-        ap (_||_ h) (i ∙ some-level (foundIn least x bs) e) ∙ or-true h ∙ sym (some-level (foundIn least x bs) e)
+  open-block : (l : ℕ) (b : List Name)
+      → isOpen least x (namesAt test l b) ≡ (leb least l && any (λ (y : Name). same x (y .spelling)) b)
+  unfolding isOpen isThis namesAt
+  open-block l [] = none (leb least l)
+    where
+      none : (t : Bool) → false ≡ (t && false)
+      none true = refl
+      none false = refl
+  open-block l (y ∷ b) = entered (test (y .spelling)) refl (open-block l b)
+    where
+      by : (t d h : Bool) → ((t && d) || (t && h)) ≡ (t && (d || h))
+      by true d h = refl
+      by false d h = refl
+
+      entered : (t : Bool) → test (y .spelling) ≡ t
+          → isOpen least x (namesAt test l b) ≡ (leb least l && any (λ (y : Name). same x (y .spelling)) b)
+          → isOpen least x (cond t (at-level l y ∷ namesAt test l b) (namesAt test l b))
+          ≡ (leb least l && (same x (y .spelling) || any (λ (y : Name). same x (y .spelling)) b))
+      entered true e q =
+          ap (_||_ (leb least l && same x (y .spelling))) q
+          ∙ by (leb least l) (same x (y .spelling)) (any (λ (y : Name). same x (y .spelling)) b)
+      entered false e q =
+          q ∙ sym (ap (λ (t : Bool). leb least l && (t || any (λ (y : Name). same x (y .spelling)) b))
+          (unlike (y .spelling) e))
+
+  pub open-found : (bs : Blocks) → isOpen least x (declaredIn test bs) ≡ ltb 0 (foundIn least x bs)
+  unfolding declaredIn foundIn isOpen
+  open-found [] = refl
+  open-found (b ∷ bs) =
+      open-append least x (namesAt test (suc (length bs)) b) (declaredIn test bs)
+      ∙ ap (λ (t : Bool). t || isOpen least x (declaredIn test bs)) (open-block (suc (length bs)) b)
+      ∙ by (leb least (suc (length bs)) && any (λ (y : Name). same x (y .spelling)) b) (eqb (foundIn least x bs) 0) refl
+      (open-found bs)
+    where
+      by : (h a : Bool) → eqb (foundIn least x bs) 0 ≡ a
+          → isOpen least x (declaredIn test bs) ≡ ltb 0 (foundIn least x bs)
+          → (h || isOpen least x (declaredIn test bs))
+          ≡ ltb 0 (cond a (cond h (suc (length bs)) 0) (foundIn least x bs))
+      by h true e i =
+          ap (_||_ h) (i ∙ ap (ltb 0) (eqb→eq (foundIn least x bs) 0 (passes e))) ∙ or-false h
+          ∙ sym (level-test (length bs) h)
+      by h false e i =
+          ap (_||_ h) (i ∙ some-level (foundIn least x bs) e) ∙ or-true h ∙ sym (some-level (foundIn least x bs) e)

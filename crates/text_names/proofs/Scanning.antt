@@ -2,18 +2,18 @@
 use Prim.Native.Nat.{ℕ, zero, suc, _+_, _≤_, _<_}
 use native.Mathlib.Omega.{arith}
 use mathlib.Core.Path.{_≡_, refl, sym, ap, _∙_}
-use mathlib.Core.Logic.{_⊎_, ⊎-elim}
-use mathlib.Core.Bool.{Bool, true, false, cond, _||_, not}
-use mathlib.Core.List.{List, [], _∷_, _++_, map}
+use mathlib.Core.Logic.{⊎-elim}
+use mathlib.Core.Bool.{Bool, true, false, cond, _&&_, _||_, not}
+use mathlib.Core.List.{List, [], _∷_, map}
 use mathlib.Core.Option.{Option, none, some}
 use lib.Dec.{eqb, eqb→eq, ltb}
 use lib.ListN.{length}
 use lib.Seq.{slice}
 use borrow.Author.Tests.{eq-eqb, ltb-true, ltb-false}
 use Rattle.lists.specs.Lists.{same}
-use Rattle.lists.proofs.Tests.{decide, passes, clash}
+use Rattle.lists.proofs.Tests.{decide, passes, clash, never}
 use Rattle.text.specs.Tree.{Name, spells, gateOf}
-use Rattle.text.specs.Names.{unless, declaredAmong, lowest}
+use Rattle.text.specs.Names.{declaredAmong}
 use Rattle.text_parse.specs.Tokens.{Token, nameOf}
 use Rattle.text_parse.specs.Grammar.{rest}
 use Rattle.text_tokens.specs.Places.{tokensAt, tokenOf}
@@ -31,15 +31,16 @@ use Rattle.text_methods.proofs.Ending.{no-bytes, end-alone, passes-token}
 use Rattle.text_methods.proofs.Counted.{count-at-end}
 use Rattle.text_methods.proofs.Finding.{split-at, braces-most}
 use Rattle.text_names.specs.FoundCode.{levelOf, foundAfter, foundUpTo, foundIn, blocksAfter}
-use Rattle.text_names.specs.FaultsCode.{allFaults, faultAt, indexAfter, lowerOf, placeIf}
-use Rattle.text_names.specs.FaultCode.{rowCount, rowEntry, methodsOf, bare, isCallAt, isInvocationAt, isKnownAt, faultHere, lowestFault}
-use Rattle.text_names.specs.OpenCode.{openOf, isOpen, openAfter, declaredIn, Turns, Knows}
+use Rattle.text_names.specs.FaultsCode.{faulty, faultAt, indexAfter, lowerOf, placeIf, lowestOf}
+use Rattle.text_names.specs.FaultCode.{rowCount, rowEntry, methodsOf, bare, isCallAt, isInvocationAt, isKnownAt, faultHere, lowestIn}
+use Rattle.text_names.specs.OpenCode.{openOf, isOpen, openAfter, namesAt, declaredIn, Turns, Knows}
+use Rattle.text_names.specs.ClassCode.{fitsIn}
 use Rattle.text_names.proofs.ByRole.{Other, by-role}
 use Rattle.text_names.proofs.Levels.{found-opened, found-after, in-scope, in-block}
 use Rattle.text_names.proofs.OpenLaws.{none-open, open-after, open-found}
 use Rattle.text_names.proofs.Blocks.{closes-level, blocks-level}
 use Rattle.text_names.proofs.Lowest.{lower-none, lower-assoc}
-use Rattle.text_names.proofs.Merged.{fault-step}
+use Rattle.text_names.proofs.Passes.{lowest-one, faulty-step, fits-none}
 use Rattle.text_names.proofs.Looking.{found-step, found-there, end-role}
 
 -- Methods by rows
@@ -135,34 +136,36 @@ named-state m (suc b) k f = λ q. absurd (by (eqb k 33) (eqb m 4) (eqb m 3) (eqb
     by false c d g h false false q = passes q
 
 -- what the scan has come to at a place
-pub record ScanSoFar (text words : List ℕ) (at m b from i n : ℕ) (found : Bool) (low k : ℕ) : Type 0 where
+pub record ScanSoFar (test : List ℕ → Bool) (all : Bool) (text words : List ℕ) (at m b from i n : ℕ) (found : Bool)
+    (low k : ℕ) : Type 0 where
   pub blocks : Blocks
   pub room : length words ≡ 3072
   pub count-low : n ≤ 1025
-  pub opens : n ≤ 1024 → openOf text words n ≡ declaredIn blocks
-  pub kind-is : k ≡ nextKind text at
+  pub opens : n ≤ 1024 → openOf text words n ≡ declaredIn test blocks
+  pub kind-is : k ≡ cond (fitsIn all n) (nextKind text at) 32
   pub braces-low : b ≤ at
   pub index-low : i ≤ at
   pub level : length blocks ≡ levelOf b
   pub finds : (least : ℕ) (y : List ℕ) (to : ℕ) → at ≤ to
       → foundUpTo least y to 0 0 0 (tokensAt text from)
       ≡ foundUpTo least y to m b (foundIn least y blocks) (tokensAt text at)
-  pub lowest-is : lowestFault text
-      ≡ lowerOf (placeIf found low) (lowest (allFaults (methodsOf text) i blocks (eventsFrom m b (tokensAt text at))))
+  pub lowest-is : lowestIn test text
+      ≡ lowerOf (placeIf found low)
+      (lowestOf test (faulty (methodsOf text) i blocks (eventsFrom m b (tokensAt text at))))
 
 none-found : (least : ℕ) (y : List ℕ) → foundIn least y ([] ∷ []) ≡ 0
 unfolding foundIn
 none-found least y = found-opened least y []
 
-pub scan-begins : (text words : List ℕ) (k : ℕ) → length words ≡ 3072 → k ≡ nextKind text 0
-    → ScanSoFar text words 0 0 0 0 0 0 false 0 k
-unfolding lowestFault lowerOf levelOf declaredIn
-scan-begins text words k r e = record {
+pub scan-begins : (test : List ℕ → Bool) (all : Bool) (text words : List ℕ) (k : ℕ) → length words ≡ 3072
+    → k ≡ nextKind text 0 → ScanSoFar test all text words 0 0 0 0 0 0 false 0 k
+unfolding lowestIn lowerOf levelOf declaredIn namesAt
+scan-begins test all text words k r e = record {
   blocks = [] ∷ [];
   room = r;
   count-low = omega arith;
   opens = λ l. none-open text words;
-  kind-is = e;
+  kind-is = e ∙ sym (ap (λ (c : Bool). cond c (nextKind text 0) 32) (fits-none all));
   braces-low = omega arith;
   index-low = omega arith;
   level = refl;
@@ -170,13 +173,6 @@ scan-begins text words k r e = record {
       ap (λ (j : ℕ). foundUpTo least y to 0 0 j (tokensAt text 0)) (sym (none-found least y));
   lowest-is = refl;
 }
-
--- one place in front of others
-place-lowest : (fault : Bool) (x : Name) (is : List ℕ)
-    → lowest (unless (not fault) x ++ is) ≡ lowerOf (placeIf fault (x .at)) (lowest is)
-unfolding lowest lowerOf
-place-lowest true x is = refl
-place-lowest false x is = refl
 
 -- gates go by the bytes of a name alone
 bare-name : (x : List ℕ) (at n : ℕ) (o : Option ℕ)
@@ -194,20 +190,26 @@ end-events m b (t ∷ ts) e r =
     ∙ ap (λ (k : ℕ). withEvent (role m b k 32) (nameOf t) (argumentCount []) [] []) e
     ∙ ap (λ (j : ℕ). withEvent j (nameOf t) (argumentCount []) [] []) (end-role m b 32)
 
-module _ (text words : List ℕ) (at m b from i n : ℕ) (found : Bool) (low k : ℕ)
-    (s : ScanSoFar text words at m b from i n found low k) where
-  pub scan-ends : k ≡ 32 → placeIf found low ≡ lowestFault text
-  unfolding allFaults lowest
-  scan-ends e =
-      let last : nextKind text at ≡ 32 = sym (s .kind-is) ∙ e in
+-- a pass ends early or at the end of the text
+end-kind : (c : Bool) (k j : ℕ) → k ≡ cond c j 32 → (k ≡ 32 → ⊥) → k ≡ j
+end-kind true k j e f = e
+end-kind false k j e f = absurd (f e)
+
+module _ (test : List ℕ → Bool) (all : Bool) (text words : List ℕ) (at m b from i n : ℕ) (found : Bool) (low k : ℕ)
+    (s : ScanSoFar test all text words at m b from i n found low k) where
+  pub scan-ends : k ≡ 32 → fitsIn all n ≡ true → placeIf found low ≡ lowestIn test text
+  unfolding faulty lowestOf
+  scan-ends e h =
+      let kind : k ≡ nextKind text at = s .kind-is ∙ ap (λ (c : Bool). cond c (nextKind text at) 32) h in
+      let last : nextKind text at ≡ 32 = sym kind ∙ e in
       sym (s .lowest-is
-      ∙ ap (λ es. lowerOf (placeIf found low) (lowest (allFaults (methodsOf text) i (s .blocks) es)))
+      ∙ ap (λ es. lowerOf (placeIf found low) (lowestOf test (faulty (methodsOf text) i (s .blocks) es)))
       (end-events m b (tokensAt text at) last (end-alone text at last))
       ∙ lower-none (placeIf found low))
 
   module _ (f : k ≡ 32 → ⊥) (t u : TokenAt) (q : NextToken text at t) (p : NextToken text (t .end) u) where
     further : nextKind text at ≡ 32 → ⊥
-    further e = f (s .kind-is ∙ e)
+    further e = f (end-kind (fitsIn all n) k (nextKind text at) (s .kind-is) f ∙ e)
 
     pub scan-passes : Passed text at (t .end)
     scan-passes = passes-token text at t q further
@@ -370,52 +372,73 @@ module _ (text words : List ℕ) (at m b from i n : ℕ) (found : Bool) (low k :
     -- the lowest fault from here on
     rest-lowest : Option ℕ
     rest-lowest =
-        lowest (allFaults (methodsOf text) (indexAfter r i) after
+        lowestOf test (faulty (methodsOf text) (indexAfter r i) after
         (eventsFrom (modeAfter m b (t .kind)) (bracesAfter b (t .kind)) (tokensAt text (t .end))))
 
-    lowest-split : (fault : Bool) → fault ≡ faultHere text from b i r (t .start) (t .end) (u .end)
-        → lowest (allFaults (methodsOf text) i (s .blocks) (eventsFrom m b (tokensAt text at)))
+    lowest-split : (fault : Bool)
+        → fault ≡ (test (slice (t .start) (t .end) text) && faultHere text from b i r (t .start) (t .end) (u .end))
+        → lowestOf test (faulty (methodsOf text) i (s .blocks) (eventsFrom m b (tokensAt text at)))
         ≡ lowerOf (placeIf fault (t .start)) rest-lowest
     unfolding rest-lowest after name
     lowest-split fault e =
         let us = tokensAt text (t .end) in
         let es = eventsFrom (modeAfter m b (t .kind)) (bracesAfter b (t .kind)) us in
-        let later = allFaults (methodsOf text) (indexAfter r i) (blocksAfter r name (s .blocks)) es in
-        ap (λ fs. lowest (allFaults (methodsOf text) i (s .blocks) fs)) events-split
-        ∙ ap lowest (fault-step (methodsOf text) i (s .blocks) name count us es r)
-        ∙ ap (λ (c : Bool). lowest (unless (not c) name ++ later)) (same-fault r ∙ sym e)
-        ∙ place-lowest fault name later
+        let later = faulty (methodsOf text) (indexAfter r i) (blocksAfter r name (s .blocks)) es in
+        ap (λ fs. lowestOf test (faulty (methodsOf text) i (s .blocks) fs)) events-split
+        ∙ ap (lowestOf test) (faulty-step (methodsOf text) i (s .blocks) name count us es r)
+        ∙ lowest-one test (faultAt (methodsOf text) i (s .blocks) r name count) name later
+        ∙ ap (λ (c : Bool). lowerOf (placeIf c (t .start)) (lowestOf test later))
+        (ap (_&&_ (test (slice (t .start) (t .end) text))) (same-fault r) ∙ sym e)
+
+    -- a name of another class is no fault in this pass
+    masked : (mine : Bool) (j : ℕ)
+        → faultHere text from b i (cond mine j 0) (t .start) (t .end) (u .end)
+        ≡ (mine && faultHere text from b i j (t .start) (t .end) (u .end))
+    unfolding faultHere
+    masked true j = refl
+    masked false j = refl
 
     -- a name is looked up in the entries
-    pub scan-knows : Knows text words n from (t .start) (t .end)
+    scan-knows : test (slice (t .start) (t .end) text) ≡ true → Knows text words n from (t .start) (t .end)
     unfolding isKnownAt
-    scan-knows least l =
+    scan-knows e least l =
         let x = slice (t .start) (t .end) text in
-        ap (isOpen least x) (s .opens l) ∙ open-found least x (s .blocks) ∙ sym (ap (ltb 0) (known least x))
+        ap (isOpen least x) (s .opens l) ∙ open-found test least x e (s .blocks) ∙ sym (ap (ltb 0) (known least x))
+
+    asked-knows : (mine : Bool) (j asked : ℕ) → mine ≡ test (slice (t .start) (t .end) text) → asked ≡ cond mine j 0
+        → eqb asked 0 ≡ false → Knows text words n from (t .start) (t .end)
+    asked-knows true j asked e a o = scan-knows (sym e)
+    asked-knows false j asked e a o = never (sym o ∙ eq-eqb asked 0 a)
 
     -- the entries after the token
-    opens-after : (words′ : List ℕ) (n′ r′ : ℕ) → r′ ≡ r
-        → Turns (λ text ds. openAfter b r′ (slice (t .start) (t .end) text) ds) words n words′ n′ → n′ ≤ 1024
-        → openOf text words′ n′ ≡ declaredIn after
+    opens-after : (words′ : List ℕ) (n′ entered : ℕ)
+        → entered ≡ cond (eqb r 2 && not (test (slice (t .start) (t .end) text))) 0 r
+        → Turns (λ text ds. openAfter b entered (slice (t .start) (t .end) text) ds) words n words′ n′ → n′ ≤ 1024
+        → openOf text words′ n′ ≡ declaredIn test after
     unfolding after r name
-    opens-after words′ n′ r′ e o l =
-        o .1 text (declaredIn (s .blocks)) (s .opens) l
-        ∙ ap (λ (j : ℕ). openAfter b j (slice (t .start) (t .end) text) (declaredIn (s .blocks))) e
-        ∙ open-after b name (s .blocks) (s .level) r
+    opens-after words′ n′ entered e o l =
+        o .1 text (declaredIn test (s .blocks)) (s .opens) l
+        ∙ ap (λ (j : ℕ). openAfter b j (slice (t .start) (t .end) text) (declaredIn test (s .blocks))) e
+        ∙ open-after test b name (s .blocks) (s .level) r
         (closes-level m b (t .kind) (u .kind) (s .blocks) (s .level))
 
-    pub scan-goes : (words′ : List ℕ) (r′ : ℕ) (fault : Bool) (low′ n′ from′ i′ m′ b′ : ℕ)
+    pub scan-goes : (words′ : List ℕ) (r′ : ℕ) (mine : Bool) (asked : ℕ) (fault : Bool)
+        (entered low′ n′ from′ i′ m′ b′ : ℕ) (fits : Bool) (k′ : ℕ)
         → r′ ≡ role m b (t .kind) (u .kind)
-        → (Knows text words n from (t .start) (t .end)
-        → fault ≡ faultHere text from b i r′ (t .start) (t .end) (u .end))
+        → mine ≡ test (slice (t .start) (t .end) text)
+        → asked ≡ cond mine r′ 0
+        → ((eqb asked 0 ≡ false → Knows text words n from (t .start) (t .end))
+        → fault ≡ faultHere text from b i asked (t .start) (t .end) (u .end))
+        → entered ≡ cond (eqb r′ 2 && not mine) 0 r′
         → length words′ ≡ length words
-        → Turns (λ text ds. openAfter b r′ (slice (t .start) (t .end) text) ds) words n words′ n′
+        → Turns (λ text ds. openAfter b entered (slice (t .start) (t .end) text) ds) words n words′ n′
         → placeIf (found || fault) low′ ≡ lowerOf (placeIf found low) (placeIf fault (t .start))
         → from′ ≡ cond (eqb r′ 1) (t .end) from → i′ ≡ indexAfter r′ i → m′ ≡ modeAfter m b (t .kind)
-        → b′ ≡ bracesAfter b (t .kind)
-        → ScanSoFar text words′ (t .end) m′ b′ from′ i′ n′ (found || fault) low′ (u .kind)
+        → b′ ≡ bracesAfter b (t .kind) → fits ≡ fitsIn all n′ → k′ ≡ cond fits (u .kind) 32
+        → ScanSoFar test all text words′ (t .end) m′ b′ from′ i′ n′ (found || fault) low′ k′
     unfolding r rest-lowest
-    scan-goes words′ r′ fault low′ n′ from′ i′ m′ b′ rr ff kept turns ll oo ii mm bb =
+    scan-goes words′ r′ mine asked fault entered low′ n′ from′ i′ m′ b′ fits k′ rr tt aa ff nn kept turns ll oo ii mm bb
+        hh kk =
         let us = tokensAt text (t .end) in
         let onward : at < t .end = scan-passes .onward in
         let low-braces : b ≤ at = s .braces-low in
@@ -423,13 +446,24 @@ module _ (text words : List ℕ) (at m b from i n : ℕ) (found : Bool) (low k :
         let low-index : i ≤ at = s .index-low in
         let most-index : indexAfter r i ≤ i + 1 = index-most in
         let index : i′ ≡ indexAfter r i = ii ∙ ap (λ (j : ℕ). indexAfter j i) rr in
-        let here = ff scan-knows ∙ ap (λ (j : ℕ). faultHere text from b i j (t .start) (t .end) (u .end)) rr in
+        let here =
+        ff (asked-knows mine r′ asked tt aa)
+        ∙ ap (λ (j : ℕ). faultHere text from b i j (t .start) (t .end) (u .end)) aa
+        ∙ masked mine r′
+        ∙ ap (λ (c : Bool). c && faultHere text from b i r′ (t .start) (t .end) (u .end)) tt
+        ∙ ap (λ (j : ℕ). test (slice (t .start) (t .end) text)
+        && faultHere text from b i j (t .start) (t .end) (u .end)) rr in
         record {
           blocks = after;
           room = kept ∙ s .room;
           count-low = turns .0;
-          opens = opens-after words′ n′ r′ rr turns;
-          kind-is = sym (kind-next text (t .end) u p);
+          opens =
+              opens-after words′ n′ entered
+              (nn ∙ ap (λ (c : Bool). cond (eqb r′ 2 && not c) 0 r′) tt
+              ∙ ap (λ (j : ℕ). cond (eqb j 2 && not (test (slice (t .start) (t .end) text))) 0 j) rr) turns;
+          kind-is =
+              kk ∙ ap (λ (c : Bool). cond c (u .kind) 32) hh
+              ∙ ap (λ (j : ℕ). cond (fitsIn all n′) j 32) (sym (kind-next text (t .end) u p));
           braces-low = omega arith;
           index-low = omega arith;
           level = level-after ∙ ap levelOf (sym bb);
@@ -441,10 +475,10 @@ module _ (text words : List ℕ) (at m b from i n : ℕ) (found : Bool) (low k :
               s .lowest-is ∙ ap (lowerOf (placeIf found low)) (lowest-split fault here)
               ∙ sym (lower-assoc (placeIf found low) (placeIf fault (t .start)) rest-lowest)
               ∙ ap (λ o. lowerOf o rest-lowest) (sym ll)
-              ∙ ap (λ (j : ℕ). lowerOf (placeIf (found || fault) low′) (lowest (allFaults (methodsOf text) j after
+              ∙ ap (λ (j : ℕ). lowerOf (placeIf (found || fault) low′) (lowestOf test (faulty (methodsOf text) j after
               (eventsFrom (modeAfter m b (t .kind)) (bracesAfter b (t .kind)) us)))) (sym index)
-              ∙ ap (λ (j : ℕ). lowerOf (placeIf (found || fault) low′) (lowest (allFaults (methodsOf text) i′ after
+              ∙ ap (λ (j : ℕ). lowerOf (placeIf (found || fault) low′) (lowestOf test (faulty (methodsOf text) i′ after
               (eventsFrom j (bracesAfter b (t .kind)) us)))) (sym mm)
-              ∙ ap (λ (j : ℕ). lowerOf (placeIf (found || fault) low′) (lowest (allFaults (methodsOf text) i′ after
+              ∙ ap (λ (j : ℕ). lowerOf (placeIf (found || fault) low′) (lowestOf test (faulty (methodsOf text) i′ after
               (eventsFrom m′ j us)))) (sym bb);
         }

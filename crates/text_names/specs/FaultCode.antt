@@ -17,7 +17,7 @@ use Rattle.text_scan.specs.ScanCode.{argumentCount, eventsFrom}
 use Rattle.text_scan.specs.FaultsCode.{Entry, callable, invocable}
 use Rattle.text_methods.specs.RowsCode.{Row, rowsOf, rowOf, rowIndex}
 use Rattle.text_names.specs.FoundCode.{levelOf, foundUpTo}
-use Rattle.text_names.specs.FaultsCode.{allFaults}
+use Rattle.text_names.specs.FaultsCode.{allFaults, faulty, lowestOf}
 
 abbrev pub rowCount : Option Row → Option ℕ
 rowCount none = none
@@ -58,6 +58,10 @@ faultHere text from braces i r start end after =
 -- the lowest of all faults but a missing main
 unfoldable pub lowestFault : List ℕ → Option ℕ
 lowestFault text = lowest (allFaults (methodsOf text) 0 ([] ∷ []) (eventsFrom 0 0 (tokensAt text 0)))
+
+-- the same of the names whose bytes pass a test
+unfoldable pub lowestIn : (List ℕ → Bool) → List ℕ → Option ℕ
+lowestIn test text = lowestOf test (faulty (methodsOf text) 0 ([] ∷ []) (eventsFrom 0 0 (tokensAt text 0)))
 
 -- what is answered in a text of the grammar
 abbrev pub Refuses : List ℕ → Option ℕ → Type 0

@@ -25,6 +25,21 @@ allFaults all i bs (opened ∷ es) = allFaults all i ([] ∷ bs) es
 allFaults all i bs (closed ∷ es) = allFaults all i (withoutBlock bs) es
 allFaults all i bs (ended us ∷ es) = allFaults all i (withoutBlock bs) es
 
+-- the names at fault, one by one
+abbrev pub nameIf : Bool → Name → List Name
+nameIf fault x = cond fault (x ∷ []) []
+
+unfoldable pub faulty : List Entry → ℕ → Blocks → List Event → List Name
+faulty all i bs [] = []
+faulty all i bs (methodNamed x n ∷ es) = nameIf (ltb (indexIn all x) i) x ++ faulty all (suc i) ([] ∷ []) es
+faulty all i bs (declared x ∷ es) = nameIf (declaredAmong (innermost bs) x) x ++ faulty all i (withName x bs) es
+faulty all i bs (used x ∷ es) = nameIf (not (declaredAmong (namesIn bs) x)) x ++ faulty all i bs es
+faulty all i bs (called x n ∷ es) = nameIf (not (callable n (countOf all x))) x ++ faulty all i bs es
+faulty all i bs (invoked x n ∷ es) = nameIf (not (invocable x n (countOf all x))) x ++ faulty all i bs es
+faulty all i bs (opened ∷ es) = faulty all i ([] ∷ bs) es
+faulty all i bs (closed ∷ es) = faulty all i (withoutBlock bs) es
+faulty all i bs (ended us ∷ es) = faulty all i (withoutBlock bs) es
+
 -- whether the name x is at fault, where it has the role r and n arguments follow it
 unfoldable pub faultAt : List Entry → ℕ → Blocks → ℕ → Name → ℕ → Bool
 faultAt all i bs r x n =
@@ -44,3 +59,8 @@ lowerOf (some i) o = some (lower i o)
 
 abbrev pub placeIf : Bool → ℕ → Option ℕ
 placeIf found at = cond found (some at) none
+
+-- the lowest place of the names whose bytes pass a test
+unfoldable pub lowestOf : (List ℕ → Bool) → List Name → Option ℕ
+lowestOf test [] = none
+lowestOf test (x ∷ xs) = lowerOf (placeIf (test (x .spelling)) (x .at)) (lowestOf test xs)

@@ -5,7 +5,7 @@
 use Prim.Native.Nat.{ℕ, zero, suc, _+_, _*_, _≤_}
 use mathlib.Core.Path.{_≡_}
 use mathlib.Core.Bool.{Bool, cond, _&&_, _||_}
-use mathlib.Core.List.{List, [], _∷_, _++_, map}
+use mathlib.Core.List.{List, [], _∷_, _++_}
 use lib.Dec.{eqb, leb}
 use lib.ListN.{length, getD}
 use lib.Seq.{slice}
@@ -51,11 +51,15 @@ openAfter braces r x ds =
     (cond (eqb r 2) (record { level = levelOf braces; bytes = x } ∷ ds)
     (cond (eqb r 7 || eqb r 8) (leaving braces ds) ds))
 
--- the names of blocks with their levels
-unfoldable pub declaredIn : Blocks → List Declared
-declaredIn [] = []
-declaredIn (b ∷ bs) =
-    map (λ (y : Name). record { level = suc (length bs); bytes = y .spelling }) b ++ declaredIn bs
+-- the names of blocks with their levels, those whose bytes pass a test
+unfoldable pub namesAt : (List ℕ → Bool) → ℕ → List Name → List Declared
+namesAt test l [] = []
+namesAt test l (y ∷ b) =
+    cond (test (y .spelling)) (record { level = l; bytes = y .spelling } ∷ namesAt test l b) (namesAt test l b)
+
+unfoldable pub declaredIn : (List ℕ → Bool) → Blocks → List Declared
+declaredIn test [] = []
+declaredIn test (b ∷ bs) = namesAt test (suc (length bs)) b ++ declaredIn test bs
 
 -- Of n entries of a slice come m of another: where those stand for some names these stand for the names after a token,
 -- as long as they fit.

@@ -129,7 +129,7 @@ pub fn fault_here(
     after: usize,
 ) -> bool
     requires { ⌜ (start ≤ end) × (end ≤ length (now text)) ⌝ }
-    ensures { λ b. ⌜ (Knows (now (text .entry)) (now (words .entry)) n from start end
+    ensures { λ b. ⌜ ((eqb r 0 ≡ false → Knows (now (text .entry)) (now (words .entry)) n from start end)
         → b ≡ faultHere (now (text .entry)) from braces i r start end after) ⌝ }
 {
     if r == 1 {

@@ -1,12 +1,18 @@
 // The lowest place at which a name is at fault.
 ghost use mathlib.Core.Path.{_≡_};
-ghost use mathlib.Core.Bool.{cond, _||_};
+ghost use mathlib.Core.Bool.{true, false, cond, _||_};
 ghost use Prim.Native.Nat.{_^_, _<_};
 ghost use lib.Dec.{eqb};
 ghost use lib.ListN.{length};
 ghost use Rattle.text_names.specs.FaultsCode.{indexAfter, lowerOf, placeIf};
-ghost use Rattle.text_names.specs.FaultCode.{lowestFault, Refuses};
+ghost use Rattle.text_names.specs.FaultCode.{lowestFault, lowestIn, Refuses};
+ghost use Rattle.text_names.specs.ClassCode.{inClass};
 ghost use Rattle.text_names.specs.Answer.{faultIn};
+use crate::class::declared_if;
+use crate::class::in_class;
+use crate::class::keeps;
+use crate::class::kind_if;
+use crate::class::role_if;
 use crate::fault::fault_here;
 use crate::open::open_after;
 use crate::scan::mode_after;
@@ -21,6 +27,13 @@ use text_types::place::next_kind;
 pub struct LowestAt {
     pub found: bool,
     pub at: usize,
+}
+
+// What a pass has found, if it could keep the names.
+struct PassAt {
+    known: bool,
+    found: bool,
+    at: usize,
 }
 
 pub enum NameFault {
@@ -64,10 +77,11 @@ fn index_after(r: u8, i: usize) -> usize
     i
 }
 
-// Of all faults but a missing main, with room for the names that are declared.
-fn lowest_in(text: &[u8], words: &mut [usize]) -> LowestAt
+// A pass over the names, all of them or those of a class, but for a missing main.
+fn lowest_in(text: &[u8], words: &mut [usize], all: bool, class: usize) -> PassAt
     requires { ⌜ length (now words) ≡ 3072 ⌝ }
-    ensures { λ r. ⌜ placeIf (r .found) (r .at) ≡ lowestFault (now (text .entry)) ⌝ }
+    ensures { λ r. ⌜ (r .known ≡ true → placeIf (r .found) (r .at) ≡ lowestIn (inClass all class) (now (text .entry)))
+        × (all ≡ false → r .known ≡ true) ⌝ }
 {
     let mut at = 0;
     let mut mode = 0;
@@ -82,6 +96,8 @@ fn lowest_in(text: &[u8], words: &mut [usize]) -> LowestAt
         let t = next_token(text, at);
         let u = next_token(text, t.end);
         let r = role(mode, braces, t.kind, u.kind);
+        let mine = in_class(text, t.start, t.end, all, class);
+        let asked = role_if(mine, r);
         let fault = fault_here(
             text,
             words,
@@ -89,20 +105,41 @@ fn lowest_in(text: &[u8], words: &mut [usize]) -> LowestAt
             from,
             braces,
             index,
-            r,
+            asked,
             t.start,
             t.end,
             u.end,
         );
         low = lower_place(found, low, fault, t.start);
         found = found | fault;
-        n = open_after(words, n, braces, r, t.start, t.end);
+        n = open_after(words, n, braces, declared_if(mine, r), t.start, t.end);
         from = from_after(r, from, t.end);
         index = index_after(r, index);
         mode = mode_after(mode, braces, t.kind);
         braces = braces_after(braces, t.kind);
         at = t.end;
-        kind = u.kind;
+        kind = kind_if(keeps(all, n), u.kind);
+    }
+    PassAt {
+        known: keeps(all, n),
+        found: found,
+        at: low,
+    }
+}
+
+// One pass for each class.
+fn lowest_by_classes(text: &[u8], words: &mut [usize]) -> LowestAt
+    requires { ⌜ length (now words) ≡ 3072 ⌝ }
+    ensures { λ r. ⌜ placeIf (r .found) (r .at) ≡ lowestFault (now (text .entry)) ⌝ }
+{
+    let mut class = 0;
+    let mut found = false;
+    let mut low = 0;
+    while class < 251 {
+        let p = lowest_in(text, words, false, class);
+        low = lower_place(found, low, p.found, p.at);
+        found = found | p.found;
+        class += 1;
     }
     LowestAt {
         found: found,
@@ -110,11 +147,26 @@ fn lowest_in(text: &[u8], words: &mut [usize]) -> LowestAt
     }
 }
 
+fn lowest_with(text: &[u8], words: &mut [usize]) -> LowestAt
+    requires { ⌜ length (now words) ≡ 3072 ⌝ }
+    ensures { λ r. ⌜ placeIf (r .found) (r .at) ≡ lowestFault (now (text .entry)) ⌝ }
+{
+    let once = lowest_in(text, words, true, 0);
+    if once.known {
+        return LowestAt {
+            found: once.found,
+            at: once.at,
+        };
+    }
+    lowest_by_classes(text, words)
+}
+
+// Of all faults but a missing main.
 fn lowest_fault(text: &[u8]) -> LowestAt
     ensures { λ r. ⌜ placeIf (r .found) (r .at) ≡ lowestFault (now (text .entry)) ⌝ }
 {
     let mut words = [0usize; 3072];
-    lowest_in(text, &mut words)
+    lowest_with(text, &mut words)
 }
 
 fn answer(found: bool, at: usize) -> NameFault

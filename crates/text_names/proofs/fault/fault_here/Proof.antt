@@ -3,6 +3,7 @@ use mathlib.Core.Path.{refl, ap, _∙_}
 use borrow.Author.Tests.{eq-eqb, ne-eqb}
 use Prim.Native.Nat.{ℕ}
 use mathlib.Core.Bool.{not}
+use lib.Dec.{eqb}
 use Rattle.text_names.specs.FaultCode.{isKnownAt, faultHere}
 use borrow.Author.Needs.{needs}
 use Rattle.text_names.proofs.fault.fault_here.Statement.{statement}
@@ -33,7 +34,7 @@ returns-2 c =
     let c6 = c3 .before .before .before in
     let g = c6 .args in
     λ h. rw (ne-eqb (g .r) 1 (c3 .if1 .left), eq-eqb (g .r) 2 (c2 .if2 .taken))
-    (c .is-known .ensures h
+    (c .is-known .ensures (h (ap (λ (j : ℕ). eqb j 0) (c2 .if2 .taken)))
     ∙ ap (λ (k : ℕ). isKnownAt (g .text .now) (g .from) k (g .start) (g .end)) (c1 .level-of .ensures))
 
 is-known-requires-2 : tie.Need-is-known-requires-2
@@ -48,7 +49,7 @@ returns-3 c =
     let c6 = c3 .before .before .before in
     let g = c6 .args in
     λ h. rw (ne-eqb (g .r) 1 (c3 .if1 .left), ne-eqb (g .r) 2 (c2 .if2 .left), eq-eqb (g .r) 3 (c1 .if3 .taken))
-    (ap not (c .is-known2 .ensures h))
+    (ap not (c .is-known2 .ensures (h (ap (λ (j : ℕ). eqb j 0) (c1 .if3 .taken)))))
 
 is-call-requires : tie.Need-is-call-requires
 is-call-requires c κs = search needs

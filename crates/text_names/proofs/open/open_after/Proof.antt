@@ -1,12 +1,12 @@
 -- `open_after` by the role.
-use mathlib.Core.Path.{_≡_, refl, sym, ap, _∙_}
-use mathlib.Core.List.{List, _∷_}
-use Prim.Native.Nat.{ℕ, _≤_}
+use mathlib.Core.Path.{ap, _∙_}
+use mathlib.Core.List.{_∷_}
+use Prim.Native.Nat.{ℕ}
 use native.Mathlib.Omega.{arith}
 use lib.Seq.{slice}
 use borrow.Author.Tests.{eq-eqb, ne-eqb}
 use borrow.Author.Needs.{needs}
-use Rattle.text_names.specs.OpenCode.{Declared, openAfter}
+use Rattle.text_names.specs.OpenCode.{openAfter}
 use Rattle.text_names.proofs.OpenLaws.{none-open}
 use Rattle.text_names.proofs.open.open_after.Statement.{statement}
 use Rattle.text_names.proofs.open.open_after.Tie as tie
