@@ -1,7 +1,7 @@
 -- `lowest_by_classes`: the lowest fault of the classes that are passed.
 use native.Mathlib.Omega.{arith}
 use mathlib.Core.Path.{_≡_, refl, sym, _∙_}
-use Prim.Native.Nat.{_-_, _≤_, _<_}
+use Prim.Native.Nat.{_-_, _≤_}
 use borrow.Author.Needs.{needs}
 use lib.ListN.{length}
 use Rattle.text_names.specs.FaultsCode.{placeIf}
@@ -31,14 +31,14 @@ add-class : tie.Need-add-class Inv-loop μ-loop
 add-class c =
     let c6 = c .before .before .before .before .before .before in
     let c7 = c6 .before in
-    let few : c7 .loop .class < 251 = c6 .loop-test .taken in
+    let few = c6 .loop-test .taken in
     omega arith
 
 loop-less : tie.Need-loop-less Inv-loop μ-loop
 loop-less c =
     let c6 = c .before .before .before .before .before .before in
     let c7 = c6 .before in
-    let few : c7 .loop .class < 251 = c6 .loop-test .taken in
+    let few = c6 .loop-test .taken in
     omega arith
 
 loop-again : tie.Need-loop-again Inv-loop μ-loop
@@ -48,7 +48,7 @@ loop-again c =
     let c6 = c4 .before .before in
     let c7 = c6 .before in
     let c10 = c7 .before .before .before in
-    let few : c7 .loop .class < 251 = c6 .loop-test .taken in
+    let few = c6 .loop-test .taken in
     let l = c7 .loop in
     let here = c4 .lowest-in in (
       here .kept .1 .0 ∙ l .inv .0,
@@ -70,8 +70,8 @@ returns c =
     let c1 = c .before in
     let c4 = c1 .before .before .before in
     let l = c1 .loop in
-    let most : l .class ≤ 251 = l .inv .1 .0 in
-    let least : 251 ≤ l .class = c .loop-test .left in
+    let most = l .inv .1 .0 in
+    let least = c .loop-test .left in
     l .inv .1 .1 ∙ last-class (c4 .args .text .now) (l .class) (omega arith)
 
 pub lowest-by-classes-spec : {M : Type 1} → statement M
