@@ -8,13 +8,14 @@ ghost use lib.Seq.{slice};
 ghost use Rattle.table.specs.Ops.{gateQubits};
 ghost use Rattle.text.specs.Tree.{numbered, gateNames};
 ghost use Rattle.text_methods.specs.RowsCode.{rowsOf, rowIndex};
+ghost use Rattle.text_methods.specs.IndexCode.{Indexed};
 ghost use Rattle.text_names.specs.FaultCode.{isCallAt, isInvocationAt, isKnownAt, faultHere};
 ghost use Rattle.text_names.specs.OpenCode.{Knows};
 use crate::level::found_level;
 use crate::level::level_of;
 use crate::open::is_open;
 use text_methods::arguments::count_arguments;
-use text_methods::find::find_row;
+use text_methods::index::find_indexed;
 use text_tokens::bytes::is_word;
 
 // The number of the gate of this name, 0 where it is no gate's.
@@ -62,21 +63,21 @@ fn gate_takes(g: u8, n: usize) -> bool
 }
 
 // A method has the name, and takes as many arguments as stand from `after` on.
-fn is_call(text: &[u8], start: usize, end: usize, after: usize) -> bool
-    requires { ⌜ (start ≤ end) × (end ≤ length (now text)) ⌝ }
+fn is_call(text: &[u8], methods: &[usize], start: usize, end: usize, after: usize) -> bool
+    requires { ⌜ Indexed (now text) (now methods) × (start ≤ end) × (end ≤ length (now text)) ⌝ }
     ensures { λ r. ⌜ r ≡ isCallAt (now (text .entry)) (slice start end (now (text .entry))) after ⌝ }
 {
-    let m = find_row(text, &text[start..end]);
+    let m = find_indexed(text, methods, start, end);
     let n = count_arguments(text, after);
     m.found & (n == m.params)
 }
 
 // The same; where no method has the name, a gate does.
-fn is_invocation(text: &[u8], start: usize, end: usize, after: usize) -> bool
-    requires { ⌜ (start ≤ end) × (end ≤ length (now text)) ⌝ }
+fn is_invocation(text: &[u8], methods: &[usize], start: usize, end: usize, after: usize) -> bool
+    requires { ⌜ Indexed (now text) (now methods) × (start ≤ end) × (end ≤ length (now text)) ⌝ }
     ensures { λ r. ⌜ r ≡ isInvocationAt (now (text .entry)) (slice start end (now (text .entry))) after ⌝ }
 {
-    let m = find_row(text, &text[start..end]);
+    let m = find_indexed(text, methods, start, end);
     let n = count_arguments(text, after);
     if m.found {
         return n == m.params;
@@ -86,11 +87,11 @@ fn is_invocation(text: &[u8], start: usize, end: usize, after: usize) -> bool
 }
 
 // An earlier method has the name, i methods being passed.
-fn is_repeated(text: &[u8], start: usize, end: usize, i: usize) -> bool
-    requires { ⌜ (start ≤ end) × (end ≤ length (now text)) ⌝ }
+fn is_repeated(text: &[u8], methods: &[usize], start: usize, end: usize, i: usize) -> bool
+    requires { ⌜ Indexed (now text) (now methods) × (start ≤ end) × (end ≤ length (now text)) ⌝ }
     ensures { λ r. ⌜ r ≡ ltb (rowIndex (slice start end (now (text .entry))) (rowsOf (now (text .entry)))) i ⌝ }
 {
-    let m = find_row(text, &text[start..end]);
+    let m = find_indexed(text, methods, start, end);
     m.index < i
 }
 
@@ -118,6 +119,7 @@ fn is_known(
 // The name from start up to end, of role r, with a bracket up to `after` after it.
 pub fn fault_here(
     text: &[u8],
+    methods: &[usize],
     words: &[usize],
     n: usize,
     from: usize,
@@ -128,12 +130,12 @@ pub fn fault_here(
     end: usize,
     after: usize,
 ) -> bool
-    requires { ⌜ (start ≤ end) × (end ≤ length (now text)) ⌝ }
+    requires { ⌜ Indexed (now text) (now methods) × (start ≤ end) × (end ≤ length (now text)) ⌝ }
     ensures { λ b. ⌜ ((eqb r 0 ≡ false → Knows (now (text .entry)) (now (words .entry)) n from start end)
         → b ≡ faultHere (now (text .entry)) from braces i r start end after) ⌝ }
 {
     if r == 1 {
-        return is_repeated(text, start, end, i);
+        return is_repeated(text, methods, start, end, i);
     }
     if r == 2 {
         let level = level_of(braces);
@@ -144,11 +146,11 @@ pub fn fault_here(
         return !known;
     }
     if r == 4 {
-        let call = is_call(text, start, end, after);
+        let call = is_call(text, methods, start, end, after);
         return !call;
     }
     if r == 5 {
-        let invocation = is_invocation(text, start, end, after);
+        let invocation = is_invocation(text, methods, start, end, after);
         return !invocation;
     }
     false

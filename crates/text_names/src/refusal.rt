@@ -4,6 +4,7 @@ ghost use mathlib.Core.Bool.{true, false, cond, _||_};
 ghost use Prim.Native.Nat.{_^_, _<_};
 ghost use lib.Dec.{eqb};
 ghost use lib.ListN.{length};
+ghost use Rattle.text_methods.specs.IndexCode.{Indexed};
 ghost use Rattle.text_names.specs.FaultsCode.{indexAfter, lowerOf, placeIf};
 ghost use Rattle.text_names.specs.FaultCode.{lowestFault, lowestIn, Refuses};
 ghost use Rattle.text_names.specs.ClassCode.{inClass};
@@ -78,8 +79,8 @@ fn index_after(r: u8, i: usize) -> usize
 }
 
 // A pass over the names, all of them or those of a class, but for a missing main.
-fn lowest_in(text: &[u8], words: &mut [usize], all: bool, class: usize) -> PassAt
-    requires { ⌜ length (now words) ≡ 3072 ⌝ }
+fn lowest_in(text: &[u8], methods: &[usize], words: &mut [usize], all: bool, class: usize) -> PassAt
+    requires { ⌜ (length (now words) ≡ 3072) × Indexed (now text) (now methods) ⌝ }
     ensures { λ r. ⌜ (r .known ≡ true → placeIf (r .found) (r .at) ≡ lowestIn (inClass all class) (now (text .entry)))
         × (all ≡ false → r .known ≡ true) ⌝ }
 {
@@ -100,6 +101,7 @@ fn lowest_in(text: &[u8], words: &mut [usize], all: bool, class: usize) -> PassA
         let asked = role_if(mine, r);
         let fault = fault_here(
             text,
+            methods,
             words,
             n,
             from,
@@ -128,15 +130,15 @@ fn lowest_in(text: &[u8], words: &mut [usize], all: bool, class: usize) -> PassA
 }
 
 // One pass for each class.
-fn lowest_by_classes(text: &[u8], words: &mut [usize]) -> LowestAt
-    requires { ⌜ length (now words) ≡ 3072 ⌝ }
+fn lowest_by_classes(text: &[u8], methods: &[usize], words: &mut [usize]) -> LowestAt
+    requires { ⌜ (length (now words) ≡ 3072) × Indexed (now text) (now methods) ⌝ }
     ensures { λ r. ⌜ placeIf (r .found) (r .at) ≡ lowestFault (now (text .entry)) ⌝ }
 {
     let mut class = 0;
     let mut found = false;
     let mut low = 0;
     while class < 251 {
-        let p = lowest_in(text, words, false, class);
+        let p = lowest_in(text, methods, words, false, class);
         low = lower_place(found, low, p.found, p.at);
         found = found | p.found;
         class += 1;
@@ -147,26 +149,27 @@ fn lowest_by_classes(text: &[u8], words: &mut [usize]) -> LowestAt
     }
 }
 
-fn lowest_with(text: &[u8], words: &mut [usize]) -> LowestAt
-    requires { ⌜ length (now words) ≡ 3072 ⌝ }
+fn lowest_with(text: &[u8], methods: &[usize], words: &mut [usize]) -> LowestAt
+    requires { ⌜ (length (now words) ≡ 3072) × Indexed (now text) (now methods) ⌝ }
     ensures { λ r. ⌜ placeIf (r .found) (r .at) ≡ lowestFault (now (text .entry)) ⌝ }
 {
-    let once = lowest_in(text, words, true, 0);
+    let once = lowest_in(text, methods, words, true, 0);
     if once.known {
         return LowestAt {
             found: once.found,
             at: once.at,
         };
     }
-    lowest_by_classes(text, words)
+    lowest_by_classes(text, methods, words)
 }
 
 // Of all faults but a missing main.
-fn lowest_fault(text: &[u8]) -> LowestAt
+fn lowest_fault(text: &[u8], methods: &[usize]) -> LowestAt
+    requires { ⌜ Indexed (now text) (now methods) ⌝ }
     ensures { λ r. ⌜ placeIf (r .found) (r .at) ≡ lowestFault (now (text .entry)) ⌝ }
 {
     let mut words = [0usize; 3072];
-    lowest_with(text, &mut words)
+    lowest_with(text, methods, &mut words)
 }
 
 fn answer(found: bool, at: usize) -> NameFault
@@ -179,11 +182,13 @@ fn answer(found: bool, at: usize) -> NameFault
 }
 
 // "31 when a name is undeclared, declared twice in one block or twice as a method, or called with a wrong argument
-// count", at its lowest place; "a missing main is 31 at the text's end". The text is in the grammar.
-pub fn name_fault(text: &[u8]) -> NameFault
+// count", at its lowest place; "a missing main is 31 at the text's end". The text is in the grammar, and its methods
+// stand in the index.
+pub fn name_fault(text: &[u8], methods: &[usize]) -> NameFault
+    requires { ⌜ Indexed (now text) (now methods) ⌝ }
     ensures { λ r. ⌜ Refuses (now (text .entry)) (faultIn r) ⌝ }
 {
-    let lowest = lowest_fault(text);
+    let lowest = lowest_fault(text, methods);
     let main = find_row(text, b"main");
     if main.found {
         return answer(lowest.found, lowest.at);

@@ -16,7 +16,7 @@ returns : tie.Need-returns
 unfolding faultHere
 returns c =
     let c1 = c .before in
-    let c4 = c1 .before .before .before in
+    let c4 = c1 .before .before .before .before in
     λ h. rw (eq-eqb (c4 .args .r) 1 (c1 .if1 .taken)) (c .is-repeated .ensures)
 
 level-of-requires : tie.Need-level-of-requires
@@ -31,7 +31,7 @@ returns-2 c =
     let c1 = c .before in
     let c2 = c1 .before in
     let c3 = c2 .before in
-    let c6 = c3 .before .before .before in
+    let c6 = c3 .before .before .before .before in
     let g = c6 .args in
     λ h. rw (ne-eqb (g .r) 1 (c3 .if1 .left), eq-eqb (g .r) 2 (c2 .if2 .taken))
     (c .is-known .ensures (h (ap (λ (j : ℕ). eqb j 0) (c2 .if2 .taken)))
@@ -46,7 +46,7 @@ returns-3 c =
     let c1 = c .before in
     let c2 = c1 .before in
     let c3 = c2 .before in
-    let c6 = c3 .before .before .before in
+    let c6 = c3 .before .before .before .before in
     let g = c6 .args in
     λ h. rw (ne-eqb (g .r) 1 (c3 .if1 .left), ne-eqb (g .r) 2 (c2 .if2 .left), eq-eqb (g .r) 3 (c1 .if3 .taken))
     (ap not (c .is-known2 .ensures (h (ap (λ (j : ℕ). eqb j 0) (c1 .if3 .taken)))))
@@ -61,7 +61,7 @@ returns-4 c =
     let c2 = c1 .before in
     let c3 = c2 .before in
     let c4 = c3 .before in
-    let c7 = c4 .before .before .before in
+    let c7 = c4 .before .before .before .before in
     let g = c7 .args in
     λ h. rw (
       ne-eqb (g .r) 1 (c4 .if1 .left),
@@ -81,7 +81,7 @@ returns-5 c =
     let c3 = c2 .before in
     let c4 = c3 .before in
     let c5 = c4 .before in
-    let c8 = c5 .before .before .before in
+    let c8 = c5 .before .before .before .before in
     let g = c8 .args in
     λ h. rw (
       ne-eqb (g .r) 1 (c5 .if1 .left),
@@ -98,7 +98,7 @@ returns-6 c =
     let c2 = c1 .before in
     let c3 = c2 .before in
     let c4 = c3 .before in
-    let c7 = c4 .before .before .before in
+    let c7 = c4 .before .before .before .before in
     let g = c7 .args in
     λ h. rw (
       ne-eqb (g .r) 1 (c4 .if1 .left),

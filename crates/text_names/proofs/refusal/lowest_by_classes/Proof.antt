@@ -12,17 +12,19 @@ use Rattle.text_names.proofs.refusal.lowest_by_classes.Statement.{state
 use Rattle.text_names.proofs.refusal.lowest_by_classes.Tie as tie
 
 abbrev Inv-loop : tie.InvT-loop
-Inv-loop text words₀ class₀ found₀ low₀ words class found low =
+Inv-loop text methods words₀ class₀ found₀ low₀ words class found low =
     (length words ≡ 3072) × ((class ≤ 251) × (placeIf found low ≡ lowestIn (inPast class) text))
 
 abbrev μ-loop : tie.MeasureT-loop
-μ-loop text words₀ class₀ found₀ low₀ words class found low = 251 - class
+μ-loop text methods words₀ class₀ found₀ low₀ words class found low = 251 - class
 
 loop-holds : tie.Need-loop-holds Inv-loop μ-loop
-loop-holds c = (c .before .before .pre, (omega arith, first-class (c .before .before .args .text .now)))
+loop-holds c =
+    let start = c .before .before .before in
+    (start .pre .0, (omega arith, first-class (start .args .text .now)))
 
 lowest-in-requires : tie.Need-lowest-in-requires Inv-loop μ-loop
-lowest-in-requires c κs = c .before .before .loop .inv .0
+lowest-in-requires c κs = (c .before .before .loop .inv .0, c .before .before .before .before .before .before .pre .1)
 
 lower-place-requires : tie.Need-lower-place-requires Inv-loop μ-loop
 lower-place-requires c κs = search needs
@@ -47,11 +49,11 @@ loop-again c =
     let c4 = c1 .before .before .before in
     let c6 = c4 .before .before in
     let c7 = c6 .before in
-    let c10 = c7 .before .before .before in
+    let c10 = c7 .before .before .before .before in
     let few = c6 .loop-test .taken in
     let l = c7 .loop in
     let here = c4 .lowest-in in (
-      here .kept .1 .0 ∙ l .inv .0,
+      here .kept .1 .1 .0 ∙ l .inv .0,
       (
         omega arith,
         next-class (c10 .args .text .now) (l .class) (l .found) (l .low) (here .result .found)
@@ -62,13 +64,13 @@ loop-again c =
 same-length : tie.Need-same-length Inv-loop μ-loop
 same-length c =
     let c1 = c .before in
-    let c4 = c1 .before .before .before in
-    c1 .loop .inv .0 ∙ sym (c4 .pre)
+    let c4 = c1 .before .before .before .before in
+    c1 .loop .inv .0 ∙ sym (c4 .pre .0)
 
 returns : tie.Need-returns Inv-loop μ-loop
 returns c =
     let c1 = c .before in
-    let c4 = c1 .before .before .before in
+    let c4 = c1 .before .before .before .before in
     let l = c1 .loop in
     let most = l .inv .1 .0 in
     let least = c .loop-test .left in

@@ -11,12 +11,12 @@ use Rattle.text_names.proofs.refusal.lowest_in.Statement.{statement}
 use Rattle.text_names.proofs.refusal.lowest_in.Tie as tie
 
 abbrev Inv-loop : tie.InvT-loop
-Inv-loop text words₀ all class at₀ mode₀ braces₀ from₀ index₀ n₀ found₀ low₀ kind₀ words at mode braces from index n
+Inv-loop text methods words₀ all class at₀ mode₀ braces₀ from₀ index₀ n₀ found₀ low₀ kind₀ words at mode braces from index n
     found low kind =
     ScanSoFar (inClass all class) all text words at mode braces from index n found low kind
 
 abbrev μ-loop : tie.MeasureT-loop
-μ-loop text words₀ all class at₀ mode₀ braces₀ from₀ index₀ n₀ found₀ low₀ kind₀ words at mode braces from index n
+μ-loop text methods words₀ all class at₀ mode₀ braces₀ from₀ index₀ n₀ found₀ low₀ kind₀ words at mode braces from index n
     found low kind =
     length text - at
 
@@ -25,9 +25,9 @@ next-kind-requires c κs = search needs
 
 loop-holds : tie.Need-loop-holds Inv-loop μ-loop
 loop-holds c =
-    let c3 = c .before .before .before in
+    let c3 = c .before .before .before .before in
     let g = c3 .args in
-    scan-begins (inClass (g .all) (g .class)) (g .all) (g .text .now) (g .words .now) _ (c3 .pre)
+    scan-begins (inClass (g .all) (g .class)) (g .all) (g .text .now) (g .words .now) _ (c3 .pre .0)
     (c .next-kind .ensures)
 
 next-token-requires : tie.Need-next-token-requires Inv-loop μ-loop
@@ -45,7 +45,7 @@ in-class-requires c κs =
     let c2 = c1 .before in
     let c3 = c2 .before in
     let c4 = c3 .before in
-    let c8 = c4 .before .before .before .before in
+    let c8 = c4 .before .before .before .before .before in
     let g = c8 .args in
     let text = g .text .now in
     let l = c4 .loop in
@@ -63,14 +63,14 @@ fault-here-requires c κs =
     let c5 = c4 .before in
     let c6 = c5 .before in
     let c7 = c6 .before in
-    let c11 = c7 .before .before .before .before in
+    let c11 = c7 .before .before .before .before .before in
     let g = c11 .args in
     let text = g .text .now in
     let l = c7 .loop in
     let p = scan-passes (inClass (g .all) (g .class)) (g .all) text (l .words) (l .at) (l .mode) (l .braces) (l .from)
     (l .index) (l .n) (l .found) (l .low) (l .kind) (l .inv)
     (c6 .loop-test .taken) _ _ (c5 .next-token .ensures) (c4 .next-token2 .ensures) in
-    (c5 .next-token .ensures .ends, p .within)
+    (c11 .pre .1, c5 .next-token .ensures .ends, p .within)
 
 lower-place-requires : tie.Need-lower-place-requires Inv-loop μ-loop
 lower-place-requires c κs = search needs
@@ -92,7 +92,7 @@ index-after-requires c κs =
     let c13 = c12 .before in
     let c14 = c13 .before in
     let c15 = c14 .before in
-    let c19 = c15 .before .before .before .before in
+    let c19 = c15 .before .before .before .before .before in
     let g = c19 .args in
     let text = g .text .now in
     let l = c15 .loop in
@@ -114,7 +114,7 @@ braces-after-requires c κs =
     let c15 = c14 .before in
     let c16 = c15 .before in
     let c17 = c16 .before in
-    let c21 = c17 .before .before .before .before in
+    let c21 = c17 .before .before .before .before .before in
     let g = c21 .args in
     let text = g .text .now in
     let l = c17 .loop in
@@ -139,7 +139,7 @@ loop-less c =
     let c18 = c17 .before in
     let c19 = c18 .before in
     let c20 = c19 .before in
-    let c24 = c20 .before .before .before .before in
+    let c24 = c20 .before .before .before .before .before in
     let g = c24 .args in
     let text = g .text .now in
     let l = c20 .loop in
@@ -168,7 +168,7 @@ loop-again c =
     let c18 = c17 .before in
     let c19 = c18 .before in
     let c20 = c19 .before in
-    let c24 = c20 .before .before .before .before in
+    let c24 = c20 .before .before .before .before .before in
     let g = c24 .args in
     let text = g .text .now in
     let l = c20 .loop in
@@ -186,14 +186,14 @@ keeps-requires-2 c κs = search needs
 same-length : tie.Need-same-length Inv-loop μ-loop
 same-length c =
     let c2 = c .before .before in
-    let c6 = c2 .before .before .before .before in
-    c2 .loop .inv .room ∙ sym (c6 .pre)
+    let c6 = c2 .before .before .before .before .before in
+    c2 .loop .inv .room ∙ sym (c6 .pre .0)
 
 returns : tie.Need-returns Inv-loop μ-loop
 returns c =
     let c1 = c .before in
     let c2 = c1 .before in
-    let c6 = c2 .before .before .before .before in
+    let c6 = c2 .before .before .before .before .before in
     let g = c6 .args in
     let text = g .text .now in
     let l = c2 .loop in (

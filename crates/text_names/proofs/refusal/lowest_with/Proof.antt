@@ -14,7 +14,7 @@ same-length c = search needs
 returns : tie.Need-returns
 returns c =
     let c3 = c .before .before .before in
-    let c7 = c3 .before .before .before .before in
+    let c7 = c3 .before .before .before .before .before in
     c3 .lowest-in .ensures .0 (c .if1 .taken) ∙ all-in-one (c7 .args .text .now) 0
 
 lowest-by-classes-requires : tie.Need-lowest-by-classes-requires

@@ -23,7 +23,7 @@ returns c =
     let c1 = c .before in
     let c2 = c1 .before in
     let c4 = c2 .before .before in
-    let c6 = c4 .before .before in
+    let c6 = c4 .before .before .before in
     let l = c4 .lowest-fault .result in
     main-found (c6 .args .text .now) _ _ _ (c2 .find-row .ensures .1) (c1 .if1 .taken) (l .found) (l .at)
     (c4 .lowest-fault .ensures) (c .answer .ensures)
@@ -37,7 +37,7 @@ returns-2 c =
     let c1 = c .before in
     let c2 = c1 .before in
     let c4 = c2 .before .before in
-    let c6 = c4 .before .before in
+    let c6 = c4 .before .before .before in
     let l = c4 .lowest-fault .result in
     main-missing (c6 .args .text .now) _ _ _ (c2 .find-row .ensures .1) (c1 .if1 .left) (l .found) (l .at)
     (c .lower-place .result) (c4 .lowest-fault .ensures) (c .lower-place .ensures)
