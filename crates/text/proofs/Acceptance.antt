@@ -18,7 +18,7 @@ use Rattle.text.specs.Tree.{NonVoidType, Method, Program, methodAt, main
 use Rattle.text.specs.Translation.{holeOf, closing, bodyCode, methodCode, pairWords, rowsWords, programCode, codeWords, programTable}
 use Rattle.text.specs.Limits.{codeKept}
 use Rattle.text.specs.Statement.{Translated, textTable}
-use Rattle.text.proofs.Words.{codeBefore, codeBefore-later, methods-of, instructions-of, offset-of, length-of, end-of, method-there, method-within, pairWords-length, rowsWords-length, codeWords-length}
+use Rattle.text.proofs.Words.{codeBefore, codeBefore-later, methods-of, instructions-of, offset-of, length-of, end-of, method-there, method-within, table-length}
 use Rattle.text.proofs.Passing.{passes-accepted}
 use Rattle.text.proofs.Limited.{Limited, limited-keeps, translated-limited}
 use Rattle.text.proofs.Rows.{row-kept}
@@ -80,21 +80,6 @@ module _ (ms : Program) (l : Limited ms) where
       let first = codeBefore-later ms ms 0 (l .main) (l .first) (length ms) methods-some (omega arith) in
       omega (arith, code-some ms (l .main), codeBefore-all ms ms)
 
-  -- the table's length
-  table-length : length (programTable ms) ≡ 2 + 20 * length ms + 2 * length (programCode ms ms)
-  unfolding programTable
-  table-length =
-      let rows = rowsWords ms in
-      let code = codeWords (programCode ms ms) in
-      omega (
-        arith,
-        length-append (pairWords ms 0 ms) (rows ++ code),
-        length-append rows code,
-        pairWords-length ms 0 ms,
-        rowsWords-length ms,
-        codeWords-length (programCode ms ms),
-      )
-
   -- question 1 is passed
   sizes-pass : T (sizesKept (programTable ms))
   unfolding sizesKept
@@ -108,7 +93,7 @@ module _ (ms : Program) (l : Limited ms) where
       (yes-and (leb 1 N && leb N 4096) _
       (yes-and (leb 1 N) (leb N 4096) (le→leb 1 N (omega (arith, instructions-some)))
       (le→leb N 4096 (omega (arith, l .short))))
-      (yes-eqb {a = length (programTable ms)} {b = 2 + 20 * M + 2 * N} (omega (arith, table-length))))
+      (yes-eqb {a = length (programTable ms)} {b = 2 + 20 * M + 2 * N} (omega (arith, table-length ms))))
 
   -- Question 2
 

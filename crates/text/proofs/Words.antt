@@ -58,6 +58,21 @@ unfolding codeWords
 codeWords-length [] = refl
 codeWords-length (i ∷ is) = omega (arith, codeWords-length is)
 
+-- the table's length
+pub table-length : (ms : Program) → length (programTable ms) ≡ 2 + 20 * length ms + 2 * length (programCode ms ms)
+unfolding programTable
+table-length ms =
+    let rows = rowsWords ms in
+    let code = codeWords (programCode ms ms) in
+    omega (
+      arith,
+      length-append (pairWords ms 0 ms) (rows ++ code),
+      length-append rows code,
+      pairWords-length ms 0 ms,
+      rowsWords-length ms,
+      codeWords-length (programCode ms ms),
+    )
+
 -- how many instructions the methods before method n have; `codeBefore ms ms n` is where the code of method n starts
 unfoldable pub codeBefore : Program → Program → ℕ → ℕ
 codeBefore ms [] n = 0

@@ -1,9 +1,7 @@
 // A method of a text by its name.
 ghost use mathlib.Core.Path.{_≡_};
 ghost use mathlib.Core.Bool.{cond};
-ghost use Prim.Native.Nat.{suc, _^_, _<_, _≤_};
-ghost use lib.ListN.{length};
-ghost use lib.Seq.{slice};
+ghost use Prim.Native.Nat.{suc, _^_, _<_};
 ghost use Rattle.text.specs.Tree.{ascii};
 ghost use Rattle.text_methods.specs.RowsCode.{namesMethod, endsMethod, rowsOf, rowOf, rowIndex, Agrees};
 ghost use Rattle.text_methods.specs.MethodSays.{MethodOf, MethodCount};
@@ -90,16 +88,6 @@ pub fn find_row(text: &[u8], word: &[u8]) -> MethodAt
         at: 0,
         params: 0,
     }
-}
-
-// The first method with the name that stands at start up to end, in a text of the grammar.
-pub fn find_method(text: &[u8], start: usize, end: usize) -> MethodAt
-    requires { ⌜ (start ≤ end) × (end ≤ length (now text)) ⌝ }
-    ensures { λ r. ⌜
-        MethodOf (now (text .entry)) (slice start end (now (text .entry))) (r .found) (r .index) (r .at) (r .params) ⌝ }
-{
-    let word = &text[start..end];
-    find_row(text, word)
 }
 
 // The first method called main.

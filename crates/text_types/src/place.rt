@@ -3,6 +3,7 @@ ghost use mathlib.Core.Path.{_≡_};
 ghost use lib.Dec.{eqb};
 ghost use Rattle.text_types.specs.SaysCode.{nextKind, Expected, On};
 use text_tokens::next::next_token;
+use text_tokens::reader::here;
 
 // Where ok, the text is read up to this place; else it leaves the grammar there.
 pub struct PlaceAt {
@@ -14,7 +15,7 @@ pub struct PlaceAt {
 pub fn next_kind(text: &[u8], from: usize) -> u8
     ensures { λ r. ⌜ r ≡ nextKind (now (text .entry)) from ⌝ }
 {
-    let t = next_token(text, from);
+    let t = here(text, from);
     t.kind
 }
 
