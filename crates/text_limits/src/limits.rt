@@ -8,7 +8,7 @@ ghost use Rattle.text_limits.specs.LimitsCode.{WellNamed, MethodThere};
 ghost use Rattle.text_limits.specs.MeasuresCode.{Judgement, LimitsSay};
 use crate::method::Verdict;
 use crate::method::judge_method;
-use text_methods::find::method_count;
+use text_methods::index::method_count;
 
 // A row copied among the rows, from word `at` on.
 fn put_row(rows: &mut [u16], at: usize, row: &[u16])
@@ -96,7 +96,7 @@ pub fn limits(
         → LimitsSay (w .program) (r .ok) (r .at) (r .methods) (r .instructions) (now (lengths .exit))
         (now (rows .exit))) ⌝ }
 {
-    let n = method_count(text);
+    let n = method_count(text, methods);
     let mut at = 0;
     let mut k = 0;
     let mut total = 0;

@@ -211,44 +211,11 @@ module _ (text : List ℕ) (x : Name) where
       answers ms (firstNamed x ms) (rowOf (x .spelling) (rowsOf text)) found index at params
       (first-same ms (rowsOf text) l) a refl (i ∙ index-same ms (rowsOf text) l)
 
--- No method has a name without bytes.
-has-bytes : (bs : List ℕ) → eqb (kindOf bs) 33 ≡ true → same [] bs ≡ false
-unfolding kindOf
-has-bytes [] e = sym e
-has-bytes (b ∷ bs) e = refl
+-- there are as many rows as methods
+rows-counted : (ms : Program) (rs : List Row) → RowsFor ms rs → length rs ≡ length ms
+rows-counted [] [] none-listed = refl
+rows-counted (m ∷ ms) (r ∷ rs) (listed us e c f l) = ap suc (rows-counted ms rs l)
 
-unnamed : (hs : List Token) (b : ℕ) (ts : List Token) → rowOf [] (rowsFrom hs b ts) ≡ none
-unfolding rowsFrom rowOf
-unnamed hs b [] = refl
-unnamed hs b (t ∷ ts) =
-    by (namesMethod b k (kindAt ts)) refl (unnamed (cond (endsMethod b k) ts hs) (bracesAfter b k) ts)
-  where
-    k : ℕ
-    k = kindOf (t .bytes)
-
-    after : List Row
-    after = rowsFrom (cond (endsMethod b (kindOf (t .bytes))) ts hs) (bracesAfter b (kindOf (t .bytes))) ts
-
-    by : (c : Bool) → namesMethod b (kindOf (t .bytes)) (kindAt ts) ≡ c → rowOf [] after ≡ none
-        → rowOf [] (cond c (rowFor hs (nameOf t) (argumentCount (rest ts)) ∷ after) after) ≡ none
-    by true e later =
-        let name = and-left (eqb (kindOf (t .bytes)) 33) (eqb (kindAt ts) 19)
-        (and-right (eqb b 0) (eqb (kindOf (t .bytes)) 33 && eqb (kindAt ts) 19) (passes e)) in
-        rw (has-bytes (t .bytes) (passed (eqb (kindOf (t .bytes)) 33) name)) later
-    by false e later = later
-
-not-found : (text : List ℕ) (found : Bool) (at params : ℕ) → Agrees text none found at params → found ≡ false
-not-found text found at params no-row = refl
-
-pub counts-methods : (text : List ℕ) (found : Bool) (index at params : ℕ) → index ≡ rowIndex [] (rowsOf text)
-    → Agrees text (rowOf [] (rowsOf text)) found at params
-    → (ms : Program) (us : List Token) → programOf (tokensOf text) ≡ read ms us → index ≡ length ms
-unfolding rowsOf
-counts-methods text found index at params i a ms us e =
-    by (method-says text (record { spelling = []; at = 0 }) ms us e found index at params i a)
-    (not-found text found at params
-    (subst (λ o. Agrees text o found at params) (unnamed (tokensAt text 0) 0 (tokensAt text 0)) a))
-  where
-    by : MethodSays text ms (record { spelling = []; at = 0 }) found index at params → found ≡ false → index ≡ length ms
-    by (stands m vs f g h p q) n = absurd (clash n (passes f))
-    by (absent f g h) n = h
+pub counts-methods : (text : List ℕ) (ms : Program) (us : List Token) → programOf (tokensOf text) ≡ read ms us
+    → length (rowsOf text) ≡ length ms
+counts-methods text ms us e = rows-counted ms (rowsOf text) (text-rows text ms us e)

@@ -2,9 +2,7 @@
 ghost use mathlib.Core.Path.{_≡_};
 ghost use mathlib.Core.Bool.{cond};
 ghost use Prim.Native.Nat.{suc, _^_, _<_};
-ghost use Rattle.text.specs.Tree.{ascii};
 ghost use Rattle.text_methods.specs.RowsCode.{namesMethod, endsMethod, rowsOf, rowOf, rowIndex, Agrees};
-ghost use Rattle.text_methods.specs.MethodSays.{MethodOf, MethodCount};
 use crate::arguments::count_arguments;
 use crate::braces::braces_after;
 use text_tokens::bytes::is_word;
@@ -88,20 +86,4 @@ pub fn find_row(text: &[u8], word: &[u8]) -> MethodAt
         at: 0,
         params: 0,
     }
-}
-
-// The first method called main.
-pub fn find_main(text: &[u8]) -> MethodAt
-    ensures { λ r. ⌜
-        MethodOf (now (text .entry)) (ascii "main") (r .found) (r .index) (r .at) (r .params) ⌝ }
-{
-    find_row(text, b"main")
-}
-
-// How many methods there are: none has a name without bytes.
-pub fn method_count(text: &[u8]) -> usize
-    ensures { λ r. ⌜ MethodCount (now (text .entry)) r ⌝ }
-{
-    let m = find_row(text, b"");
-    m.index
 }

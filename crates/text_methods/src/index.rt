@@ -8,10 +8,11 @@ ghost use lib.Dec.{ltb};
 ghost use lib.ListN.{length, getD};
 ghost use lib.Seq.{slice};
 ghost use Rattle.lists.specs.Lists.{same};
+ghost use Rattle.text.specs.Tree.{ascii};
 ghost use Rattle.text_tokens.specs.Places.{tokensAt};
 ghost use Rattle.text_scan.specs.ScanCode.{argumentCount};
 ghost use Rattle.text_methods.specs.RowsCode.{rowsOf, rowOf, rowIndex, Agrees};
-ghost use Rattle.text_methods.specs.MethodSays.{MethodOf};
+ghost use Rattle.text_methods.specs.MethodSays.{MethodOf, MethodCount};
 ghost use Rattle.text_methods.specs.IndexCode.{entryName, withEntry, Indexed};
 use crate::arguments::count_arguments;
 use crate::braces::braces_after;
@@ -20,7 +21,7 @@ use crate::find::add_if;
 use crate::find::find_row;
 use crate::find::header_after;
 use crate::find::names_method;
-use text_tokens::bytes::same_word;
+use text_tokens::bytes::is_word;
 use text_tokens::kinds::END;
 use text_tokens::next::TokenAt;
 use text_tokens::next::next_token;
@@ -85,13 +86,13 @@ pub fn index_methods(text: &[u8], index: &mut [usize])
     index[0] = i;
 }
 
-// The name at start up to end is that of entry i.
-fn is_entry(text: &[u8], index: &[usize], i: usize, start: usize, end: usize) -> bool
+// Entry i has this name.
+fn is_entry(text: &[u8], index: &[usize], i: usize, word: &[u8]) -> bool
     requires { ⌜ (i < 32) × (129 ≤ length (now index)) ⌝ }
     ensures { λ r. ⌜
-        r ≡ same (slice start end (now (text .entry))) (entryName (now (text .entry)) (now (index .entry)) i) ⌝ }
+        r ≡ same (entryName (now (text .entry)) (now (index .entry)) i) (now (word .entry)) ⌝ }
 {
-    same_word(text, start, end, index[4 * i + 1], index[4 * i + 2])
+    is_word(text, index[4 * i + 1], index[4 * i + 2], word)
 }
 
 fn entry_at(index: &[usize], i: usize) -> MethodAt
@@ -112,25 +113,24 @@ fn entry_at(index: &[usize], i: usize) -> MethodAt
     }
 }
 
-// The first method with the name that stands at start up to end, of any text. A text with more methods than the index
-// has entries is read again where none of these has the name.
-pub fn find_indexed(text: &[u8], index: &[usize], start: usize, end: usize) -> MethodAt
-    requires { ⌜ Indexed (now text) (now index) × (start ≤ end) × (end ≤ length (now text)) ⌝ }
+// The first method with this name, of any text: an entry of the index, or where there are more methods than entries what
+// is found in the text.
+pub fn find_word(text: &[u8], index: &[usize], word: &[u8]) -> MethodAt
+    requires { ⌜ Indexed (now text) (now index) ⌝ }
     ensures { λ r. ⌜
-        (r .index ≡ rowIndex (slice start end (now (text .entry))) (rowsOf (now (text .entry))))
-        × Agrees (now (text .entry)) (rowOf (slice start end (now (text .entry))) (rowsOf (now (text .entry))))
+        (r .index ≡ rowIndex (now (word .entry)) (rowsOf (now (text .entry))))
+        × Agrees (now (text .entry)) (rowOf (now (word .entry)) (rowsOf (now (text .entry))))
         (r .found) (r .at) (r .params) ⌝ }
 {
     let count = index[0];
     let mut i = 0;
     while (i < count) & (i < 32) {
-        if is_entry(text, index, i, start, end) {
+        if is_entry(text, index, i, word) {
             return entry_at(index, i);
         }
         i += 1;
     }
     if 32 < count {
-        let word = &text[start..end];
         return find_row(text, word);
     }
     MethodAt {
@@ -141,6 +141,18 @@ pub fn find_indexed(text: &[u8], index: &[usize], start: usize, end: usize) -> M
     }
 }
 
+// The first method with the name that stands at start up to end.
+pub fn find_indexed(text: &[u8], index: &[usize], start: usize, end: usize) -> MethodAt
+    requires { ⌜ Indexed (now text) (now index) × (start ≤ end) × (end ≤ length (now text)) ⌝ }
+    ensures { λ r. ⌜
+        (r .index ≡ rowIndex (slice start end (now (text .entry))) (rowsOf (now (text .entry))))
+        × Agrees (now (text .entry)) (rowOf (slice start end (now (text .entry))) (rowsOf (now (text .entry))))
+        (r .found) (r .at) (r .params) ⌝ }
+{
+    let word = &text[start..end];
+    find_word(text, index, word)
+}
+
 // The same in a text of the grammar.
 pub fn method_indexed(text: &[u8], index: &[usize], start: usize, end: usize) -> MethodAt
     requires { ⌜ Indexed (now text) (now index) × (start ≤ end) × (end ≤ length (now text)) ⌝ }
@@ -148,4 +160,21 @@ pub fn method_indexed(text: &[u8], index: &[usize], start: usize, end: usize) ->
         MethodOf (now (text .entry)) (slice start end (now (text .entry))) (r .found) (r .index) (r .at) (r .params) ⌝ }
 {
     find_indexed(text, index, start, end)
+}
+
+// The first method called main, in a text of the grammar.
+pub fn find_main(text: &[u8], index: &[usize]) -> MethodAt
+    requires { ⌜ Indexed (now text) (now index) ⌝ }
+    ensures { λ r. ⌜
+        MethodOf (now (text .entry)) (ascii "main") (r .found) (r .index) (r .at) (r .params) ⌝ }
+{
+    find_word(text, index, b"main")
+}
+
+// How many methods a text of the grammar has.
+pub fn method_count(text: &[u8], index: &[usize]) -> usize
+    requires { ⌜ Indexed (now text) (now index) ⌝ }
+    ensures { λ r. ⌜ MethodCount (now (text .entry)) r ⌝ }
+{
+    index[0]
 }

@@ -19,7 +19,7 @@ use crate::open::open_after;
 use crate::scan::mode_after;
 use crate::scan::role;
 use text_methods::braces::braces_after;
-use text_methods::find::find_row;
+use text_methods::index::find_word;
 use text_tokens::kinds::END;
 use text_tokens::next::next_token;
 use text_types::place::next_kind;
@@ -189,7 +189,7 @@ pub fn name_fault(text: &[u8], methods: &[usize]) -> NameFault
     ensures { λ r. ⌜ Refuses (now (text .entry)) (faultIn r) ⌝ }
 {
     let lowest = lowest_fault(text, methods);
-    let main = find_row(text, b"main");
+    let main = find_word(text, methods, b"main");
     if main.found {
         return answer(lowest.found, lowest.at);
     }

@@ -11,7 +11,7 @@ ghost use Rattle.text_put.specs.Measures.{TableText, Measures};
 ghost use Rattle.text_table.specs.WrittenCode.{headWords};
 use crate::code::put_method;
 use crate::code::put_others;
-use text_methods::find::find_main;
+use text_methods::index::find_main;
 use text_put::words::put_pair;
 use text_put::words::put_pairs;
 use text_put::words::put_rows;
@@ -55,7 +55,7 @@ pub fn write_table(
         → Measures ns methods instructions (now (lengths .entry)) (now (rows .entry))
         → (now (table .exit) ≡ putFrom (now (table .entry)) 0 (textTable ns)) × (r ≡ length (textTable ns))) ⌝ }
 {
-    let m = find_main(text);
+    let m = find_main(text, index);
     let main = m.index;
     if 32 < methods {
         return 0;

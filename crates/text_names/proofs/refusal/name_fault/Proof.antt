@@ -8,11 +8,11 @@ use Rattle.text_names.proofs.refusal.name_fault.Tie as tie
 lowest-fault-requires : tie.Need-lowest-fault-requires
 lowest-fault-requires c κs = search needs
 
-slice-aggregate-find-row : tie.Need-slice-aggregate-find-row
-slice-aggregate-find-row c = search needs
+slice-aggregate-find-word : tie.Need-slice-aggregate-find-word
+slice-aggregate-find-word c = search needs
 
-find-row-requires : tie.Need-find-row-requires
-find-row-requires c κs = search needs
+find-word-requires : tie.Need-find-word-requires
+find-word-requires c κs = search needs
 
 answer-requires : tie.Need-answer-requires
 answer-requires c κs = search needs
@@ -25,7 +25,7 @@ returns c =
     let c4 = c2 .before .before in
     let c6 = c4 .before .before .before in
     let l = c4 .lowest-fault .result in
-    main-found (c6 .args .text .now) _ _ _ (c2 .find-row .ensures .1) (c1 .if1 .taken) (l .found) (l .at)
+    main-found (c6 .args .text .now) _ _ _ (c2 .find-word .ensures .1) (c1 .if1 .taken) (l .found) (l .at)
     (c4 .lowest-fault .ensures) (c .answer .ensures)
 
 lower-place-requires : tie.Need-lower-place-requires
@@ -39,7 +39,7 @@ returns-2 c =
     let c4 = c2 .before .before in
     let c6 = c4 .before .before .before in
     let l = c4 .lowest-fault .result in
-    main-missing (c6 .args .text .now) _ _ _ (c2 .find-row .ensures .1) (c1 .if1 .left) (l .found) (l .at)
+    main-missing (c6 .args .text .now) _ _ _ (c2 .find-word .ensures .1) (c1 .if1 .left) (l .found) (l .at)
     (c .lower-place .result) (c4 .lowest-fault .ensures) (c .lower-place .ensures)
 
 pub name-fault-spec : {M : Type 1} → statement M
@@ -47,8 +47,8 @@ name-fault-spec =
     tie.close
     (tie.spec
     lowest-fault-requires
-    slice-aggregate-find-row
-    find-row-requires
+    slice-aggregate-find-word
+    find-word-requires
     answer-requires
     returns
     lower-place-requires
