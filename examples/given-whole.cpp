@@ -1,9 +1,10 @@
-// The same run from C++: a table built from methods, and the lines told apart by their kinds.
+// The same run from C++: a table built from methods, the lines by their kinds, and the same protocol from its LanQ text.
 //
 //     c++ -I include examples/given-whole.cpp target/staticlib/liblanq.a -o given-whole
 #include <cstdint>
 #include <cstdio>
 #include <stdexcept>
+#include <string>
 #include <utility>
 #include <vector>
 
@@ -62,6 +63,24 @@ Run run(const std::vector<std::uint16_t> &program, const std::vector<std::uint8_
   return run;
 }
 
+// The table of a text: first its number of words, then the words.
+std::vector<std::uint16_t> translated(const std::string &text) {
+  const auto *bytes = reinterpret_cast<const std::uint8_t *>(text.data());
+  const LanqTable asked = lanq_translate(bytes, text.size(), nullptr, 0);
+  if (asked.refused != LANQ_ACCEPTED) throw std::invalid_argument("the text is refused");
+  std::vector<std::uint16_t> words(asked.words);
+  lanq_translate(bytes, text.size(), words.data(), words.size());
+  return words;
+}
+
+const char *const text =
+    "void main() {"
+    "  qbit q; channel[qbit] c withends [mine, theirs];"
+    "  q = new qbit(); c = new channel[qbit]();"
+    "  fork child(theirs); send(mine, q); measure(StdBasis, q);"
+    "}"
+    "void child(channelEnd[qbit] e) { H(recv(e)); }";
+
 }  // namespace
 
 int main() {
@@ -98,5 +117,8 @@ int main() {
   }
   std::printf("lanq %s: end %u, %u lines\n", LANQ_VERSION, static_cast<unsigned>(done.answer.end),
               static_cast<unsigned>(done.answer.lines));
+  const Run of_text = run(translated(text), {0, 0, 0, 0, 0, 0, 0, 0, 0, 0, 0, 0, 0, 0, 1, 0, 0, 0, 1, 1, 0}, {});
+  std::printf("from its text: end %u, %u lines\n", static_cast<unsigned>(of_text.answer.end),
+              static_cast<unsigned>(of_text.answer.lines));
   return 0;
 }

@@ -1,13 +1,14 @@
 /* The LanQ process machine: its C interface. Link liblanq.a; `pkg-config --cflags --libs lanq` has the flags once
  * `make install` has put it in place.
  *
- * The machine runs a program table on a schedule, which names the process that moves next, with a list of measurement
- * outcomes. It writes a trace and leaves the final configuration in a work store. docs/MACHINE.md says what it does.
+ * The machine runs a program on a schedule, which names the process that moves next, with a list of measurement outcomes.
+ * It writes a trace and leaves the final configuration in a work store. docs/MACHINE.md says what it does. A program is a
+ * LanQ text (docs/TEXT.md) or the program table that a text is translated into.
  *
- * A slice is a pointer and a length in elements, not in bytes: 16-bit words of the program table and of a trace, bytes of
- * the schedule and of the outcome list, 32-bit words of the work store. A pointer may be anything where its length is 0.
- * Buffers must not overlap. No function keeps a pointer, allocates, or has state of its own, so that any may be called from
- * several threads at once.
+ * A slice is a pointer and a length in elements, not in bytes: bytes of a text, 16-bit words of a program table and of a
+ * trace, bytes of the schedule and of the outcome list, 32-bit words of the work store. A pointer may be anything where its
+ * length is 0. Buffers must not overlap. No function keeps a pointer, allocates, or has state of its own, so that any may be
+ * called from several threads at once.
  */
 #ifndef LANQ_H
 #define LANQ_H
@@ -22,8 +23,8 @@ extern "C" {
 
 /* The version of this interface. The first number rises where a program has to be changed for it. */
 #define LANQ_VERSION_MAJOR 0
-#define LANQ_VERSION_MINOR 2
-#define LANQ_VERSION "0.2"
+#define LANQ_VERSION_MINOR 3
+#define LANQ_VERSION "0.3"
 
 /* ---- Sizes ---- */
 
@@ -33,6 +34,8 @@ extern "C" {
 #define LANQ_LINE_WORDS 6
 /* Words of a program table of so many methods and instructions. */
 #define LANQ_TABLE_WORDS(methods, instructions) (2 + 20 * (methods) + 2 * (instructions))
+/* Words of the longest program table, that of 32 methods and 4096 instructions: a buffer of so many holds every one. */
+#define LANQ_MOST_TABLE_WORDS 8834
 
 enum LanqLimit {
   LANQ_MOST_METHODS = 32,
@@ -115,7 +118,7 @@ enum LanqOutcome {
 
 /* ---- The answer ---- */
 
-/* Why an input is refused, and what the place counts. The questions are put in this order. */
+/* Why an input is refused, and what the place counts. The questions are put in this order, those of texts before all. */
 enum LanqRefusal {
   LANQ_ACCEPTED = 0,
   LANQ_REFUSED_SIZES = 1,        /* M, N or the table's length is wrong; the place is 0 */
@@ -125,7 +128,12 @@ enum LanqRefusal {
   LANQ_REFUSED_TYPES = 5,        /* an operand is missing or of another type, or values are left; the instruction */
   LANQ_REFUSED_OUTCOMES = 6,     /* an outcome is above LANQ_NO_CLICK; its index */
   LANQ_REFUSED_SCHEDULE = 7,     /* the schedule has more than 65,535 bytes; the place is 0 */
-  LANQ_REFUSED_WORK_STORE = 8    /* the work store has fewer than LANQ_WORK_WORDS words; the place is 0 */
+  LANQ_REFUSED_WORK_STORE = 8,   /* the work store has fewer than LANQ_WORK_WORDS words; the place is 0 */
+  /* Of a LanQ text, before question 1. The place is the index of a token's first byte; the text's length where the text
+   * stops too early or has no main. */
+  LANQ_REFUSED_GRAMMAR = 30, /* the text leaves the grammar or the nesting; the first token with which it does */
+  LANQ_REFUSED_NAMES = 31,   /* a name is undeclared, declared twice, or called with a wrong number of arguments; the name */
+  LANQ_REFUSED_LIMITS = 32   /* the table fails one of questions 1 to 5; the name of the first method with which it does */
 };
 
 /* Why a run ended. */
@@ -226,6 +234,32 @@ LanqAnswer lanq_check(const uint16_t *program, size_t program_len, const uint8_t
 LanqAnswer lanq_run(const uint16_t *program, size_t program_len, const uint8_t *schedule, size_t schedule_len,
                     const uint8_t *outcomes, size_t outcomes_len, uint16_t *trace, size_t trace_len, uint32_t *work,
                     size_t work_len);
+
+/* `refused` is LANQ_ACCEPTED, or why a text is refused, with its place; `words` is 0 then. Else `words` is the number of
+ * words of the text's table, and `place` is 0. */
+typedef struct {
+  uint64_t refused, place, words;
+} LanqTable;
+
+/* The program table of a LanQ text. It is the table that docs/TEXT.md sets down, and passes questions 1 to 5. Texts of any
+ * bytes and any length are answered.
+ *
+ * Where the text is not refused and `words` <= `table_len`, the first `words` words of the buffer are the table, and its
+ * other words are as they were. Where `words` > `table_len`, the buffer is too short and every word of it is as it was; a
+ * `table_len` of 0 asks for the number of words alone. After a refusal every word is as it was, too.
+ *
+ * Lengths count elements: `text_len` bytes, `table_len` words of 16 bits. The buffer must not overlap the text. This
+ * function and lanq_run_text use less than a megabyte of the stack, whatever the text. */
+LanqTable lanq_translate(const uint8_t *text, size_t text_len, uint16_t *table, size_t table_len);
+
+/* Runs a LanQ text. It puts 30, 31 and 32 to the text and then questions 1 to 8; where none says no, it leaves what
+ * lanq_run leaves of the text's table, in the answer, the trace and the work store. After a refusal every word of trace and
+ * work store is as it was. No buffer for the table is needed.
+ *
+ * Neither trace nor work store may overlap the other or an input. */
+LanqAnswer lanq_run_text(const uint8_t *text, size_t text_len, const uint8_t *schedule, size_t schedule_len,
+                         const uint8_t *outcomes, size_t outcomes_len, uint16_t *trace, size_t trace_len, uint32_t *work,
+                         size_t work_len);
 
 /* `holder` is the process that holds a qubit, LANQ_NOBODY for nobody; `read` is how many lines were read to say so. */
 typedef struct {

@@ -4,16 +4,23 @@ use Rattle.table.specs.Questions.{Verdict}
 use Rattle.check_questions.specs.declared.Check.{Check}
 use Rattle.check_questions.specs.Check.{verdictOf}
 use Rattle.lanq.specs.declared.LanqAnswer.{LanqAnswer}
-use Rattle.machine.specs.Answer as machine
 use Rattle.run.specs.declared.Answer.{Answer}
 use Rattle.run.specs.Answers as run
-use Rattle.lanq.specs.Answers.{checkAnswer, runAnswer}
+use Rattle.text_translate.specs.declared.Translation.{Translation}
+use Rattle.text_translate.specs.Translate as text
+use Rattle.lanq.specs.declared.LanqTable.{LanqTable}
+use Rattle.lanq.specs.Answers.{checkAnswer, runAnswer, tableAnswer}
 
 pub answered : (a k : Check) (v : Verdict) {r : LanqAnswer} → a ≡ k → verdictOf a ≡ v → r ≡ checkAnswer (verdictOf k)
     → r ≡ checkAnswer v
 answered a k v e q p = p ∙ ap checkAnswer (ap verdictOf (sym e) ∙ q)
 
 -- the same for a case of the run's answer
-pub ran : (a k : Answer) (v : machine.Answer) {r : LanqAnswer} → a ≡ k → run.answerNumbers a ≡ v
-    → r ≡ runAnswer (run.answerNumbers k) → r ≡ runAnswer v
-ran a k v e q p = p ∙ ap runAnswer (ap run.answerNumbers (sym e) ∙ q)
+pub ran : (a k : Answer) {r : LanqAnswer} → a ≡ k → r ≡ runAnswer (run.answerNumbers k)
+    → r ≡ runAnswer (run.answerNumbers a)
+ran a k e p = p ∙ sym (ap (λ x. runAnswer (run.answerNumbers x)) e)
+
+-- the same for a case of the translation's
+pub translated : (a k : Translation) (v : text.Answer) {r : LanqTable} → a ≡ k → text.answerNumbers a ≡ v
+    → r ≡ tableAnswer (text.answerNumbers k) → r ≡ tableAnswer v
+translated a k v e q p = p ∙ ap tableAnswer (ap text.answerNumbers (sym e) ∙ q)

@@ -1,19 +1,25 @@
 // The C interface, include/lanq.h. Each exported function has the contract of the function that it hands on to, the
-// answers of the check, of the run and of the look-up as a struct of numbers.
+// answers of the check, of the runs, of the translation and of the look-up as a struct of numbers.
 ghost use mathlib.Core.Path.{_≡_};
 ghost use Rattle.table.specs.Questions.{questions};
 ghost use Rattle.trace.specs.Trace.{lookUp, countRead, sameLines};
 ghost use lib.ListN.{length};
 ghost use Rattle.machine.specs.Answer.{linesIn};
 ghost use Rattle.machine.specs.Answer as machine;
-ghost use Rattle.run.specs.Answers.{traceLeft, storeLeft};
+ghost use Rattle.run.specs.Answers.{answerNumbers, traceLeft, storeLeft};
+ghost use Rattle.text_parse.specs.Text.{textOf};
+ghost use Rattle.text_translate.specs.Translate.{answerFor, bufferAfter};
+ghost use Rattle.run_text.specs.RunText.{textAnswer, textTrace, textStore};
 ghost use Rattle.store_read.specs.Stored.{storedHolder};
-ghost use Rattle.lanq.specs.Answers.{checkAnswer, runAnswer};
+ghost use Rattle.lanq.specs.Answers.{checkAnswer, runAnswer, tableAnswer};
 use check_questions::Check;
 use check_questions::ask;
 use run::Answer;
 use run::run;
+use run_text::run_text;
 use store_read::stored_holder;
+use text_translate::Translation;
+use text_translate::translate;
 use trace::lookup::qubit_holder;
 use trace::same::same_lines;
 
@@ -80,6 +86,20 @@ fn ended(end: u64, entries: u64, lines: u64, outcomes: u64) -> LanqAnswer
     }
 }
 
+fn run_numbers(answer: Answer) -> LanqAnswer
+    ensures { λ r. ⌜ r ≡ runAnswer (answerNumbers answer) ⌝ }
+{
+    match answer {
+        Answer::Refused { number, place } => refusal(number as u64, place as u64),
+        Answer::Ran {
+            end,
+            entries,
+            lines,
+            outcomes,
+        } => ended(end as u64, entries as u64, lines as u64, outcomes as u64),
+    }
+}
+
 // The run. Where a question says no, trace and work store keep their words.
 #[no_mangle]
 pub extern "C" fn lanq_run(
@@ -97,16 +117,63 @@ pub extern "C" fn lanq_run(
         × (now (work .exit) ≡ storeLeft (now (program .entry)) (now (schedule .entry)) (now (outcomes .entry))
         (now (trace .entry)) (now (work .entry))) ⌝ }
 {
-    let answer = run(program, schedule, outcomes, trace, work);
-    match answer {
-        Answer::Refused { number, place } => refusal(number as u64, place as u64),
-        Answer::Ran {
-            end,
-            entries,
-            lines,
-            outcomes,
-        } => ended(end as u64, entries as u64, lines as u64, outcomes as u64),
+    run_numbers(run(program, schedule, outcomes, trace, work))
+}
+
+// `refused` is 30, 31 or 32 with its place where the text is refused, and else 0, with the words of the text's table.
+// Unused fields are 0.
+#[repr(C)]
+pub struct LanqTable {
+    pub refused: u64,
+    pub place: u64,
+    pub words: u64,
+}
+
+fn table_numbers(refused: u64, place: u64, words: u64) -> LanqTable
+    ensures { λ r. ⌜ r ≡ record { refused = refused; place = place; words = words } ⌝ }
+{
+    LanqTable {
+        refused: refused,
+        place: place,
+        words: words,
     }
+}
+
+// The table of a LanQ text. Where the text is refused or the buffer has fewer words than the table, it keeps its words.
+#[no_mangle]
+pub extern "C" fn lanq_translate(text: &[u8], table: &mut [u16]) -> LanqTable
+    ensures { λ r. ⌜
+        (r ≡ tableAnswer (answerFor (length (now (table .entry))) (textOf (now (text .entry)))))
+        × (now (table .exit) ≡ bufferAfter (now (table .entry)) (textOf (now (text .entry)))) ⌝ }
+{
+    let answer = translate(text, table);
+    match answer {
+        Translation::Grammar(at) => table_numbers(30, at as u64, 0),
+        Translation::Names(at) => table_numbers(31, at as u64, 0),
+        Translation::Limits(at) => table_numbers(32, at as u64, 0),
+        Translation::Table(n) => table_numbers(0, 0, n as u64),
+        Translation::Short(n) => table_numbers(0, 0, n as u64),
+    }
+}
+
+// The run of a LanQ text. Where the text is refused or a question says no, trace and work store keep their words.
+#[no_mangle]
+pub extern "C" fn lanq_run_text(
+    text: &[u8],
+    schedule: &[u8],
+    outcomes: &[u8],
+    trace: &mut [u16],
+    work: &mut [u32],
+) -> LanqAnswer
+    ensures { λ r. ⌜ (r
+        ≡ runAnswer (textAnswer (textOf (now (text .entry))) (now (schedule .entry)) (now (outcomes .entry))
+        (linesIn (length (now (trace .entry)))) (length (now (work .entry)))))
+        × (now (trace .exit) ≡ textTrace (textOf (now (text .entry))) (now (schedule .entry)) (now (outcomes .entry))
+        (now (trace .entry)) (now (work .entry)))
+        × (now (work .exit) ≡ textStore (textOf (now (text .entry))) (now (schedule .entry)) (now (outcomes .entry))
+        (now (trace .entry)) (now (work .entry))) ⌝ }
+{
+    run_numbers(run_text(text, schedule, outcomes, trace, work))
 }
 
 // The holder of a qubit, 65535 for nobody, and how many lines were read for it.

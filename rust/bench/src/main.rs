@@ -9,6 +9,8 @@
 //!   under callgrind, and those of one call on a trace.
 //! - `bench --growth` counts how they grow with entries, table, frames and
 //!   processes.
+//! - `bench --texts [BYTES]` translates LanQ texts, ordinary ones and long ones of a
+//!   million bytes or of BYTES, and runs one, and prints milliseconds.
 //! - `bench --each NAME FROM COUNT` counts COUNT entries of one of them, one by
 //!   one, from entry FROM on.
 
@@ -16,6 +18,7 @@ mod checks;
 mod counted;
 mod programs;
 mod runs;
+mod texts;
 mod traces;
 
 use std::env;
@@ -69,6 +72,11 @@ fn main() {
         }
         ["--instructions"] => counted::print(),
         ["--growth"] => counted::print_growth(),
+        ["--texts"] => texts::print(texts::LONG),
+        ["--texts", bytes] => match bytes.parse() {
+            Ok(bytes) => texts::print(bytes),
+            Err(_) => Err(format!("{bytes} is no number")),
+        },
         ["--each", name, from, count] => match (from.parse(), count.parse()) {
             (Ok(from), Ok(count)) => counted::print_each(name, from, count),
             _ => Err(format!("{from} {count}: no two numbers")),
@@ -78,7 +86,10 @@ fn main() {
             Ok(count) => one(name, count),
             Err(_) => Err(format!("{count} is no number")),
         },
-        _ => Err("usage: bench [--instructions | --growth | --each NAME FROM COUNT | --case NAME [COUNT]]".to_string()),
+        _ => Err(
+            "usage: bench [--instructions | --growth | --texts [BYTES] | --each NAME FROM COUNT | --case NAME [COUNT]]"
+                .to_string(),
+        ),
     };
     if let Err(why) = done {
         eprintln!("{why}");

@@ -8,6 +8,7 @@ use lanq::reason_in;
 use crate::code::{Origin, Site};
 use crate::error::Place;
 use crate::input::case::Case;
+use crate::text::place::TextPlace;
 
 /// A refusal of a case.
 #[derive(Clone, Debug, PartialEq, Eq)]
@@ -33,6 +34,8 @@ pub enum RefusalPlace {
     Instruction(Site),
     /// An index in the outcome list.
     Outcome(usize),
+    /// In a LanQ text.
+    Text(TextPlace),
 }
 
 impl CaseRefusal {
@@ -52,6 +55,9 @@ impl CaseRefusal {
 
     /// Line and column, where the file has them.
     fn place(&self) -> Option<Place> {
+        if let RefusalPlace::Text(at) = &self.at {
+            return Some(at.place);
+        }
         let written = match &self.at {
             RefusalPlace::Method { header, .. } => *header,
             RefusalPlace::Instruction(site) => site.written,
@@ -93,6 +99,7 @@ impl fmt::Display for RefusalPlace {
             }
             RefusalPlace::Instruction(site) => site.fmt(f),
             RefusalPlace::Outcome(index) => write!(f, "outcome {index}, counted from 0"),
+            RefusalPlace::Text(at) => at.fmt(f),
         }
     }
 }

@@ -2,8 +2,8 @@
 //!
 //! - [`commands`]: the commands and their help; [`options`]: the words of a call
 //! - [`input`]: programs, schedules and outcomes from files and options
-//! - [`asm`]: the assembler's text; [`names`], [`code`]: a program's names, and
-//!   where each instruction stands
+//! - [`asm`]: the assembler's text; [`text`]: LanQ texts; [`names`], [`code`]: a
+//!   program's names, and where each instruction stands
 //! - [`machine`]: the proved library, or the model where it is asked for
 //! - [`case_refusal`]: refusals in words
 //! - [`explain`]: a run in words, with [`sentence`], [`holders`], [`history`],
@@ -36,4 +36,5 @@ pub mod readiness;
 pub mod report;
 pub mod sentence;
 pub mod svg;
+pub mod text;
 pub mod timeline;

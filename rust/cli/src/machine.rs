@@ -1,8 +1,8 @@
 //! Which machine runs a case: the proved library or, where it was asked for by
 //! name, the model.
 
-use data::{Line, LookUp, Refusal, Run, LINE_WORDS, WORK_WORDS};
-use lanq::Trace;
+use data::{Line, LookUp, Question, Refusal, Run, LINE_WORDS, WORK_WORDS};
+use lanq::{Program, Trace};
 
 /// The machine that is asked.
 #[derive(Clone, Copy, Debug, Default, PartialEq, Eq)]
@@ -18,6 +18,17 @@ impl Machine {
         match self {
             Machine::Proved => "proved",
             Machine::Model => "model",
+        }
+    }
+
+    /// The table of a LanQ text.
+    pub fn translate(self, text: &[u8]) -> Result<Vec<u16>, Refusal> {
+        match self {
+            Machine::Proved => Program::from_text(text).map(|program| program.words().to_vec()),
+            Machine::Model => model::text::translate(text).map_err(|refusal| {
+                let question = Question::read(refusal.number).expect("the model refuses by a question");
+                Refusal::new(question, refusal.place)
+            }),
         }
     }
 
@@ -70,6 +81,16 @@ impl Runner {
             return model::check_and_run(program, schedule, outcomes, trace.len(), work.len());
         }
         let answer = lanq::run_in(program, schedule, outcomes, trace, work)?;
+        Ok(lanq::left(answer, trace, work))
+    }
+
+    /// Puts the questions and runs a LanQ text, the model by its table.
+    pub fn run_text(&mut self, text: &[u8], schedule: &[u8], outcomes: &[u8]) -> Result<Run, Refusal> {
+        let Runner { machine, trace, work } = self;
+        if *machine == Machine::Model {
+            return self.run(&Machine::Model.translate(text)?, schedule, outcomes);
+        }
+        let answer = lanq::run_text(text, schedule, outcomes, trace, work)?;
         Ok(lanq::left(answer, trace, work))
     }
 }

@@ -5,7 +5,8 @@ use data::{Frame, Line, Process, Run, State, Value};
 
 use crate::asm::list::items;
 use crate::case_refusal::{CaseRefusal, RefusalPlace};
-use crate::code::{Code, Site};
+use crate::code::{Code, Origin, Site};
+use crate::error::Place;
 use crate::holders::Holders;
 use crate::input::case::Case;
 use crate::json::Json;
@@ -72,12 +73,14 @@ pub fn file_json(name: &str, machine: Machine, refused: &CaseRefusal) -> Json {
 
 /// Number, place and rule, with the method and the instruction.
 fn refused_json(refused: &CaseRefusal) -> Json {
+    let line = |written: Option<(Place, Origin)>| written.map(|(place, _)| place);
     let (method, name, instruction, written) = match &refused.at {
-        RefusalPlace::Method { method, name, header } => (Some(*method), Some(name), None, *header),
+        RefusalPlace::Method { method, name, header } => (Some(*method), Some(name), None, line(*header)),
         RefusalPlace::Instruction(site) => {
-            (Some(site.method), Some(&site.method_name), Some(site.instruction), site.written)
+            (Some(site.method), Some(&site.method_name), Some(site.instruction), line(site.written))
         }
         RefusalPlace::Nowhere | RefusalPlace::Outcome(_) => (None, None, None, None),
+        RefusalPlace::Text(at) => (None, None, None, Some(at.place)),
     };
     Json::object([
         ("number", Json::number(refused.refusal.number())),
@@ -86,7 +89,8 @@ fn refused_json(refused: &CaseRefusal) -> Json {
         ("method", Json::or_null(method, Json::number)),
         ("method_name", Json::or_null(name, Json::text)),
         ("instruction", Json::or_null(instruction, Json::number)),
-        ("line", Json::or_null(written, |(place, _)| Json::number(place.line))),
+        ("line", Json::or_null(written, |place| Json::number(place.line))),
+        ("column", Json::or_null(written, |place| Json::number(place.column))),
     ])
 }
 

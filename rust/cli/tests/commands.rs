@@ -22,7 +22,7 @@ fn help() {
     expect("help", &overview);
     assert_eq!(lanq(&["--help"]).quiet(), overview);
     let mut all = String::new();
-    for name in ["run", "check", "explain", "timeline", "holder", "same", "asm", "list", "batch"] {
+    for name in ["run", "check", "explain", "timeline", "holder", "same", "asm", "list", "translate", "batch"] {
         assert!(overview.contains(&format!("\n    {name} ")), "{name}");
         let help = lanq(&["help", name]).quiet();
         assert!(help.starts_with(&format!("usage: lanq {name} ")), "{help}");
@@ -105,7 +105,6 @@ fn files_that_cannot_be_used() {
     let wrong = example("bb84").text + "    0 300\n";
     let lines = wrong.lines().count();
     write(&folder, "wrong.lqa", wrong);
-    write(&folder, "later.lanq", "void main() {}");
     write(&folder, "wrong.txt", "0 1\n1 two");
     write(&folder, "wrong.trace", "0 0 1");
     let right = example("teleport").path;
@@ -115,8 +114,6 @@ fn files_that_cannot_be_used() {
         assert_eq!(notes, format!("wrong.lqa:{lines}:7: expected a number from 0 to 255, found `300`\n"));
         let notes = lanq_in(&folder, &[command, "none.lqa"]).failed(1);
         assert!(notes.starts_with("none.lqa: cannot be read: "), "{notes}");
-        let notes = lanq_in(&folder, &[command, "later.lanq"]).failed(1);
-        assert_eq!(notes, "later.lanq: LanQ text is not read yet; the assembler's text ends in .lqa\n");
     }
     let notes = lanq_in(&folder, &["run", right, "--schedule-file", "wrong.txt"]).failed(1);
     assert!(notes.starts_with("wrong.txt:2:3: expected a process from 0 to 255"), "{notes}");
@@ -205,7 +202,7 @@ fn refusals() {
     assert_eq!(json.status, Some(1));
     let object = Json::read(&json.out).expect("JSON");
     let refused = object.get("refused").expect("it is refused");
-    assert_eq!(refused.to_string(), "{\"number\":5,\"place\":1,\"rule\":\"PUT q wants qbit, the top is int\",\"method\":0,\"method_name\":\"main\",\"instruction\":1,\"line\":4}");
+    assert_eq!(refused.to_string(), "{\"number\":5,\"place\":1,\"rule\":\"PUT q wants qbit, the top is int\",\"method\":0,\"method_name\":\"main\",\"instruction\":1,\"line\":4,\"column\":3}");
     // Of a table without a text, the line of its listing.
     write(&folder, "typed.bin", bytes(&main_of("  slots qbit q\n  INT 7\n  PUT q\n  DROP\n  RET")));
     let notes = lanq_in(&folder, &["check", "typed.bin"]).failed(1);

@@ -95,13 +95,23 @@ method void main()
     RET
 ";
 
+/// LanQ texts that 31 and 32 refuse.
+const UNDECLARED: &str = "void main() {\n    qbit q;\n    q = new qbit();\n    H(p);\n}\n";
+const TYPED_LANQ: &str = "void main() {\n    qbit q;\n    q = 7;\n}\n";
+
 #[test]
 fn the_calls_in_the_commands_document() {
     let folder = folder("document");
     for example in examples() {
         write(&folder, &format!("{}.lqa", example.name), &example.text);
+        for ending in ["lanq", "lanq.run"] {
+            let name = format!("{}.{ending}", example.name);
+            write(&folder, &name, document(&format!("examples/{name}")));
+        }
     }
     write(&folder, "typed.lqa", TYPED);
+    write(&folder, "undeclared.lanq", UNDECLARED);
+    write(&folder, "typed.lanq", TYPED_LANQ);
     print_what_is_shown(&folder, &document("docs/COMMAND.md"), "lanq", 10);
 }
 
@@ -113,16 +123,25 @@ fn the_text_in_the_commands_document() {
     assert!(printed.ends_with("\nend 1 26 10 1\n"), "{printed}");
 }
 
-/// The first protocol of README.md, from its text to its trace.
+/// The first protocol of README.md, as a LanQ text and as a table, from its text
+/// to its trace.
 #[test]
 fn the_first_protocol() {
     let readme = document("README.md");
     let folder = folder("readme");
+    let lanq = block(&readme, "void bob(channelEnd[qbit] mine) {");
+    write(&folder, "first.lanq", &lanq);
+    assert!(readme.contains("Let main send p in place of q"));
+    write(&folder, "wrong.lanq", lanq.replace("send(mine, q);", "send(mine, p);"));
     write(&folder, "first.lqa", block(&readme, "method void bob(end(qbit) mine)"));
-    print_what_is_shown(&folder, &readme, "target/bin/lanq", 4);
+    print_what_is_shown(&folder, &readme, "target/bin/lanq", 7);
     let drawn = fs::read_to_string(folder.join("first.svg")).expect("it is drawn");
     assert!(drawn.starts_with("<svg"));
-    // What it says of a further use of the qubit.
+    // What it says of a further use of the qubit, of the text and of the table.
+    assert!(readme.contains("with `X(q);` after the send"));
+    write(&folder, "further.lanq", lanq.replace("send(mine, q);\n", "send(mine, q);\n    X(q);\n"));
+    let printed = called(&folder, "run further.lanq --schedule until-stuck --outcomes 1");
+    assert!(printed.contains("\n20 0 10 20 - -\n24 1 4 0 1 -\n26 1 9 - - -\nend 1 27 10 1\n"), "{printed}");
     assert!(readme.contains("with `GET q` and `GATE X` between SEND and RET"));
     let text = fs::read_to_string(folder.join("first.lqa")).expect("the text");
     let further = text.replacen("    RET\n", "    GET q\n    GATE X\n    RET\n", 1);

@@ -23,6 +23,7 @@ fn case_of(text: &str) -> Case {
     let assembled = assembled(text);
     Case {
         name: "text".to_string(),
+        text: None,
         program: table(&assembled.code.methods),
         code: Some(assembled.code),
         schedule: assembled.schedule.unwrap_or_default(),
@@ -37,7 +38,16 @@ fn case_of_file(file: &[u8]) -> Option<Case> {
     let Parts { program, schedule, outcomes } = Parts::read(file).ok()?;
     let methods = Program::from(program.as_slice()).methods().ok();
     let code = methods.map(Code::of_table);
-    Some(Case { name: "file".to_string(), program, code, schedule, outcomes, made: None, unscheduled: false })
+    Some(Case {
+        name: "file".to_string(),
+        program,
+        text: None,
+        code,
+        schedule,
+        outcomes,
+        made: None,
+        unscheduled: false,
+    })
 }
 
 /// As the printing program runs it.

@@ -23,6 +23,7 @@ fn running(seed: u64) -> Option<Case> {
     let methods = Program::from(case.program.as_slice()).methods().ok()?;
     let case = Case {
         name: format!("seed {seed}"),
+        text: None,
         program: case.program,
         code: Some(Code::of_table(methods)),
         schedule: case.schedule,

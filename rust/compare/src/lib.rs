@@ -5,6 +5,7 @@
 pub mod inputs;
 pub mod layout;
 pub mod result;
+pub mod texts;
 pub mod traces;
 
 use data::Refusal;

@@ -7,7 +7,7 @@ use generate::{Case, Random};
 use crate::layout;
 
 /// Words on either side of a lent buffer.
-const AROUND: usize = 8;
+pub const AROUND: usize = 8;
 
 /// Trace and work store with what lies around them.
 #[derive(Clone, Debug, PartialEq, Eq)]
@@ -19,11 +19,14 @@ pub struct Buffers {
 impl Buffers {
     /// Buffers for a case, full of words that no run has written.
     pub fn dirty(case: &Case, random: &mut Random) -> Buffers {
-        let trace = 0..case.trace_len + 2 * AROUND;
-        let work = 0..case.work_len + 2 * AROUND;
+        Buffers::of_lengths(case.trace_len, case.work_len, random)
+    }
+
+    /// The same, of so many words.
+    pub fn of_lengths(trace: usize, work: usize, random: &mut Random) -> Buffers {
         Buffers {
-            trace: trace.map(|_| random.bits() as u16).collect(),
-            work: work.map(|_| random.bits() as u32).collect(),
+            trace: (0..trace + 2 * AROUND).map(|_| random.bits() as u16).collect(),
+            work: (0..work + 2 * AROUND).map(|_| random.bits() as u32).collect(),
         }
     }
 

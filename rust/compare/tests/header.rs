@@ -34,7 +34,25 @@ const PRINTED_BY_CPP: &str = "\
 entry 14: process 0 gives qubit 0 to process 1
 entry 15: process 1 applies gate 4 to qubit 0
 entry 17: process 0 is stopped by fault 20
-lanq 0.2: end 1, 9 lines
+lanq 0.3: end 1, 9 lines
+from its text: end 1, 9 lines
+";
+
+/// What examples/text.c prints: the second text of docs/TEXT.md, and one that is
+/// refused.
+const PRINTED_OF_TEXTS: &str = "\
+words 90, methods 2, instructions 24
+0 0 2 0 - -
+10 0 5 1 1 1
+10 0 6 1 6 0
+13 0 1 0 - -
+14 0 7 1 0 0
+14 0 6 1 3 0
+15 0 9 - - -
+19 1 4 0 1 -
+20 1 9 - - -
+end 1 21 9 1
+refused 31 at byte 46, line 4, column 5
 ";
 
 /// What examples/desk.c prints: the same run, with who holds what after each
@@ -99,6 +117,14 @@ fn the_desk_shows_who_holds_what() {
     let source = root().join("examples/desk.c");
     for standard in ["c99", "c11", "c17"] {
         assert_eq!(printed(&C, standard, &source), PRINTED_BY_DESK);
+    }
+}
+
+#[test]
+fn the_example_of_texts_prints_table_run_and_refusal() {
+    let source = root().join("examples/text.c");
+    for standard in ["c99", "c11", "c17"] {
+        assert_eq!(printed(&C, standard, &source), PRINTED_OF_TEXTS);
     }
 }
 
@@ -199,6 +225,8 @@ fn numbers() -> Vec<(String, usize)> {
         ("MOST_METHODS", MOST_METHODS),
         ("MOST_INSTRUCTIONS", MOST_INSTRUCTIONS),
         ("TABLE_WORDS(3, 40)", 2 + 60 + 80),
+        ("TABLE_WORDS(LANQ_MOST_METHODS, LANQ_MOST_INSTRUCTIONS)", lanq::MOST_TABLE_WORDS),
+        ("MOST_TABLE_WORDS", lanq::MOST_TABLE_WORDS),
     ] {
         add(name, number);
     }
@@ -212,12 +240,19 @@ fn the_headers_numbers_are_ours() {
     for (name, _) in &numbers {
         writeln!(source, "  printf(\"%s %u\\n\", \"{name}\", (unsigned)({name}));").expect("a string takes it");
     }
-    source += "  printf(\"%u\\n\", (unsigned)sizeof(LanqLine));\n  return 0;\n}\n";
+    for name in ["LanqLine", "LanqTable", "LanqAnswer", "LanqHolder"] {
+        writeln!(source, "  printf(\"%u\\n\", (unsigned)sizeof({name}));").expect("a string takes it");
+    }
+    source += "  return 0;\n}\n";
     let path = Path::new(env!("CARGO_TARGET_TMPDIR")).join("numbers.c");
     std::fs::write(&path, source).expect("the source can be written");
     let mut expected: String = numbers.iter().map(|(name, number)| format!("{name} {number}\n")).collect();
-    expected += "12\n";
+    expected += "12\n24\n48\n16\n";
     assert_eq!(printed(&C, "c99", &path), expected);
+    // The same as C++, where the names are the same too.
+    let same = path.with_file_name("numbers_again.cpp");
+    std::fs::copy(&path, &same).expect("the source can be copied");
+    assert_eq!(printed(&CPP, "c++11", &same), expected);
     // Every name of an enum is looked at, but those of limits that no type has.
     let header = std::fs::read_to_string(root().join("include/lanq.h")).expect("the header");
     let assigned =

@@ -16,7 +16,7 @@
 //! - [`types`]: types, sides and gates
 //! - [`program`]: methods as plain numbers, and the table they make
 //! - [`mod@file`]: the input file of the printing program
-//! - [`texts`]: minimal LanQ texts with what they are answered
+//! - [`texts`]: LanQ texts with what they are answered
 
 #![forbid(unsafe_code)]
 

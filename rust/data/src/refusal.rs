@@ -4,7 +4,7 @@ use std::fmt;
 
 use crate::numbered;
 
-/// A question that a refusal answers with no, by 01's number.
+/// A question that a refusal answers with no, by 01's number or Paper 1's.
 #[derive(Clone, Copy, Debug, PartialEq, Eq, PartialOrd, Ord, Hash)]
 pub enum Question {
     /// M, N and the table's length; the place is 0.
@@ -26,11 +26,18 @@ pub enum Question {
     /// The input file of the printing program; the place is 0. It is put before
     /// all others, and by programs that read such a file alone.
     File = 9,
+    /// Grammar and nesting of a LanQ text (Paper 1). It and the next two are put
+    /// before question 1, to texts alone; the place is a byte's index.
+    Grammar = 30,
+    /// A text's names and counts of arguments.
+    Names = 31,
+    /// The limits of a text's table; the place is that of a method's name.
+    Limits = 32,
 }
 
 impl Question {
     /// All of them, by their numbers.
-    pub const ALL: [Question; 9] = [
+    pub const ALL: [Question; 12] = [
         Question::Sizes,
         Question::Pairs,
         Question::Rows,
@@ -40,9 +47,15 @@ impl Question {
         Question::Schedule,
         Question::WorkStore,
         Question::File,
+        Question::Grammar,
+        Question::Names,
+        Question::Limits,
     ];
 
-    /// 01's number of it.
+    /// Those that are put to LanQ texts alone.
+    pub const OF_TEXTS: [Question; 3] = [Question::Grammar, Question::Names, Question::Limits];
+
+    /// 01's number of it, or Paper 1's.
     pub fn number(self) -> u16 {
         self as u16
     }
@@ -59,6 +72,9 @@ impl Question {
             Question::Schedule => "the schedule's length",
             Question::WorkStore => "the work store's length",
             Question::File => "the input file",
+            Question::Grammar => "a text's grammar",
+            Question::Names => "a text's names",
+            Question::Limits => "limits of a text's table",
         }
     }
 
@@ -89,6 +105,15 @@ impl fmt::Display for Question {
             Question::Schedule => "Has the schedule at most 65,535 entries?",
             Question::WorkStore => "Has the work store at least 8,256 words?",
             Question::File => "Is the file built as docs/LAYOUT.md says?",
+            Question::Grammar => {
+                "Does the text keep to the grammar, with bodies and blocks nested to 32 and channels with ends \
+                 assigned as statements alone?"
+            }
+            Question::Names => {
+                "Is every name declared, once in its block or once as a method, main among them, and called with as \
+                 many arguments as it takes?"
+            }
+            Question::Limits => "Does the text's table pass questions 1 to 5?",
         })
     }
 }

@@ -1,5 +1,10 @@
-//! Minimal LanQ texts with what they are answered (Paper 1), from texts.txt beside
-//! this crate's source; its head says how a record is written.
+//! LanQ texts with what they are answered (Paper 1): minimal ones, from texts.txt
+//! beside this crate's source, whose head says how a record is written; and those of
+//! the repository's examples.
+
+use std::collections::BTreeMap;
+use std::fs;
+use std::path::Path;
 
 use crate::program::Method;
 
@@ -131,4 +136,55 @@ fn bytes(text: &str) -> Vec<u8> {
 fn digit(byte: Option<u8>) -> u8 {
     let value = byte.and_then(|byte| char::from(byte).to_digit(16));
     value.and_then(|value| u8::try_from(value).ok()).expect("a digit of a byte")
+}
+
+/// A text of examples/, with a schedule and outcomes and what is printed for its run.
+#[derive(Clone, Debug, PartialEq, Eq)]
+pub struct Example {
+    pub name: String,
+    pub text: String,
+    pub schedule: Vec<u8>,
+    pub outcomes: Vec<u8>,
+    pub expected: String,
+}
+
+/// All of them by their names, so that a new one is tested without being named.
+///
+/// # Panics
+/// Where one of an example's files is missing.
+pub fn examples() -> Vec<Example> {
+    let folder = Path::new(env!("CARGO_MANIFEST_DIR")).join("../../examples");
+    let entries = fs::read_dir(&folder).expect("the examples are there");
+    let files = entries.map(|entry| entry.expect("an entry can be read").file_name());
+    let names = files.filter_map(|name| Some(name.to_str()?.strip_suffix(".lanq")?.to_string()));
+    let mut names: Vec<String> = names.collect();
+    names.sort();
+    let read = |name: &str, ending: &str| {
+        let path = folder.join(format!("{name}.{ending}"));
+        fs::read_to_string(&path).unwrap_or_else(|error| panic!("{}: {error}", path.display()))
+    };
+    let example = |name: String| {
+        let (schedule, outcomes) = inputs(&read(&name, "lanq.run"));
+        let [text, expected] = ["lanq", "lanq.expected"].map(|ending| read(&name, ending));
+        Example { name, text, schedule, outcomes, expected }
+    };
+    names.into_iter().map(example).collect()
+}
+
+/// Schedule and outcomes: numbers under two headings, `0*3` for three of one kind,
+/// comments after `#`.
+fn inputs(file: &str) -> (Vec<u8>, Vec<u8>) {
+    let mut lists: BTreeMap<&str, Vec<u8>> = BTreeMap::new();
+    let mut heading = "";
+    for word in file.lines().flat_map(|line| line.split('#').next().unwrap_or("").split_whitespace()) {
+        match word {
+            "schedule" | "outcomes" => heading = word,
+            _ => {
+                let (byte, count) = word.split_once('*').unwrap_or((word, "1"));
+                lists.entry(heading).or_default().extend(vec![number::<u8>(byte); number(count)]);
+            }
+        }
+    }
+    let mut list = |heading| lists.remove(heading).unwrap_or_default();
+    (list("schedule"), list("outcomes"))
 }

@@ -1,11 +1,14 @@
 //! Safe binding of the LanQ process machine, `include/lanq.h`.
 //!
 //! [`run`] puts the questions and runs a program; [`check`] only puts the
-//! questions; [`holder`] and [`same_lines`] read traces, [`stored_holder`] reads
-//! the work store. Each is one call of
-//! the proved library. [`run_in`] and [`check_in`] do the same on buffers that
-//! the caller lends, and allocate nothing; [`decode`], [`stored_holder`] and
-//! [`lines`] read what a run has left in them. [`reason`] says which rule a refused input breaks.
+//! questions; [`translate`] gives the table of a LanQ text, and [`run_text`]
+//! runs one; [`holder`] and [`same_lines`] read traces, [`stored_holder`] reads
+//! the work store. Each is one call of the proved library.
+//!
+//! [`run_in`] and [`check_in`] do the same as [`run`] and [`check`] on buffers
+//! that the caller lends, and allocate nothing; so do [`translate`] and
+//! [`run_text`]. [`decode`], [`stored_holder`] and [`lines`] read what a run has
+//! left in them. [`reason`] says which rule a refused input breaks.
 //!
 //! ```
 //! use lanq::op::{DROP, MEAS, NEWQ, RET};
@@ -44,6 +47,7 @@ mod program;
 mod raw;
 mod reason;
 mod run;
+mod text;
 mod trace;
 
 pub use data::program::{op, Method};
@@ -55,4 +59,5 @@ pub use layout::{decode, stored_holder};
 pub use program::Program;
 pub use reason::{reason, reason_in, OperandKind, Reason, Rule};
 pub use run::{check, check_in, left, most_lines, run, run_in};
+pub use text::{run_text, translate, Translation, MOST_TABLE_WORDS};
 pub use trace::{holder, lines, same_lines, Trace};

@@ -11,6 +11,14 @@ pub struct Answer {
     pub outcomes: u64,
 }
 
+/// `LanqTable` of the header.
+#[repr(C)]
+pub struct Table {
+    pub refused: u64,
+    pub place: u64,
+    pub words: u64,
+}
+
 /// `LanqHolder` of the header.
 #[repr(C)]
 pub struct Holder {
@@ -31,6 +39,19 @@ extern "C" {
     pub fn lanq_run(
         program: *const u16,
         program_len: usize,
+        schedule: *const u8,
+        schedule_len: usize,
+        outcomes: *const u8,
+        outcomes_len: usize,
+        trace: *mut u16,
+        trace_len: usize,
+        work: *mut u32,
+        work_len: usize,
+    ) -> Answer;
+    pub fn lanq_translate(text: *const u8, text_len: usize, table: *mut u16, table_len: usize) -> Table;
+    pub fn lanq_run_text(
+        text: *const u8,
+        text_len: usize,
         schedule: *const u8,
         schedule_len: usize,
         outcomes: *const u8,

@@ -134,7 +134,12 @@ pub fn run_in(
             work.len(),
         )
     };
-    accepted(&answer)?;
+    answered(&answer)
+}
+
+/// What the library has answered for a run or a refusal.
+pub(crate) fn answered(answer: &raw::Answer) -> Result<Answer, Refusal> {
+    accepted(answer)?;
     Ok(Answer {
         end: listed("end", answer.end, End::read),
         entries: count(answer.entries),
@@ -161,9 +166,15 @@ pub fn left(answer: Answer, trace: &[u16], work: &[u32]) -> Run {
 
 /// Nothing where the library has accepted the input.
 fn accepted(answer: &raw::Answer) -> Result<(), Refusal> {
-    match answer.refused {
-        0 => Ok(()),
-        number => Err(Refusal::new(listed("refusal", number, Question::read), count(answer.place))),
+    refused(answer.refused, answer.place).map_or(Ok(()), Err)
+}
+
+/// The refusal that a number and a place of the library stand for; none where
+/// the number is 0.
+pub(crate) fn refused(number: u64, place: u64) -> Option<Refusal> {
+    match number {
+        0 => None,
+        number => Some(Refusal::new(listed("refusal", number, Question::read), count(place))),
     }
 }
 

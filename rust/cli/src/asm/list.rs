@@ -24,9 +24,14 @@ pub struct Listing {
     pub names: Vec<MethodNames>,
 }
 
-/// Lists methods. What has no name is listed by its `raw` numbers.
+/// Lists methods under names that are made up.
 pub fn listing(methods: &[Method]) -> Listing {
-    let mut names = made_up(methods);
+    listing_by(methods, made_up(methods))
+}
+
+/// Lists methods. What has no name is listed by its `raw` numbers. The lines are
+/// the same whatever the names are.
+pub fn listing_by(methods: &[Method], mut names: Vec<MethodNames>) -> Listing {
     if methods.iter().any(|method| count(method) > SLOTS) {
         return Listing { text: None, names };
     }

@@ -13,7 +13,7 @@ pub const COMMAND: Command = Command {
     more: "\
 A text is assembled: its names are looked up and its table is written. What is wrong in it is shown
 with line, column and what was expected there, and nothing is written then. The questions from 3 on
-are not put; lanq check puts them.",
+are not put; lanq check puts them. A LanQ text is translated.",
     options: &[INPUTS],
     run,
 };

@@ -11,7 +11,8 @@ pub const COMMAND: Command = Command {
     more: "\
 Prints that the case is accepted. A refusal has the question's number and place, the rule that is
 broken, and the instruction with its method, its number in it, its number over the table and its
-line in the text, or in what lanq list writes.",
+line in the text, or in what lanq list writes. A LanQ text is refused by 30, 31 or 32 before all
+questions, with the byte, its line and column, and a mark under it.",
     options: &[INPUTS, &[MODEL]],
     run,
 };

@@ -1,5 +1,4 @@
-//! The commands. A further one, such as a translation of LanQ texts, is one
-//! more row of [`COMMANDS`].
+//! The commands. A further one is one more row of [`COMMANDS`].
 
 mod asm;
 mod batch;
@@ -10,6 +9,7 @@ mod list;
 mod run;
 mod same;
 mod timeline;
+mod translate;
 
 use crate::error::Failure;
 use crate::input::case::Case;
@@ -39,6 +39,7 @@ pub static COMMANDS: &[Command] = &[
     same::COMMAND,
     asm::COMMAND,
     list::COMMAND,
+    translate::COMMAND,
     batch::COMMAND,
 ];
 
@@ -131,9 +132,10 @@ fn overview() -> String {
     let mut text = "\
 usage: lanq COMMAND ...
 
-A CASE is a program with its schedule and outcomes: a text of the assembler (.lqa), an input file
-of the printing program (.bin), or a directory with program.lqa or program.bin, schedule.txt and
-outcomes.txt. Options give each part in place of the case's own.
+A CASE is a program with its schedule and outcomes: a LanQ text (.lanq, these in .lanq.run beside
+it), a text of the assembler (.lqa), an input file of the printing program (.bin), or a directory
+with program.lanq, program.lqa or program.bin, schedule.txt and outcomes.txt. Options give each part
+in place of the case's own.
 
 "
     .to_string();

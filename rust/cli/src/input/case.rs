@@ -24,6 +24,8 @@ pub struct Case {
     /// The program's file.
     pub name: String,
     pub program: Vec<u16>,
+    /// The LanQ text that the program was given as.
+    pub text: Option<Vec<u8>>,
     /// None where the table does not say where its methods start.
     pub code: Option<Code>,
     pub schedule: Vec<u8>,
@@ -53,12 +55,14 @@ impl CaseOptions {
     /// Reads the case.
     pub fn case(&self) -> Result<Case, Failure> {
         let found = match &self.path {
-            Some(path) if path.is_dir() => read_directory(path, self.program.is_none())?,
-            Some(path) => DirectoryParts { source: Some(source::read(path)?), ..DirectoryParts::default() },
+            Some(path) if path.is_dir() => read_directory(path, self.program.is_none(), self.machine)?,
+            Some(path) => {
+                DirectoryParts { source: Some(source::read(path, self.machine)?), ..DirectoryParts::default() }
+            }
             None => DirectoryParts::default(),
         };
         let source = match &self.program {
-            Some(path) => Some(source::read(path)?),
+            Some(path) => Some(source::read(path, self.machine)?),
             None => None,
         };
         // An option goes before the directory's file, and that before what
@@ -77,9 +81,9 @@ impl CaseOptions {
 
     /// The case with its schedule, made where it was asked for so.
     fn scheduled(&self, source: Source, asked: Option<Schedule>, outcomes: Vec<u8>) -> Result<Case, Failure> {
-        let Source { name, program, code, .. } = source;
-        let mut case =
-            Case { name, program, code, schedule: Vec::new(), outcomes, made: None, unscheduled: asked.is_none() };
+        let Source { name, program, text, code, .. } = source;
+        let unscheduled = asked.is_none();
+        let mut case = Case { name, program, text, code, schedule: Vec::new(), outcomes, made: None, unscheduled };
         match asked {
             None => (),
             Some(Schedule::Entries(entries)) => case.schedule = entries,
@@ -94,7 +98,12 @@ impl CaseOptions {
 
     /// Puts the questions and runs the case.
     pub fn run(&self, case: &Case) -> Result<Run, Failure> {
-        self.runner(case).run(&case.program, &case.schedule, &case.outcomes).map_err(|refusal| case.refused(refusal))
+        let mut runner = self.runner(case);
+        let ran = match &case.text {
+            Some(text) => runner.run_text(text, &case.schedule, &case.outcomes),
+            None => runner.run(&case.program, &case.schedule, &case.outcomes),
+        };
+        ran.map_err(|refusal| case.refused(refusal))
     }
 
     /// The machine with buffers for the case.
@@ -118,7 +127,7 @@ struct DirectoryParts {
     outcomes: Option<Vec<u8>>,
 }
 
-fn read_directory(path: &Path, needs_program: bool) -> Result<DirectoryParts, Failure> {
+fn read_directory(path: &Path, needs_program: bool, machine: Machine) -> Result<DirectoryParts, Failure> {
     let name = path.display().to_string();
     let programs = [ASSEMBLER, LANQ, TABLE].map(|ending| path.join(PROGRAM).with_extension(ending));
     let mut programs = programs.into_iter().filter(|path| path.exists());
@@ -127,7 +136,7 @@ fn read_directory(path: &Path, needs_program: bool) -> Result<DirectoryParts, Fa
             let names = [first, second].map(|path| path.file_name().unwrap_or_default().display().to_string());
             return Err(Failure::of(&name, format!("has two programs, {} and {}", names[0], names[1])));
         }
-        (Some(only), None) => Some(source::read(&only)?),
+        (Some(only), None) => Some(source::read(&only, machine)?),
         (None, _) if needs_program => {
             return Err(Failure::of(&name, format!("has no program.{ASSEMBLER}, program.{LANQ} or program.{TABLE}")));
         }

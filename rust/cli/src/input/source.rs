@@ -1,5 +1,4 @@
-//! A program from a file. The file's ending says what it is; texts in LanQ,
-//! `.lanq`, find their place in [`read`].
+//! A program from a file. The file's ending says what it is.
 
 use std::path::Path;
 
@@ -8,15 +7,22 @@ use data::{Question, Refusal};
 
 use crate::asm::assemble::{assemble, Assembly};
 use crate::asm::lex;
+use crate::asm::parse::parse;
 use crate::case_refusal::{CaseRefusal, RefusalPlace};
 use crate::code::Code;
-use crate::error::Failure;
+use crate::error::{Error, Failure};
 use crate::input::file::Parts;
+use crate::machine::Machine;
+use crate::text::names::code;
+use crate::text::place::TextPlace;
+use crate::text::reason::reason;
 
 /// A text of the assembler.
 pub const ASSEMBLER: &str = "lqa";
 /// A text in LanQ.
 pub const LANQ: &str = "lanq";
+/// What a LanQ text's schedule and outcomes stand in, beside it: `name.lanq.run`.
+pub const INPUTS: &str = "run";
 /// An input file of the printing program. Files of other endings are taken for
 /// such too.
 pub const TABLE: &str = "bin";
@@ -27,21 +33,21 @@ pub struct Source {
     /// The file.
     pub name: String,
     pub program: Vec<u16>,
+    /// The LanQ text that the program was given as.
+    pub text: Option<Vec<u8>>,
     /// None where the table does not say where its methods start.
     pub code: Option<Code>,
     pub schedule: Option<Vec<u8>>,
     pub outcomes: Option<Vec<u8>>,
 }
 
-/// Reads a program.
-pub fn read(path: &Path) -> Result<Source, Failure> {
+/// Reads a program; a LanQ text is translated by a machine.
+pub fn read(path: &Path, machine: Machine) -> Result<Source, Failure> {
     let name = path.display().to_string();
     let ending = path.extension().and_then(|ending| ending.to_str()).unwrap_or_default();
     match ending {
         ASSEMBLER => read_assembler(name, &bytes(path)?),
-        LANQ => {
-            Err(Failure::of(&name, format!("LanQ text is not read yet; the assembler's text ends in .{ASSEMBLER}")))
-        }
+        LANQ => read_lanq(path, machine),
         _ => read_table(name, &bytes(path)?),
     }
 }
@@ -63,7 +69,43 @@ fn read_assembler(name: String, bytes: &[u8]) -> Result<Source, Failure> {
     let assembled = lex::text(bytes).and_then(assemble);
     let Assembly { code, schedule, outcomes } = assembled.map_err(|error| Failure::in_text(&name, &error))?;
     let program = program::table(&code.methods);
-    Ok(Source { name, program, code: Some(code), schedule, outcomes })
+    Ok(Source { name, program, text: None, code: Some(code), schedule, outcomes })
+}
+
+/// A LanQ text, with what stands in the file beside it.
+fn read_lanq(path: &Path, machine: Machine) -> Result<Source, Failure> {
+    let name = path.display().to_string();
+    let text = bytes(path)?;
+    let program = machine.translate(&text).map_err(|refusal| refused_text(&name, &text, refusal, machine))?;
+    let methods = lanq::Program::from(program.as_slice()).methods();
+    let code = methods.ok().map(|methods| code(&text, methods));
+    let (schedule, outcomes) = read_inputs(&path.with_extension(format!("{LANQ}.{INPUTS}")))?;
+    Ok(Source { name, program, text: Some(text), code, schedule, outcomes })
+}
+
+/// A refusal of a text by 30, 31 or 32, in words.
+pub fn refused_text(name: &str, text: &[u8], refusal: Refusal, machine: Machine) -> Failure {
+    let rule = reason(text, refusal, &|text| machine.translate(text).err());
+    let at = RefusalPlace::Text(TextPlace::new(text, refusal.place));
+    Failure::Refused(Box::new(CaseRefusal { name: name.to_string(), refusal, rule, at }))
+}
+
+/// Schedule and outcomes of a LanQ text, written as in a text of the assembler;
+/// neither where the file is not there.
+type Inputs = (Option<Vec<u8>>, Option<Vec<u8>>);
+
+fn read_inputs(path: &Path) -> Result<Inputs, Failure> {
+    if !path.exists() {
+        return Ok((None, None));
+    }
+    let name = path.display().to_string();
+    let text = text(path)?;
+    let source = parse(&text).map_err(|error| Failure::in_text(&name, &error))?;
+    if let Some(method) = source.methods.first() {
+        let why = "expected `schedule` or `outcomes` alone, found a method";
+        return Err(Failure::in_text(&name, &Error::at(method.name.place, why)));
+    }
+    Ok((source.schedule, source.outcomes))
 }
 
 fn read_table(name: String, bytes: &[u8]) -> Result<Source, Failure> {
@@ -75,6 +117,7 @@ fn read_table(name: String, bytes: &[u8]) -> Result<Source, Failure> {
     Ok(Source {
         name,
         program: parts.program,
+        text: None,
         code: methods.ok().map(Code::of_table),
         schedule: Some(parts.schedule),
         outcomes: Some(parts.outcomes),

@@ -17,6 +17,7 @@ mod ops;
 mod questions;
 mod rules;
 mod same_lines;
+mod texts;
 
 use compare::inputs::{input, shortest};
 use compare::result::{by_library, by_model, difference, Buffers, RunResult};
