@@ -26,5 +26,5 @@ pub mod Partner
 pub mod Held
 pub mod Waiting
 pub mod Faults
-pub mod Reached
+pub mod Reachable
 pub mod NoClick

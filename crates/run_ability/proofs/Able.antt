@@ -22,7 +22,7 @@ use Rattle.machine.specs.Entry.{Meeting, offered, meetsWith, meetingOf, opposit
 use Rattle.machine.specs.Run.{allOver, noneAble, noneAbleIn}
 use Rattle.machine.specs.Owner.{valuesOf, reaches, holder}
 use Rattle.machine.specs.Sound.{Made, FrameSound, ProcessSound, ConfigSound}
-use Rattle.machine.proofs.Reached.{Reached, stacked, busy-at}
+use Rattle.machine.proofs.Reachable.{Reachable, stacked, busy-at}
 use Rattle.machine.proofs.Standing.{act-typed}
 use Rattle.machine.proofs.Sound.{config-sound}
 use Rattle.machine.proofs.Within.{OfferWithin, ActWithin, act-within}
@@ -53,7 +53,7 @@ use Rattle.run_ability.specs.PartnerCode.{oppositeOf, Partner, waits, re
 use Rattle.run_ability.specs.PartnerCode as code
 use Rattle.run_ability.specs.EndingCode.{aloneAbility, abilityOf, abilityOp, someIs, endingOp}
 
-module _ {p outcomes : List ℕ} {s : State} (reached : Reached p outcomes s) (rest : List ℕ) where
+module _ {p outcomes : List ℕ} {s : State} (reached : Reachable p outcomes s) (rest : List ℕ) where
   abbrev config : Config
   config = s .config
 

@@ -11,7 +11,7 @@ use Rattle.run_values.specs.ValuesCode.{afterStep, wentOn}
 use Rattle.run_ops.specs.OpsCode.{stepOp}
 use Rattle.run_parts.specs.PartsCode.{partAt, partOf, withPart, onPart}
 use Rattle.run_parts.proofs.Apart.{part-same}
-use Rattle.run_stretch.specs.StretchCode.{Ran, begins, goes-on}
+use Rattle.run_stretch.specs.StretchCode.{PlainSteps, begins, goes-on}
 use Rattle.run_stretch.proofs.Runs.{part-back}
 use Rattle.run_burst.specs.declared.knowledge.Knowledge.{Knowledge}
 use Rattle.run_burst.specs.KnowledgeCode.{nothingKnown, isIdle, knownAfterStep}
@@ -88,14 +88,14 @@ module _ (p schedule work : List ℕ) (long : 8192 ≤ length work) (n : ℕ) (l
           named-steps p (withPart work n w) n known l (not-idle known n none) refl (sym done)
           ∙ ap (λ (m : ℕ). namedOp p (withPart work n w) m known) (sym e)
 
-  steps-taken : (t : List (List ℕ)) {from k : ℕ} {w : List ℕ} → Ran p schedule n from (partOf work n) k w
+  steps-taken : (t : List (List ℕ)) {from k : ℕ} {w : List ℕ} → PlainSteps p schedule n from (partOf work n) k w
       → burstOp p t schedule work from known (length schedule - from) ≡ burstOp p t schedule (withPart work n w) k
       known (length schedule - k)
   steps-taken t {from} begins =
       ap (λ (u : List ℕ). burstOp p t schedule u from known (length schedule - from)) (sym (part-same work n))
   steps-taken t (goes-on {k} {w} {w′} r h e s s′ q) = steps-taken t r ∙ one-taken t k w w′ h e s q
 
-  pub taken : {from k : ℕ} {work′ : List ℕ} → Ran p schedule n from (partOf work n) k (partOf work′ n)
+  pub taken : {from k : ℕ} {work′ : List ℕ} → PlainSteps p schedule n from (partOf work n) k (partOf work′ n)
       → work′ ≡ withPart work n (partOf work′ n)
       → SameBurst p schedule known work from work′ k
   taken {from} {k} {work′} r e = record {
@@ -104,7 +104,7 @@ module _ (p schedule work : List ℕ) (long : 8192 ≤ length work) (n : ℕ) (l
 
 -- what was reached has as many words as a part
 pub reached-long : {p schedule : List ℕ} {n from k : ℕ} {w₀ w : List ℕ} → length w₀ ≡ 512
-    → Ran p schedule n from w₀ k w → length w ≡ 512
+    → PlainSteps p schedule n from w₀ k w → length w ≡ 512
 reached-long e begins = e
 reached-long e (goes-on r h i s s′ q) = s′
 

@@ -19,7 +19,7 @@ use Rattle.machine.specs.Act.{Offer, sends, receives, Act, idle, stuck, faults,
 use Rattle.machine.specs.Entry.{Effect, Meeting, joins, offered, meetsWith, meetingOf, isMeeting, meetIn, meetIfIn, gone, judged, applied, effectOf, moves, appliedIn, effectIn, movesIn, tableMachine}
 use Rattle.machine.specs.Owner.{valuesOf}
 use Rattle.machine.specs.Sound.{ProcessSound}
-use Rattle.machine.proofs.Reached.{Reached, busy-at, Running}
+use Rattle.machine.proofs.Reachable.{Reachable, busy-at, Running}
 use Rattle.machine.proofs.Typing.{Typed}
 use Rattle.machine.proofs.Effects.{effect-typed}
 use Rattle.machine.proofs.Within.{OfferWithin, ActWithin, act-within}
@@ -55,7 +55,7 @@ use Rattle.run_entry.proofs.Paired.{pairBy, pairOp, joinOp, offerOp, st
 
 module _ {p outcomes : List ℕ} {s : State} {t0 : List ℕ} {room : ℕ} (here : Here p outcomes s t0 room)
     (rest : List ℕ) (k n : ℕ) where
-  abbrev reached : Reached p outcomes s
+  abbrev reached : Reachable p outcomes s
   reached = here .reached
 
   abbrev c : Config

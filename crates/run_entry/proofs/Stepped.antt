@@ -23,7 +23,7 @@ use Rattle.machine.specs.Entry.{Effect, runs, judged, applied, effectOf, moves,
 use Rattle.machine.specs.Owner.{valuesOf}
 use Rattle.machine.specs.Answer.{traceAfter}
 use Rattle.machine.specs.Sound.{ProcessSound}
-use Rattle.machine.proofs.Reached.{Reached, busy-at, Running}
+use Rattle.machine.proofs.Reachable.{Reachable, busy-at, Running}
 use Rattle.machine.proofs.Typing.{FrameTyped}
 use Rattle.machine.proofs.Acts.{ActTyped}
 use Rattle.machine.proofs.Standing.{act-typed}
@@ -141,7 +141,7 @@ module _ {p outcomes : List ℕ} {s : State} {t0 : List ℕ} {room : ℕ} (here 
     (rest : List ℕ) (k n : ℕ) (owned : own.Kept (s .config) (s .lines)) (t : List (List ℕ))
     (holding : Holding t (s .lines))
     (near : n < 8) where
-  abbrev reached : Reached p outcomes s
+  abbrev reached : Reachable p outcomes s
   reached = here .reached
 
   abbrev c : Config

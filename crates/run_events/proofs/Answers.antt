@@ -23,7 +23,7 @@ use Rattle.machine.specs.State.{Frame, State, Event, atPlace, withPending, push
 use Rattle.machine.specs.Act.{Act, idle, stuck, faults, goes, ends, makes, forks, offers, At, withOutcome, doNewQ, doNewC, doGate, doGateOne, doGateTwo, doMeas, doings, doingOf, passedBy}
 use Rattle.machine.specs.Entry.{runs, making}
 use Rattle.machine.specs.Sound.{ValueSound, FrameSound}
-use Rattle.machine.proofs.Reached.{stacked, AtWork}
+use Rattle.machine.proofs.Reachable.{stacked, AtWork}
 use Rattle.layout.specs.Layout.{valueWords, processWords}
 use Rattle.layout.proofs.Frames.{tagOf, numberOf}
 use Rattle.run_store.specs.declared.values.Val.{Val}

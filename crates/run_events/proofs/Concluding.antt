@@ -15,7 +15,7 @@ use Rattle.table.specs.Table.{opAt, argAt}
 use Rattle.machine.specs.State.{Frame, State, finished, stopped, finishes}
 use Rattle.machine.specs.Act.{Act, idle, stuck, faults, goes, ends, makes, forks, offers, atFrame}
 use Rattle.machine.specs.Entry.{runs, making}
-use Rattle.machine.proofs.Reached.{AtWork}
+use Rattle.machine.proofs.Reachable.{AtWork}
 use Rattle.layout.specs.Layout.{processWords}
 use Rattle.layout.proofs.RoundTrip.{process-length}
 use Rattle.run_store.specs.declared.head.Head.{Head}

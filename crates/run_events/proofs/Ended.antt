@@ -5,7 +5,7 @@ use mathlib.Core.List.{List, [], _∷_, flatten}
 use lib.ListN.{set, length}
 use Rattle.machine.specs.State.{Frame, Config, finished, stopped}
 use Rattle.machine.specs.Entry.{runs}
-use Rattle.machine.proofs.Reached.{Stack}
+use Rattle.machine.proofs.Reachable.{Stack}
 use Rattle.layout.specs.Layout.{padded, statusWords, processWords}
 use Rattle.run_store.specs.declared.head.Head.{Head}
 use Rattle.run_store.specs.StoreCode.{finishedHead, stoppedHead, putStatus}

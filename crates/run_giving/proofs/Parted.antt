@@ -16,7 +16,7 @@ use Rattle.machine.specs.State.{Frame, State, Config, atPlace, withPending, sta
 use Rattle.machine.specs.Act.{passedBy}
 use Rattle.machine.specs.Entry.{lostWith, without, frameWithout, framesWithout, thingsOf, runs}
 use Rattle.machine.specs.Sound.{FrameSound}
-use Rattle.machine.proofs.Reached.{Stack, stacked, AtWork}
+use Rattle.machine.proofs.Reachable.{Stack, stacked, AtWork}
 use Rattle.layout.specs.Layout.{padded, valueWords, headWords, frameValues, statusWords, processWords}
 use Rattle.layout.proofs.Frames.{tagOf}
 use Rattle.run_store.specs.declared.head.Head.{Head}

@@ -10,7 +10,7 @@ use Rattle.table.specs.Table.{offsetOf}
 use Rattle.machine.specs.Value.{Value, empty}
 use Rattle.machine.specs.State.{Frame, Config, atPlace, withPending, push, started}
 use Rattle.machine.specs.Entry.{runs}
-use Rattle.machine.proofs.Reached.{Stack, stacked}
+use Rattle.machine.proofs.Reachable.{Stack, stacked}
 use Rattle.layout.specs.Layout.{padded, valueWords, headWords, frameValues, processWords}
 use Rattle.layout.proofs.Frames.{tagOf, numberOf, write, frame-slot-set, frame-pop, frame-pending-get, frame-size}
 use Rattle.layout.proofs.Process.{Fitting, headsBelow, valuesBelow, process-fitting, below-heads, below-values}

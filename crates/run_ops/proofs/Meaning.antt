@@ -24,7 +24,7 @@ use Rattle.machine.specs.State.{Frame, State, atPlace, withPending, withSlot, s
 use Rattle.machine.specs.Act.{Act, idle, stuck, faults, goes, ends, makes, forks, offers, At, present, pushes, twoInts, result, doInt, doBool, doGet, doPut, doDrop, doClear, doEnd, doJump, doJFalse, doAdd, doSub, doEq, doLess, doNot, doCall, doRet, returnTo, doings, doingOf, passedBy, sceneOf, atFrame}
 use Rattle.machine.specs.Entry.{runs}
 use Rattle.machine.specs.Sound.{ValueSound}
-use Rattle.machine.proofs.Reached.{Stack, AtWork}
+use Rattle.machine.proofs.Reachable.{Stack, AtWork}
 use Rattle.layout.specs.Layout.{valueWords, processWords}
 use Rattle.layout.proofs.Frames.{tagOf, numberOf}
 use Rattle.run_store.specs.declared.values.Val.{Val}

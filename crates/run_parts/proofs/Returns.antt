@@ -14,7 +14,7 @@ use Rattle.lists.proofs.Tests.{took, passed-by, off, on}
 use Rattle.run_values.specs.ValuesCode.{isSend, emptyTwo}
 use Rattle.run_values.specs.declared.steps.StepResult.the-variants.{AtSend, AtRecv}
 use Rattle.run_parts.specs.declared.readiness.ReadinessKind.{ReadinessKind}
-use Rattle.run_parts.specs.declared.readiness.ReadinessKind.the-variants.{Over, Moves, Sends, Receives}
+use Rattle.run_parts.specs.declared.readiness.ReadinessKind.the-variants.{Idle, Moves, Sends, Receives}
 use types.Run.{OneOf, miss}
 use denote.Enum.Declared.{tagOf}
 use Rattle.run_parts.proofs.readiness.ReadinessKind.{the-type}
@@ -55,7 +55,7 @@ module _ (p w : List ℕ) (runs : headOf w .status ≡ 1) where
       ap
       (λ (b : Bool). cond b
       (cond (eqb (opAt p (headOf w .place)) 15) (sendOf w (headOf w))
-      (cond (eqb (opAt p (headOf w .place)) 16) (receiveOf w (headOf w)) (noOffer Moves))) (noOffer Over))
+      (cond (eqb (opAt p (headOf w .place)) 16) (receiveOf w (headOf w)) (noOffer Moves))) (noOffer Idle))
       (eq-eqb (headOf w .status) 1 runs)
       ∙ ap (λ (n : ℕ). cond (eqb n 15) (sendOf w (headOf w))
       (cond (eqb n 16) (receiveOf w (headOf w)) (noOffer Moves))) e
@@ -75,7 +75,7 @@ nothing-alone p w h =
     go (eqb (headOf w .status) 1) (eqb (opAt p (headOf w .place)) 15) (eqb (opAt p (headOf w .place)) 16) h
   where
     go : (a b c : Bool) → cond a (not b && not c) false ≡ true
-        → cond a (cond b (sendOf w (headOf w)) (cond c (receiveOf w (headOf w)) (noOffer Moves))) (noOffer Over) .kind
+        → cond a (cond b (sendOf w (headOf w)) (cond c (receiveOf w (headOf w)) (noOffer Moves))) (noOffer Idle) .kind
         ≡ Moves
     go true true c e = absurd (true≢false (sym e))
     go true false true e = absurd (true≢false (sym e))
@@ -161,7 +161,7 @@ butOver = 1 ∷ 2 ∷ 3 ∷ []
 
 pub not-over : (k : ReadinessKind) → OneOf butOver (tagOf the-type k) → false ≡ overKind k
 unfolding overKind
-not-over Over h = absurd (miss butOver 0 tt h)
+not-over Idle h = absurd (miss butOver 0 tt h)
 not-over Moves h = refl
 not-over Sends h = refl
 not-over Receives h = refl
@@ -171,7 +171,7 @@ butSends = 0 ∷ 1 ∷ 3 ∷ []
 
 pub not-sending : (k : ReadinessKind) → OneOf butSends (tagOf the-type k) → false ≡ sendKind k
 unfolding sendKind
-not-sending Over h = refl
+not-sending Idle h = refl
 not-sending Moves h = refl
 not-sending Sends h = absurd (miss butSends 2 tt h)
 not-sending Receives h = refl
@@ -181,7 +181,7 @@ butReceives = 0 ∷ 1 ∷ 2 ∷ []
 
 pub not-receiving : (k : ReadinessKind) → OneOf butReceives (tagOf the-type k) → false ≡ receiveKind k
 unfolding receiveKind
-not-receiving Over h = refl
+not-receiving Idle h = refl
 not-receiving Moves h = refl
 not-receiving Sends h = refl
 not-receiving Receives h = absurd (miss butReceives 3 tt h)
@@ -191,7 +191,7 @@ butOffers = 0 ∷ 1 ∷ []
 
 pub not-offering : (k : ReadinessKind) → OneOf butOffers (tagOf the-type k) → false ≡ offerKind k
 unfolding offerKind
-not-offering Over h = refl
+not-offering Idle h = refl
 not-offering Moves h = refl
 not-offering Sends h = absurd (miss butOffers 2 tt h)
 not-offering Receives h = absurd (miss butOffers 3 tt h)

@@ -17,7 +17,7 @@ use Rattle.machine.specs.Value.{qubit, channel, end, Value, empty, int, bool, r
 use Rattle.machine.specs.State.{Frame, State, finished, stopped, atPlace, withPending}
 use Rattle.machine.specs.Act.{Offer, sends, receives, Act, idle, stuck, faults, goes, ends, makes, forks, offers, At, doSend, doRecv, doings, doingOf, atFrame}
 use Rattle.machine.specs.Entry.{runs, Meeting, joins, offered, meetsWith, isMeeting}
-use Rattle.machine.proofs.Reached.{AtWork}
+use Rattle.machine.proofs.Reachable.{AtWork}
 use Rattle.layout.specs.Layout.{padded, valueWords, statusWords, processWords}
 use Rattle.layout.proofs.Frames.{tagOf, numberOf}
 use Rattle.run_store.specs.declared.values.Val.{Val}
@@ -29,14 +29,14 @@ use Rattle.run_values.specs.ValuesCode as valuesCode
 use Rattle.run_values.proofs.Places.{head-is}
 use Rattle.run_ops.proofs.Meaning.{w, hd, scene, act, act-one, act-two, act-short, taken-by, tag-test, read-top, read-second}
 use Rattle.run_parts.specs.declared.readiness.ReadinessKind.{ReadinessKind}
-use Rattle.run_parts.specs.declared.readiness.ReadinessKind.the-variants.{Over, Moves, Sends, Receives}
+use Rattle.run_parts.specs.declared.readiness.ReadinessKind.the-variants.{Idle, Moves, Sends, Receives}
 use Rattle.run_parts.specs.declared.readiness.Readiness.{Readiness}
 use Rattle.run_parts.specs.ReadinessCode.{noOffer, sendOf, receiveOf, readinessOp, eitherWay, meetsOp, sendKind, receiveKind, oppositeKinds}
 use Rattle.run_parts.proofs.Alone.{Alone, frame-alone}
 
 -- The readiness of a process with this act. A process that is stuck may stand at anything.
 abbrev pub Stands : Act → Readiness → Type 0
-Stands idle st = st ≡ noOffer Over
+Stands idle st = st ≡ noOffer Idle
 Stands stuck st = Unit {0}
 Stands (faults n) st = st ≡ noOffer Moves
 Stands (goes fs es u) st = st ≡ noOffer Moves
@@ -85,21 +85,21 @@ alone-from f fs (offers o) h = absurd h
 -- a process that is not running
 
 module _ (p : List ℕ) where
-  pub stand-over : (w : List ℕ) → (headOf w .status ≡ 1 → ⊥) → readinessOp p w ≡ noOffer Over
+  pub stand-over : (w : List ℕ) → (headOf w .status ≡ 1 → ⊥) → readinessOp p w ≡ noOffer Idle
   unfolding readinessOp
   stand-over w h =
       ap (λ (b : Bool). cond b
       (cond (eqb (opAt p (headOf w .place)) 15) (sendOf w (headOf w))
       (cond (eqb (opAt p (headOf w .place)) 16) (receiveOf w (headOf w)) (noOffer Moves)))
-      (noOffer Over))
+      (noOffer Idle))
       (ne-eqb (headOf w .status) 1 h)
 
-  pub finished-stand : readinessOp p (processWords (record { status = finished; frames = [] })) ≡ noOffer Over
+  pub finished-stand : readinessOp p (processWords (record { status = finished; frames = [] })) ≡ noOffer Idle
   unfolding headOf processWords statusWords padded
   finished-stand = stand-over (processWords (record { status = finished; frames = [] })) (λ e. omega arith)
 
   pub stopped-stand : (n : ℕ) (fs : List Frame)
-      → readinessOp p (processWords (record { status = stopped n; frames = fs })) ≡ noOffer Over
+      → readinessOp p (processWords (record { status = stopped n; frames = fs })) ≡ noOffer Idle
   unfolding headOf processWords statusWords padded
   stopped-stand n fs = stand-over (processWords (record { status = stopped n; frames = fs })) (λ e. omega arith)
 
@@ -107,7 +107,7 @@ module _ (p : List ℕ) where
   zero-first zero = refl
   zero-first (suc n) = refl
 
-  pub unmade-stand : readinessOp p (replicate 512 0) ≡ noOffer Over
+  pub unmade-stand : readinessOp p (replicate 512 0) ≡ noOffer Idle
   unfolding headOf
   unmade-stand = stand-over (replicate 512 0) (λ e. omega (arith, zero-first 512))
 
@@ -142,7 +142,7 @@ module _ {p : List ℕ} (outcomes : List ℕ) (s : State) {f : Frame} {fs : List
       ap (λ (h : Head). cond (eqb (h .status) 1)
       (cond (eqb (opAt p (h .place)) 15) (sendOf words h)
       (cond (eqb (opAt p (h .place)) 16) (receiveOf words h) (noOffer Moves)))
-      (noOffer Over))
+      (noOffer Idle))
       (head-is (busy .stack))
 
   -- too few pending values
@@ -334,7 +334,7 @@ meets-no-offer k st m n =
 
 pub meets-none : (a : Act) (st st′ : Readiness) → offered a ≡ none → a ≢ stuck → Stands a st′ → meetsOp st st′ ≡ false
 unfolding offered sendKind receiveKind
-meets-none idle st st′ e n h = ap (meetsOp st) h ∙ meets-no-offer Over st refl refl
+meets-none idle st st′ e n h = ap (meetsOp st) h ∙ meets-no-offer Idle st refl refl
 meets-none stuck st st′ e n h = absurd (n refl)
 meets-none (faults f) st st′ e n h = ap (meetsOp st) h ∙ meets-no-offer Moves st refl refl
 meets-none (goes fs es u) st st′ e n h = ap (meetsOp st) h ∙ meets-no-offer Moves st refl refl

@@ -10,30 +10,30 @@ use Rattle.run_store.specs.StoreCode.{valueAt, headOf, topAt}
 use Rattle.run_values.specs.ValuesCode.{emptyVal, emptyTwo, isSend}
 use Rattle.run_values.specs.declared.steps.StepResult.{StepResult}
 use Rattle.run_parts.specs.declared.readiness.ReadinessKind.{ReadinessKind}
-use Rattle.run_parts.specs.declared.readiness.ReadinessKind.the-variants.{Over, Moves, Sends, Receives}
+use Rattle.run_parts.specs.declared.readiness.ReadinessKind.the-variants.{Idle, Moves, Sends, Receives}
 use Rattle.run_parts.specs.declared.readiness.Readiness.{Readiness}
 
 -- what a kind of readiness says: over; offers to send; offers to receive; offers one of the two
 unfoldable pub overKind : ReadinessKind → Bool
-overKind Over = true
+overKind Idle = true
 overKind Moves = false
 overKind Sends = false
 overKind Receives = false
 
 unfoldable pub sendKind : ReadinessKind → Bool
-sendKind Over = false
+sendKind Idle = false
 sendKind Moves = false
 sendKind Sends = true
 sendKind Receives = false
 
 unfoldable pub receiveKind : ReadinessKind → Bool
-receiveKind Over = false
+receiveKind Idle = false
 receiveKind Moves = false
 receiveKind Sends = false
 receiveKind Receives = true
 
 unfoldable pub offerKind : ReadinessKind → Bool
-offerKind Over = false
+offerKind Idle = false
 offerKind Moves = false
 offerKind Sends = true
 offerKind Receives = true
@@ -56,7 +56,7 @@ readinessOp p w =
     cond (eqb (headOf w .status) 1)
     (cond (eqb (opAt p (headOf w .place)) 15) (sendOf w (headOf w))
     (cond (eqb (opAt p (headOf w .place)) 16) (receiveOf w (headOf w)) (noOffer Moves)))
-    (noOffer Over)
+    (noOffer Idle)
 
 -- the same where its step answered that it stands at SEND or RECV
 unfoldable pub offerOf : List ℕ → StepResult → Readiness

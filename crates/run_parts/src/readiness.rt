@@ -18,7 +18,7 @@ use table::words::word_at;
 // What a process can do: it is over or not made; it moves by itself, by a step or a fault; it offers to send; it offers
 // to receive.
 pub enum ReadinessKind {
-    Over,
+    Idle,
     Moves,
     Sends,
     Receives,
@@ -28,7 +28,7 @@ pub fn is_over(kind: ReadinessKind) -> bool
     ensures { λ r. ⌜ r ≡ overKind kind ⌝ }
 {
     match kind {
-        ReadinessKind::Over => true,
+        ReadinessKind::Idle => true,
         _ => false,
     }
 }
@@ -115,7 +115,7 @@ pub fn read_readiness(p: &[u16], start: usize, w: &[u32]) -> Readiness
 {
     let h = read_head(w);
     if h.status != 1 {
-        return bare(ReadinessKind::Over);
+        return bare(ReadinessKind::Idle);
     }
     let op = word_at(p, start + 2 * (h.place as usize));
     if op == 15 {

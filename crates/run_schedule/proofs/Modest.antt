@@ -19,7 +19,7 @@ use Rattle.machine.specs.Value.{qubit, channel, end, Value, empty, int, bool, r
 use Rattle.machine.specs.State.{Frame, Status, running, finished, stopped, State, processAt, lineOf, gave}
 use Rattle.machine.specs.Act.{sends, receives, Act, idle, stuck, faults, goes, ends, makes, forks, offers, At, operand, asEnd, doSend, doRecv, doings, doingOf, sceneOf, atFrame, atFrames, byStatus, actOf}
 use Rattle.machine.specs.Entry.{Effect, Meeting, thingsOf, handing, meetIn, meetIfIn, meetingOf, forking, applied, effectOf, appliedIn, effectIn, forkingIn, tableMachine}
-use Rattle.machine.proofs.Reached.{Reached}
+use Rattle.machine.proofs.Reachable.{Reachable}
 use Rattle.machine.proofs.Acts.{ActTyped}
 use Rattle.machine.proofs.Standing.{act-typed}
 use Rattle.machine.proofs.Gone.{judged-keeps}
@@ -155,7 +155,7 @@ module _ (p : List ℕ) (kept : Kept p) (outcomes : List ℕ) (s : State) (ks : 
   )
   applied-modest (offers o) h t = met-modest (meetingOf p outcomes s n o)
 
-pub modest : {p outcomes : List ℕ} {s : State} → Reached p outcomes s → (k n : ℕ)
+pub modest : {p outcomes : List ℕ} {s : State} → Reachable p outcomes s → (k n : ℕ)
     → (effectOf p outcomes k s n .used ≤ 1) × (length (effectOf p outcomes k s n .lines) ≤ 17)
 unfolding effectIn appliedIn
 modest {p} {outcomes} {s} r k n =

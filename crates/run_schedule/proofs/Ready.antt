@@ -21,7 +21,7 @@ use Rattle.machine.specs.Entry.{judged, Effect, nothing, applied, effectOf, mov
 use Rattle.machine.specs.Run.{fits, afterEffect, ended, runFrom, run}
 use Rattle.machine.specs.Answer.{traceWords, traceAfter}
 use Rattle.machine.specs.Sound.{ConfigSound}
-use Rattle.machine.proofs.Reached.{Reached}
+use Rattle.machine.proofs.Reachable.{Reachable}
 use Rattle.machine.proofs.Unmade.{unmade-idle}
 use Rattle.machine.proofs.Steps.{unable-nothing, after-nothing, stateAt, ending, at-typed, at-kept, at-start, at-next, at-last, able-goes}
 use Rattle.machine.proofs.Ownership as own
@@ -118,7 +118,7 @@ module _ {p schedule outcomes t0 rest : List ℕ} {room : ℕ} (given : Inputs p
   }
 
   module _ (k : ℕ) where
-    pub reached : Reached p outcomes (at k)
+    pub reached : Reachable p outcomes (at k)
     reached =
         let (kinds, typed) = at-typed p outcomes schedule (given .kept) (given .bytes) k in
         record { kept = given .kept; narrow = given .narrow; bytes = given .bytes; kinds = kinds; typed = typed }

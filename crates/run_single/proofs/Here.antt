@@ -4,9 +4,9 @@ use Prim.Native.Nat.{ℕ, _*_, _≤_, _<_}
 use mathlib.Core.List.{List}
 use lib.ListN.{length}
 use Rattle.machine.specs.State.{State}
-use Rattle.machine.proofs.Reached.{Reached}
+use Rattle.machine.proofs.Reachable.{Reachable}
 
 pub record Here (p outcomes : List ℕ) (s : State) (t0 : List ℕ) (room : ℕ) : Type 0 where
-  pub reached : Reached p outcomes s
+  pub reached : Reachable p outcomes s
   pub holds : 6 * room ≤ length t0
   pub small : s .used < 4000000000

@@ -18,7 +18,7 @@ use Rattle.machine.specs.Entry.{judged, Effect, runs, counted, making, applied,
 use Rattle.machine.specs.Run.{fits}
 use Rattle.machine.specs.Answer.{traceAfter}
 use Rattle.machine.specs.Sound.{IsFault, FrameSound, ConfigSound}
-use Rattle.machine.proofs.Reached.{Reached, Running}
+use Rattle.machine.proofs.Reachable.{Reachable, Running}
 use Rattle.machine.proofs.Typing.{Typed}
 use Rattle.machine.proofs.Effects.{effect-typed}
 use Rattle.machine.proofs.Sound.{config-sound}
@@ -50,7 +50,7 @@ counted-process (end q d) c n = refl
 
 module _ {p outcomes : List ℕ} {s : State} {t0 : List ℕ} {room : ℕ} (here : Here p outcomes s t0 room)
     (rest : List ℕ) (k n : ℕ) where
-  abbrev reached : Reached p outcomes s
+  abbrev reached : Reachable p outcomes s
   reached = here .reached
 
   abbrev pub config : Config

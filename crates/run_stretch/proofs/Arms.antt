@@ -17,11 +17,11 @@ use Rattle.run_values.proofs.Returns.{full-goes, two-go}
 use Rattle.run_stretch.specs.declared.cursor.Cursor.{Cursor}
 use Rattle.run_stretch.specs.declared.cursor.Top.{Top}
 use Rattle.run_stretch.specs.declared.cursor.Two.{Two}
-use Rattle.run_stretch.specs.StretchCode.{headWith, laid, Steady, TopRead, TwoRead}
+use Rattle.run_stretch.specs.StretchCode.{headWith, laid, HeadFits, TopRead, TwoRead}
 use Rattle.run_stretch.proofs.Laid.{read-far}
 use Rattle.run_stretch.proofs.Shapes.{drops-on}
 
-module _ {h : Head} {w : List ℕ} {c : Cursor} (s : Steady h w c) where
+module _ {h : Head} {w : List ℕ} {c : Cursor} (s : HeadFits h w c) where
   far-top : (n : ℕ) → n ≤ c .pending → valueAt (laid w h c) (topAt (headWith h c) n) ≡ valueAt w (topAt (headWith h c)
       n)
   unfolding topAt headWith

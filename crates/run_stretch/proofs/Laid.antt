@@ -1,5 +1,5 @@
--- The words of a process with the cursor put back: values stand far from the head's words, so that the two can be written in any
--- order.
+-- The words of a process with the cursor put back: values stand far from the head's words, so that the two can be
+-- written in any order.
 use Prim.Native.Nat.{ℕ, _+_, _*_, _%_, _-_, _≤_, _<_}
 use mathlib.Core.Path.{_≡_, refl, sym, _∙_, ap}
 use mathlib.Core.Bool.{true, false, true≢false}
@@ -13,7 +13,7 @@ use Rattle.run_store.specs.declared.head.Head.{Head}
 use Rattle.run_store.specs.StoreCode.{valueAt, putValue, headAt, headOf, putTop, movedTo, stepped, pushed, popped}
 use Rattle.run_values.specs.ValuesCode.{AfterStep, afterStep}
 use Rattle.run_stretch.specs.declared.cursor.Cursor.{Cursor}
-use Rattle.run_stretch.specs.StretchCode.{headWith, laid, cursor, haltedAt, Steady, Goes}
+use Rattle.run_stretch.specs.StretchCode.{headWith, laid, cursor, haltedAt, HeadFits, CursorStep}
 
 -- one word far from the head's
 module _ (h : Head) (c : Cursor) (most : h .frames ≤ 8) where
@@ -103,8 +103,8 @@ module _ (h : Head) (c : Cursor) where
 
 -- what holds all the while
 
-module _ {h : Head} {w : List ℕ} {c : Cursor} (s : Steady h w c) where
-  pub steady-at : (r : Cursor) → r .pending ≤ 8 → Steady h w r
+module _ {h : Head} {w : List ℕ} {c : Cursor} (s : HeadFits h w c) where
+  pub steady-at : (r : Cursor) → r .pending ≤ 8 → HeadFits h w r
   steady-at r few = record {
     long = s .long;
     least = s .least;
@@ -116,7 +116,7 @@ module _ {h : Head} {w : List ℕ} {c : Cursor} (s : Steady h w c) where
     method = s .method;
   }
 
-  pub steady-put : (i : ℕ) (v : Val) → 64 ≤ i → Steady h (putValue w i v) c
+  pub steady-put : (i : ℕ) (v : Val) → 64 ≤ i → HeadFits h (putValue w i v) c
   unfolding putValue headAt
   steady-put i v far = record {
     long = length-set (set w i (v .tag)) (i + 1) (v .number) ∙ length-set w i (v .tag) ∙ s .long;
@@ -188,8 +188,8 @@ module _ {h : Head} {w : List ℕ} {c : Cursor} (s : Steady h w c) where
           (omega (arith, s .long, s .most, length-set w (4 + 4 * h .frames + 1) (c .place)))
 
   -- nothing was done
-  pub halts : {d : AfterStep} {w′ : List ℕ} {r : Cursor} {I : ℕ → Type 0} → r ≡ haltedAt c → w′ ≡ w → Goes d I h w c w′
-      r
+  pub halts : {d : AfterStep} {w′ : List ℕ} {r : Cursor} {I : ℕ → Type 0} → r ≡ haltedAt c → w′ ≡ w
+      → CursorStep d I h w c w′ r
   unfolding laid headWith
   halts {r = r} e q = record {
     going = λ z. absurd (true≢false (ap (λ (x : Cursor). x .halted) (sym e) ∙ z));
@@ -209,7 +209,7 @@ laid-first w {h} e =
 
 pub steady-first : (w : List ℕ) {h : Head} → h ≡ headOf w → length w ≡ 512 → 1 ≤ h .frames → h .frames ≤ 8 → h .pending
     ≤ 8
-    → Steady h w (cursor (h .place) (h .pending))
+    → HeadFits h w (cursor (h .place) (h .pending))
 unfolding headOf
 steady-first w {h} e long least most few = record {
   long = long;

@@ -19,21 +19,21 @@ use Rattle.run_parts.specs.PartsCode.{partAt, partOf, withPart}
 use Rattle.run_parts.proofs.Lifted.{lifted-words, part-lent}
 use Rattle.run_parts.proofs.Apart.{part-long}
 use Rattle.run_stretch.specs.declared.cursor.Cursor.{Cursor}
-use Rattle.run_stretch.specs.StretchCode.{headWith, laid, cursor, Steady, Goes, Does, Halts, Ran, begins, goes-on}
+use Rattle.run_stretch.specs.StretchCode.{headWith, laid, cursor, HeadFits, CursorStep, Does, Halts, PlainSteps, begins, goes-on}
 use Rattle.run_stretch.proofs.Laid.{head-laid, laid-first, steady-at}
 use Rattle.run_stretch.proofs.Shapes.{goes-as}
 
 -- the step of a process that runs is its op's
 pub steps-on : (p : List ℕ) (start : ℕ) {h : Head} {w : List ℕ} {c : Cursor} {w′ : List ℕ} {r : Cursor} {op a : ℕ} →
-    Steady h w c → h .status ≡ 1
+    HeadFits h w c → h .status ≡ 1
     → start ≡ 2 + 20 * methods p → op ≡ word p (start + 2 * c .place) → a ≡ word p (start + 2 * c .place + 1)
-    → {I : ℕ → Type 0} → Goes (actOp p (laid w h c) (headWith h c) op a) I h w c w′ r → Goes (stepOp p (laid w h c)) I h
-    w c w′ r
+    → {I : ℕ → Type 0} → CursorStep (actOp p (laid w h c) (headWith h c) op a) I h w c w′ r
+    → CursorStep (stepOp p (laid w h c)) I h w c w′ r
 unfolding headWith
 steps-on p start {h} {w} {c} s e b o i g = goes-as (sym (step-acts p (laid w h c) start {h = headWith h c} (sym
     (head-laid s)) e b o i refl)) g
 
-pub laid-long : {h : Head} {w : List ℕ} {c : Cursor} → Steady h w c → length (laid w h c) ≡ 512
+pub laid-long : {h : Head} {w : List ℕ} {c : Cursor} → HeadFits h w c → length (laid w h c) ≡ 512
 unfolding laid putTop headWith
 laid-long {h} {w} {c} s =
     length-set (set w (headAt (h .frames) + 1) (c .place)) (headAt (h .frames) + 2) (c .pending)
@@ -46,25 +46,26 @@ unfolding laid headWith
 laid-by w h c = refl
 
 module _ {p schedule : List ℕ} {n from : ℕ} {w₀ : List ℕ} where
-  pub ran-up : {k : ℕ} {w : List ℕ} → Ran p schedule n from w₀ k w → from ≤ k
+  pub ran-up : {k : ℕ} {w : List ℕ} → PlainSteps p schedule n from w₀ k w → from ≤ k
   ran-up begins = omega arith
   ran-up (goes-on q l e long long′ s) = omega (arith, ran-up q)
 
-  pub ran-same : {k : ℕ} {w w′ : List ℕ} → Ran p schedule n from w₀ k w → w′ ≡ w → Ran p schedule n from w₀ k w′
-  ran-same {k} r e = subst (Ran p schedule n from w₀ k) (sym e) r
+  pub ran-same : {k : ℕ} {w w′ : List ℕ} → PlainSteps p schedule n from w₀ k w → w′ ≡ w
+      → PlainSteps p schedule n from w₀ k w′
+  ran-same {k} r e = subst (PlainSteps p schedule n from w₀ k) (sym e) r
 
   -- one step more at the cursor
-  pub ran-step : {k : ℕ} {h : Head} {w w′ : List ℕ} {c d : Cursor} → Ran p schedule n from w₀ k (laid w h c) → k <
-      length schedule → getD schedule k 0 ≡ n
-      → Steady h w c → {I : ℕ → Type 0} → Goes (stepOp p (laid w h c)) I h w c w′ d → d .halted ≡ false → Ran p schedule
-      n from w₀ (k + 1) (laid w′ h d)
+  pub ran-step : {k : ℕ} {h : Head} {w w′ : List ℕ} {c d : Cursor} → PlainSteps p schedule n from w₀ k (laid w h c) →
+      k < length schedule → getD schedule k 0 ≡ n
+      → HeadFits h w c → {I : ℕ → Type 0} → CursorStep (stepOp p (laid w h c)) I h w c w′ d → d .halted ≡ false
+      → PlainSteps p schedule n from w₀ (k + 1) (laid w′ h d)
   ran-step r l e s g z = goes-on r l e (laid-long s) (laid-long (g .steady)) (g .going z)
 
   -- where the frame's entries end
-  pub frame-ends : {k : ℕ} (h : Head) (w : List ℕ) (c : Cursor) → Ran p schedule n from w₀ k (laid w h c) → Steady h w c
-      → k ≤ length schedule
+  pub frame-ends : {k : ℕ} (h : Head) (w : List ℕ) (c : Cursor) → PlainSteps p schedule n from w₀ k (laid w h c)
+      → HeadFits h w c → k ≤ length schedule
       → {Why : Type 0} → Why
-      → Ran p schedule n from w₀ k (laid w h (cursor (c .place) (c .pending))) × Steady h w (cursor (c .place)
+      → PlainSteps p schedule n from w₀ k (laid w h (cursor (c .place) (c .pending))) × HeadFits h w (cursor (c .place)
       (c .pending)) × (k ≤ length schedule) × Why
   frame-ends h w c r s l why = (
     ran-same r (sym (laid-by w h c)),
@@ -74,20 +75,20 @@ module _ {p schedule : List ℕ} {n from : ℕ} {w₀ : List ℕ} where
   )
 
   -- entries and then those after them
-  pub ran-then : {k k′ : ℕ} {w w′ : List ℕ} → Ran p schedule n from w₀ k w → Ran p schedule n k w k′ w′ → Ran p schedule
-      n from w₀ k′ w′
+  pub ran-then : {k k′ : ℕ} {w w′ : List ℕ} → PlainSteps p schedule n from w₀ k w
+      → PlainSteps p schedule n k w k′ w′ → PlainSteps p schedule n from w₀ k′ w′
   ran-then r begins = r
   ran-then r (goes-on q l e long long′ s) = goes-on (ran-then r q) l e long long′ s
 
 -- a cursor that halts stands where it stood
-pub halted-place : {h : Head} {w w′ : List ℕ} {c d : Cursor} → Steady h w c → Steady h w′ d → laid w′ h d ≡ laid w h c →
-    d .place ≡ c .place
+pub halted-place : {h : Head} {w w′ : List ℕ} {c d : Cursor} → HeadFits h w c → HeadFits h w′ d
+    → laid w′ h d ≡ laid w h c → d .place ≡ c .place
 unfolding headWith
 halted-place s t e = ap (λ (g : Head). g .place) (sym (head-laid t) ∙ ap headOf e ∙ head-laid s)
 
 -- from the words of a process on, and back to them
 pub ran-top : {p schedule : List ℕ} {n from k : ℕ} {w w₂ : List ℕ} {h : Head} (w₁ : List ℕ) (i m : ℕ) → h ≡ headOf w
-    → Ran p schedule n from (laid w h (cursor (h .place) (h .pending))) k (laid w₁ h (cursor i m))
+    → PlainSteps p schedule n from (laid w h (cursor (h .place) (h .pending))) k (laid w₁ h (cursor i m))
     → w₂ ≡ putTop w₁ (record {
       status = h .status;
       fault = h .fault;
@@ -96,10 +97,10 @@ pub ran-top : {p schedule : List ℕ} {n from k : ℕ} {w w₂ : List ℕ} {h : 
       place = i;
       pending = m;
     })
-    → Ran p schedule n from w k w₂
+    → PlainSteps p schedule n from w k w₂
 unfolding laid headWith
 ran-top {p} {schedule} {n} {from} {k} {w} {w₂} {h} w₁ i m e r q =
-    ran-same (subst (λ (v : List ℕ). Ran p schedule n from v k (laid w₁ h (cursor i m))) (laid-first w e) r) q
+    ran-same (subst (λ (v : List ℕ). PlainSteps p schedule n from v k (laid w₁ h (cursor i m))) (laid-first w e) r) q
 
 abbrev pub headAtPlace : Head → ℕ → ℕ → Head
 headAtPlace h i m = record {
@@ -111,7 +112,7 @@ headAtPlace h i m = record {
   pending = m;
 }
 
-pub head-there : (h : Head) (w : List ℕ) (i m : ℕ) → Steady h w (cursor i m) → headOf (putTop w (headAtPlace h i m)) ≡
+pub head-there : (h : Head) (w : List ℕ) (i m : ℕ) → HeadFits h w (cursor i m) → headOf (putTop w (headAtPlace h i m)) ≡
     headAtPlace h i m
 unfolding laid headWith
 head-there h w i m s = head-laid s
@@ -119,10 +120,10 @@ head-there h w i m s = head-laid s
 -- the CALL or RET after them, with the head put back, or nothing
 module _ {p schedule : List ℕ} {n from k : ℕ} {w w₂ : List ℕ} {h : Head} {r : Bool} (w₁ : List ℕ) (i m : ℕ) (e : h ≡
     headOf w)
-    (ran : Ran p schedule n from (laid w h (cursor (h .place) (h .pending))) k (laid w₁ h (cursor i m))) where
-  pub ran-changed : Steady h w₁ (cursor i m) → Halts p schedule n (h .method) k i → Does r (stepOp p (putTop w₁
+    (ran : PlainSteps p schedule n from (laid w h (cursor (h .place) (h .pending))) k (laid w₁ h (cursor i m))) where
+  pub ran-changed : HeadFits h w₁ (cursor i m) → Halts p schedule n (h .method) k i → Does r (stepOp p (putTop w₁
       (headAtPlace h i m))) (putTop w₁ (headAtPlace h i m)) w₂ → length w₂ ≡ 512 → r ≡ true
-      → Ran p schedule n from w (k + 1) w₂ × (k + 1 ≤ length schedule) × (from < k + 1)
+      → PlainSteps p schedule n from w (k + 1) w₂ × (k + 1 ≤ length schedule) × (from < k + 1)
   unfolding laid headWith
   ran-changed s t d long z = (
     goes-on (ran-top w₁ i m e ran refl) (t .ahead) (t .names) (laid-long s) long (d .done z),
@@ -130,8 +131,8 @@ module _ {p schedule : List ℕ} {n from k : ℕ} {w w₂ : List ℕ} {h : Head}
     omega (arith, ran-up ran),
   )
 
-  pub ran-left : Does r (stepOp p (putTop w₁ (headAtPlace h i m))) (putTop w₁ (headAtPlace h i m)) w₂ → r ≡ false → Ran
-      p schedule n from w k w₂
+  pub ran-left : Does r (stepOp p (putTop w₁ (headAtPlace h i m))) (putTop w₁ (headAtPlace h i m)) w₂ → r ≡ false
+      → PlainSteps p schedule n from w k w₂
   ran-left d z = ran-top w₁ i m e ran (d .left z)
 
 -- what was tested of a head
@@ -182,13 +183,13 @@ module _ (w : List ℕ) (long : 8192 ≤ length w) (n : ℕ) (l : n < 8) where
 
   -- the entries of a part that was lent
   pub stretched : {p schedule : List ℕ} {from k : ℕ} {ys : List ℕ} → length ys ≡ 512
-      → Ran p schedule n from (midOf (512 + 512 * n) (512 + 512 * n + 512 - (512 + 512 * n)) w) k ys
+      → PlainSteps p schedule n from (midOf (512 + 512 * n) (512 + 512 * n + 512 - (512 + 512 * n)) w) k ys
       → {v : List ℕ} → v ≡ putMid (512 + 512 * n) (512 + 512 * n + 512 - (512 + 512 * n)) w ys
-      → Ran p schedule n from (partOf w n) k (partOf v n) × (v ≡ withPart w n (partOf v n))
+      → PlainSteps p schedule n from (partOf w n) k (partOf v n) × (v ≡ withPart w n (partOf v n))
   stretched {p} {schedule} {from} {k} {ys} e r {v} q =
       let put : v ≡ withPart w n ys = q ∙ lifted-words w n {from = 512 + 512 * n} refl ys (λ us. ys) refl in
       let back : partOf v n ≡ ys = ap (λ (u : List ℕ). partOf u n) put ∙ part-back ys e in (
-        ran-same (subst (λ (u : List ℕ). Ran p schedule n from u k ys) (part-lent w n {from = 512 + 512 * n} refl) r)
-            back,
+        ran-same (subst (λ (u : List ℕ). PlainSteps p schedule n from u k ys) (part-lent w n {from = 512 + 512 * n}
+            refl) r) back,
         put ∙ ap (withPart w n) (sym back),
       )

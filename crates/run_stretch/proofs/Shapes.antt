@@ -12,13 +12,13 @@ use Rattle.run_values.specs.ValuesCode.{AfterStep, afterStep, emptyVal, pushOn,
 use Rattle.run_ops.specs.OpsCode.{actOp}
 use Rattle.run_values.specs.declared.steps.StepResult.the-variants.{WentOn}
 use Rattle.run_stretch.specs.declared.cursor.Cursor.{Cursor}
-use Rattle.run_stretch.specs.StretchCode.{headWith, laid, cursor, Steady, Goes, Only}
+use Rattle.run_stretch.specs.StretchCode.{headWith, laid, cursor, HeadFits, CursorStep, Only}
 use Rattle.run_stretch.proofs.Laid.{put-far, laid-again, head-stepped, head-pushed, head-popped, head-moved, steady-at, steady-put}
 
 -- what one thing does, another does
 pub goes-in : {d d′ : AfterStep} {I J : ℕ → Type 0} {h : Head} {w w′ : List ℕ} {c r : Cursor} → d′ ≡ d → ((x : ℕ) → I x
-    → J x) → Goes d I h w c w′ r
-    → Goes d′ J h w c w′ r
+    → J x) → CursorStep d I h w c w′ r
+    → CursorStep d′ J h w c w′ r
 goes-in {r = r} e f g = record {
   going = λ z. e ∙ g .going z;
   halting = g .halting;
@@ -27,19 +27,19 @@ goes-in {r = r} e f g = record {
   steady = g .steady;
 }
 
-pub goes-as : {d d′ : AfterStep} {I : ℕ → Type 0} {h : Head} {w w′ : List ℕ} {c r : Cursor} → d′ ≡ d → Goes d I h w c w′
-    r → Goes d′ I h w c w′ r
+pub goes-as : {d d′ : AfterStep} {I : ℕ → Type 0} {h : Head} {w w′ : List ℕ} {c r : Cursor} → d′ ≡ d
+    → CursorStep d I h w c w′ r → CursorStep d′ I h w c w′ r
 goes-as e g = goes-in e (λ x y. y) g
 
 -- the op by its number
 pub by-op : (p w : List ℕ) (h : Head) (a : ℕ) {op n : ℕ} → op ≡ n → actOp p w h op a ≡ actOp p w h n a
 by-op p w h a e = ap (λ (o : ℕ). actOp p w h o a) e
 
-module _ {h : Head} {w : List ℕ} {c : Cursor} (s : Steady h w c) where
+module _ {h : Head} {w : List ℕ} {c : Cursor} (s : HeadFits h w c) where
   -- words came to these, and the cursor to place i with n values pending
-  done : {d : AfterStep} {us w′ : List ℕ} (i n : ℕ) → Steady h us c → n ≤ 8 → d ≡ afterStep WentOn (laid us h (cursor i
-      n)) → w′ ≡ us
-      → Goes d (Only i) h w c w′ (cursor i n)
+  done : {d : AfterStep} {us w′ : List ℕ} (i n : ℕ) → HeadFits h us c → n ≤ 8
+      → d ≡ afterStep WentOn (laid us h (cursor i n)) → w′ ≡ us
+      → CursorStep d (Only i) h w c w′ (cursor i n)
   done {us = us} i n t few e q = record {
     going = λ z. e ∙ ap (λ (l : List ℕ). afterStep WentOn (laid l h (cursor i n))) (sym q);
     halting = λ z. absurd (true≢false (sym z));
@@ -61,8 +61,8 @@ module _ {h : Head} {w : List ℕ} {c : Cursor} (s : Steady h w c) where
 
   pub pushes : c .place < 65536 → c .pending < 8 → (v : Val) {at : ℕ} {w′ : List ℕ} → at ≡ 48 + 48 * h .frames + 2 *
       c .pending → w′ ≡ putValue w at v
-      → Goes (afterStep WentOn (pushOn (laid w h c) (headWith h c) v)) (Only (c .place + 1)) h w c w′ (cursor (c .place
-      + 1) (c .pending + 1))
+      → CursorStep (afterStep WentOn (pushOn (laid w h c) (headWith h c) v)) (Only (c .place + 1)) h w c w′ (cursor (c
+      .place + 1) (c .pending + 1))
   unfolding pushOn
   pushes l m v {at} e q =
       let far : 64 ≤ at = omega (arith, e, s .least) in
@@ -76,8 +76,8 @@ module _ {h : Head} {w : List ℕ} {c : Cursor} (s : Steady h w c) where
 
   pub replaces : c .place < 65536 → 1 ≤ c .pending → (v : Val) {at : ℕ} {w′ : List ℕ} → at ≡ 48 + 48 * h .frames + 2 *
       c .pending → w′ ≡ putValue w (at - 2) v
-      → Goes (afterStep WentOn (onTop (laid w h c) (headWith h c) v)) (Only (c .place + 1)) h w c w′ (cursor (c .place +
-      1) (c .pending))
+      → CursorStep (afterStep WentOn (onTop (laid w h c) (headWith h c) v)) (Only (c .place + 1)) h w c w′ (cursor (c
+      .place + 1) (c .pending))
   unfolding onTop
   replaces l m v {at} e q =
       let far : 64 ≤ at - 2 = omega (arith, e, m, s .least) in
@@ -90,7 +90,8 @@ module _ {h : Head} {w : List ℕ} {c : Cursor} (s : Steady h w c) where
 
   pub discards-to : 1 ≤ c .pending → (to : ℕ) {at : ℕ} {w′ : List ℕ} → at ≡ 48 + 48 * h .frames + 2 * c .pending → w′ ≡
       putValue w (at - 2) emptyVal
-      → Goes (afterStep WentOn (dropTo (laid w h c) (headWith h c) to)) (Only to) h w c w′ (cursor to (c .pending - 1))
+      → CursorStep (afterStep WentOn (dropTo (laid w h c) (headWith h c) to)) (Only to) h w c w′ (cursor to (c
+      .pending - 1))
   unfolding dropTo
   discards-to m to {at} e q =
       let far : 64 ≤ at - 2 = omega (arith, e, m, s .least) in
@@ -106,8 +107,8 @@ module _ {h : Head} {w : List ℕ} {c : Cursor} (s : Steady h w c) where
   pub covers : c .place < 65536 → 2 ≤ c .pending → (v : Val) {at : ℕ} {w′ w″ : List ℕ} → at ≡ 48 + 48 * h .frames + 2 *
       c .pending
       → w′ ≡ putValue w (at - 2) emptyVal → w″ ≡ putValue w′ (at - 4) v
-      → Goes (afterStep WentOn (overTwo (laid w h c) (headWith h c) v)) (Only (c .place + 1)) h w c w″ (cursor (c .place
-      + 1) (c .pending - 1))
+      → CursorStep (afterStep WentOn (overTwo (laid w h c) (headWith h c) v)) (Only (c .place + 1)) h w c w″ (cursor
+      (c .place + 1) (c .pending - 1))
   unfolding overTwo
   covers l m v {at} e q q′ =
       let far : 64 ≤ at - 4 = omega (arith, e, m, s .least) in
@@ -128,7 +129,7 @@ module _ {h : Head} {w : List ℕ} {c : Cursor} (s : Steady h w c) where
 
   pub stores : c .place < 65536 → (a : ℕ) (v : Val) {at : ℕ} {w′ : List ℕ} → at ≡ 16 + 48 * h .frames + 2 * a → w′ ≡
       putValue w at v
-      → Goes (afterStep WentOn (inSlot (laid w h c) (headWith h c) a v)) (Only (c .place + 1)) h w c w′ (cursor
+      → CursorStep (afterStep WentOn (inSlot (laid w h c) (headWith h c) a v)) (Only (c .place + 1)) h w c w′ (cursor
       (c .place + 1) (c .pending))
   unfolding inSlot
   stores l a v {at} e q =
@@ -143,7 +144,8 @@ module _ {h : Head} {w : List ℕ} {c : Cursor} (s : Steady h w c) where
       q
 
   pub jumps-to : (p : List ℕ) (a : ℕ) {offset : ℕ} {w′ : List ℕ} → offset ≡ offsetOf p (h .method) → w′ ≡ w
-      → Goes (jumpOp p (laid w h c) (headWith h c) a) (Only (offset + a)) h w c w′ (cursor (offset + a) (c .pending))
+      → CursorStep (jumpOp p (laid w h c) (headWith h c) a) (Only (offset + a)) h w c w′ (cursor (offset + a) (c
+      .pending))
   unfolding jumpOp targetOf headWith
   jumps-to p a {offset} o q =
       done (offset + a) (c .pending) s (s .few)

@@ -1,5 +1,5 @@
--- Steps of one process, one after the other, with the place and the number of pending values of its top frame kept apart from its
--- words until the end. These definitions follow the code.
+-- Steps of one process, one after the other, with the place and the number of pending values of its top frame kept
+-- apart from its words until the end. These definitions follow the code.
 use Prim.Native.Nat.{ℕ, _+_, _≤_, _<_}
 use mathlib.Core.Path.{_≡_}
 use mathlib.Core.Bool.{Bool, true, false}
@@ -39,7 +39,7 @@ abbrev pub haltedAt : Cursor → Cursor
 haltedAt c = record { place = c .place; pending = c .pending; halted = true }
 
 -- what holds of the words, the head and the cursor all the while
-pub record Steady (h : Head) (w : List ℕ) (c : Cursor) : Type 0 where
+pub record HeadFits (h : Head) (w : List ℕ) (c : Cursor) : Type 0 where
   pub long : length w ≡ 512
   pub least : 1 ≤ h .frames
   pub most : h .frames ≤ 8
@@ -49,13 +49,14 @@ pub record Steady (h : Head) (w : List ℕ) (c : Cursor) : Type 0 where
   pub frames : getD w 2 0 ≡ h .frames
   pub method : getD w (headAt (h .frames)) 0 ≡ h .method
 
--- what d says of the words with the cursor put back was done, and the cursor has come to a place of I; or nothing was done
-pub record Goes (d : AfterStep) (I : ℕ → Type 0) (h : Head) (w : List ℕ) (c : Cursor) (w′ : List ℕ) (r : Cursor) : Type
-    0 where
+-- what d says of the words with the cursor put back was done, and the cursor has come to a place of I; or nothing was
+-- done
+pub record CursorStep (d : AfterStep) (I : ℕ → Type 0) (h : Head) (w : List ℕ) (c : Cursor) (w′ : List ℕ) (r : Cursor)
+    : Type 0 where
   pub going : r .halted ≡ false → d ≡ afterStep WentOn (laid w′ h r)
   pub halting : r .halted ≡ true → laid w′ h r ≡ laid w h c
   pub onward : r .halted ≡ false → I (r .place)
-  pub steady : Steady h w′ r
+  pub steady : HeadFits h w′ r
 
 -- an op on the words as they are was done, or nothing was
 pub record Does (r : Bool) (d : AfterStep) (w w′ : List ℕ) : Type 0 where
@@ -95,9 +96,10 @@ pub record Halts (p schedule : List ℕ) (n m k i : ℕ) : Type 0 where
   pub names : getD schedule k 0 ≡ n
   pub inside : Inside p m i
 
--- the entries from `from` on up to the last index all name process n, and its words w₀ come to the last ones by plain steps
-pub data Ran (p schedule : List ℕ) (n from : ℕ) (w₀ : List ℕ) : ℕ → List ℕ → Type 0 where
-  begins : Ran p schedule n from w₀ from w₀
-  goes-on : {k : ℕ} {w w′ : List ℕ} → Ran p schedule n from w₀ k w → k < length schedule → getD schedule k 0 ≡ n →
-      length w ≡ 512 → length w′ ≡ 512
-      → stepOp p w ≡ afterStep WentOn w′ → Ran p schedule n from w₀ (k + 1) w′
+-- the entries from `from` on up to the last index all name process n, and its words w₀ come to the last ones by plain
+-- steps
+pub data PlainSteps (p schedule : List ℕ) (n from : ℕ) (w₀ : List ℕ) : ℕ → List ℕ → Type 0 where
+  begins : PlainSteps p schedule n from w₀ from w₀
+  goes-on : {k : ℕ} {w w′ : List ℕ} → PlainSteps p schedule n from w₀ k w → k < length schedule
+      → getD schedule k 0 ≡ n → length w ≡ 512 → length w′ ≡ 512
+      → stepOp p w ≡ afterStep WentOn w′ → PlainSteps p schedule n from w₀ (k + 1) w′

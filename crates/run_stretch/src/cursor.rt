@@ -3,7 +3,7 @@ ghost use mathlib.Core.Path.{_≡_};
 ghost use Prim.Native.Nat.{_+_, _*_, _<_};
 ghost use lib.ListN.{length};
 ghost use Rattle.run_store.specs.StoreCode.{putValue};
-ghost use Rattle.run_stretch.specs.StretchCode.{haltedAt, Steady, TopRead, TwoRead};
+ghost use Rattle.run_stretch.specs.StretchCode.{haltedAt, HeadFits, TopRead, TwoRead};
 use run_store::head::Head;
 
 // The place and the number of pending values; halted where the next step is not taken here.
@@ -63,7 +63,7 @@ pub fn write(w: &mut [u32], at: usize, tag: u32, number: u32)
 }
 
 pub fn read_top(w: &[u32], h: Head, c: Cursor) -> Top
-    requires { ⌜ Steady h (now w) c ⌝ }
+    requires { ⌜ HeadFits h (now w) c ⌝ }
     ensures { λ r. ⌜ TopRead (now (w .entry)) h c r ⌝ }
 {
     if c.pending < 1 {
@@ -83,7 +83,7 @@ pub fn read_top(w: &[u32], h: Head, c: Cursor) -> Top
 }
 
 pub fn read_two(w: &[u32], h: Head, c: Cursor) -> Two
-    requires { ⌜ Steady h (now w) c ⌝ }
+    requires { ⌜ HeadFits h (now w) c ⌝ }
     ensures { λ r. ⌜ TwoRead (now (w .entry)) h c r ⌝ }
 {
     if c.pending < 2 {

@@ -2,7 +2,7 @@
 ghost use mathlib.Core.Path.{_≡_};
 ghost use Prim.Native.Nat.{_+_, _<_, _≤_};
 ghost use Rattle.run_values.specs.ValuesCode.{afterStep, pushOn, onTop, dropTo, overTwo, inSlot, getOp, putOp, dropOp, endOp};
-ghost use Rattle.run_stretch.specs.StretchCode.{headWith, laid, Steady, Goes, Only};
+ghost use Rattle.run_stretch.specs.StretchCode.{headWith, laid, HeadFits, CursorStep, Only};
 ghost use Rattle.run_values.specs.declared.steps.StepResult.the-variants.{WentOn};
 use super::cursor::Cursor;
 use super::cursor::free;
@@ -11,10 +11,11 @@ use super::cursor::slot;
 use super::cursor::write;
 use run_store::head::Head;
 
-// A value pushed, where there is room. It is written as the top one, so that its address is computed like that of the others.
+// A value pushed, where there is room. It is written as the top one, so that its address is computed like that of the
+// others.
 pub fn push(w: &mut [u32], h: Head, c: Cursor, tag: u32, number: u32) -> Cursor
-    requires { ⌜ Steady h (now w) c × (c .place < 65536) ⌝ }
-    ensures { λ r. ⌜ Goes (afterStep WentOn (pushOn (laid (now (w .entry)) h c) (headWith h c) (record {
+    requires { ⌜ HeadFits h (now w) c × (c .place < 65536) ⌝ }
+    ensures { λ r. ⌜ CursorStep (afterStep WentOn (pushOn (laid (now (w .entry)) h c) (headWith h c) (record {
       tag = tag;
       number = number;
     }))) (Only (c .place + 1)) h (now (w .entry)) c (now (w .exit)) r ⌝ }
@@ -33,8 +34,8 @@ pub fn push(w: &mut [u32], h: Head, c: Cursor, tag: u32, number: u32) -> Cursor
 
 // The top value replaced.
 pub fn replace(w: &mut [u32], h: Head, c: Cursor, tag: u32, number: u32) -> Cursor
-    requires { ⌜ Steady h (now w) c × (c .place < 65536) × (1 ≤ c .pending) ⌝ }
-    ensures { λ r. ⌜ Goes (afterStep WentOn (onTop (laid (now (w .entry)) h c) (headWith h c) (record {
+    requires { ⌜ HeadFits h (now w) c × (c .place < 65536) × (1 ≤ c .pending) ⌝ }
+    ensures { λ r. ⌜ CursorStep (afterStep WentOn (onTop (laid (now (w .entry)) h c) (headWith h c) (record {
       tag = tag;
       number = number;
     }))) (Only (c .place + 1)) h (now (w .entry)) c (now (w .exit)) r ⌝ }
@@ -49,9 +50,9 @@ pub fn replace(w: &mut [u32], h: Head, c: Cursor, tag: u32, number: u32) -> Curs
 
 // The top value off, and the frame at instruction `to`.
 pub fn discard_to(w: &mut [u32], h: Head, c: Cursor, to: u32) -> Cursor
-    requires { ⌜ Steady h (now w) c × (1 ≤ c .pending) ⌝ }
-    ensures { λ r. ⌜ Goes (afterStep WentOn (dropTo (laid (now (w .entry)) h c) (headWith h c) to)) (Only to) h (now
-        (w .entry)) c (now (w .exit)) r ⌝ }
+    requires { ⌜ HeadFits h (now w) c × (1 ≤ c .pending) ⌝ }
+    ensures { λ r. ⌜ CursorStep (afterStep WentOn (dropTo (laid (now (w .entry)) h c) (headWith h c) to)) (Only to) h
+        (now (w .entry)) c (now (w .exit)) r ⌝ }
 {
     write(w, free(h, c) - 2, 0, 0);
     Cursor {
@@ -63,8 +64,8 @@ pub fn discard_to(w: &mut [u32], h: Head, c: Cursor, to: u32) -> Cursor
 
 // Two values off, one on.
 pub fn replace_two(w: &mut [u32], h: Head, c: Cursor, tag: u32, number: u32) -> Cursor
-    requires { ⌜ Steady h (now w) c × (c .place < 65536) × (2 ≤ c .pending) ⌝ }
-    ensures { λ r. ⌜ Goes (afterStep WentOn (overTwo (laid (now (w .entry)) h c) (headWith h c) (record {
+    requires { ⌜ HeadFits h (now w) c × (c .place < 65536) × (2 ≤ c .pending) ⌝ }
+    ensures { λ r. ⌜ CursorStep (afterStep WentOn (overTwo (laid (now (w .entry)) h c) (headWith h c) (record {
       tag = tag;
       number = number;
     }))) (Only (c .place + 1)) h (now (w .entry)) c (now (w .exit)) r ⌝ }
@@ -81,8 +82,8 @@ pub fn replace_two(w: &mut [u32], h: Head, c: Cursor, tag: u32, number: u32) -> 
 
 // A slot written.
 pub fn store_slot(w: &mut [u32], h: Head, c: Cursor, a: u16, tag: u32, number: u32) -> Cursor
-    requires { ⌜ Steady h (now w) c × (c .place < 65536) × (a < 16) ⌝ }
-    ensures { λ r. ⌜ Goes (afterStep WentOn (inSlot (laid (now (w .entry)) h c) (headWith h c) a (record {
+    requires { ⌜ HeadFits h (now w) c × (c .place < 65536) × (a < 16) ⌝ }
+    ensures { λ r. ⌜ CursorStep (afterStep WentOn (inSlot (laid (now (w .entry)) h c) (headWith h c) a (record {
       tag = tag;
       number = number;
     }))) (Only (c .place + 1)) h (now (w .entry)) c (now (w .exit)) r ⌝ }
@@ -96,9 +97,9 @@ pub fn store_slot(w: &mut [u32], h: Head, c: Cursor, a: u16, tag: u32, number: u
 }
 
 pub fn get(w: &mut [u32], h: Head, c: Cursor, a: u16) -> Cursor
-    requires { ⌜ Steady h (now w) c × (c .place < 65536) × (a < 16) ⌝ }
-    ensures { λ r. ⌜ Goes (getOp (laid (now (w .entry)) h c) (headWith h c) a) (Only (c .place + 1)) h (now (w .entry))
-        c (now (w .exit)) r ⌝ }
+    requires { ⌜ HeadFits h (now w) c × (c .place < 65536) × (a < 16) ⌝ }
+    ensures { λ r. ⌜ CursorStep (getOp (laid (now (w .entry)) h c) (headWith h c) a) (Only (c .place + 1)) h (now (w
+        .entry)) c (now (w .exit)) r ⌝ }
 {
     let at = slot(h, a);
     let tag = w[at];
@@ -110,9 +111,9 @@ pub fn get(w: &mut [u32], h: Head, c: Cursor, a: u16) -> Cursor
 }
 
 pub fn put(w: &mut [u32], h: Head, c: Cursor, a: u16) -> Cursor
-    requires { ⌜ Steady h (now w) c × (c .place < 65536) × (a < 16) ⌝ }
-    ensures { λ r. ⌜ Goes (putOp (laid (now (w .entry)) h c) (headWith h c) a) (Only (c .place + 1)) h (now (w .entry))
-        c (now (w .exit)) r ⌝ }
+    requires { ⌜ HeadFits h (now w) c × (c .place < 65536) × (a < 16) ⌝ }
+    ensures { λ r. ⌜ CursorStep (putOp (laid (now (w .entry)) h c) (headWith h c) a) (Only (c .place + 1)) h (now (w
+        .entry)) c (now (w .exit)) r ⌝ }
 {
     let t = read_top(w, h, c);
     if !t.there {
@@ -122,9 +123,9 @@ pub fn put(w: &mut [u32], h: Head, c: Cursor, a: u16) -> Cursor
 }
 
 pub fn drop_top(w: &mut [u32], h: Head, c: Cursor) -> Cursor
-    requires { ⌜ Steady h (now w) c × (c .place < 65536) ⌝ }
-    ensures { λ r. ⌜ Goes (dropOp (laid (now (w .entry)) h c) (headWith h c)) (Only (c .place + 1)) h (now (w .entry)) c
-        (now (w .exit)) r ⌝ }
+    requires { ⌜ HeadFits h (now w) c × (c .place < 65536) ⌝ }
+    ensures { λ r. ⌜ CursorStep (dropOp (laid (now (w .entry)) h c) (headWith h c)) (Only (c .place + 1)) h (now (w
+        .entry)) c (now (w .exit)) r ⌝ }
 {
     let t = read_top(w, h, c);
     if !t.there {
@@ -135,9 +136,9 @@ pub fn drop_top(w: &mut [u32], h: Head, c: Cursor) -> Cursor
 
 // An end has the tag 5 or 6, by its side, and the channel's number.
 pub fn end_of(w: &mut [u32], h: Head, c: Cursor, a: u16) -> Cursor
-    requires { ⌜ Steady h (now w) c × (c .place < 65536) ⌝ }
-    ensures { λ r. ⌜ Goes (endOp (laid (now (w .entry)) h c) (headWith h c) a) (Only (c .place + 1)) h (now (w .entry))
-        c (now (w .exit)) r ⌝ }
+    requires { ⌜ HeadFits h (now w) c × (c .place < 65536) ⌝ }
+    ensures { λ r. ⌜ CursorStep (endOp (laid (now (w .entry)) h c) (headWith h c) a) (Only (c .place + 1)) h (now (w
+        .entry)) c (now (w .exit)) r ⌝ }
 {
     let t = read_top(w, h, c);
     if !t.there {

@@ -2,7 +2,7 @@
 ghost use mathlib.Core.Path.{_≡_};
 ghost use Prim.Native.Nat.{_+_, _<_, _≤_};
 ghost use Rattle.run_values.specs.ValuesCode.{resultOp, addOp, subOp, eqOp, lessOp, notOp};
-ghost use Rattle.run_stretch.specs.StretchCode.{headWith, laid, Steady, Goes, Only};
+ghost use Rattle.run_stretch.specs.StretchCode.{headWith, laid, HeadFits, CursorStep, Only};
 use super::cursor::Cursor;
 use super::cursor::read_top;
 use super::cursor::read_two;
@@ -14,8 +14,8 @@ use run_values::numbers::flag;
 
 // The int whose number, moved up by 2^32, is s, in place of two operands.
 pub fn result(w: &mut [u32], h: Head, c: Cursor, s: u64) -> Cursor
-    requires { ⌜ Steady h (now w) c × (c .place < 65536) × (2 ≤ c .pending) ⌝ }
-    ensures { λ r. ⌜ Goes (resultOp (laid (now (w .entry)) h c) (headWith h c) s) (Only (c .place + 1)) h (now
+    requires { ⌜ HeadFits h (now w) c × (c .place < 65536) × (2 ≤ c .pending) ⌝ }
+    ensures { λ r. ⌜ CursorStep (resultOp (laid (now (w .entry)) h c) (headWith h c) s) (Only (c .place + 1)) h (now
         (w .entry)) c (now (w .exit)) r ⌝ }
 {
     if s < 2147483648 {
@@ -28,9 +28,9 @@ pub fn result(w: &mut [u32], h: Head, c: Cursor, s: u64) -> Cursor
 }
 
 pub fn add(w: &mut [u32], h: Head, c: Cursor) -> Cursor
-    requires { ⌜ Steady h (now w) c × (c .place < 65536) ⌝ }
-    ensures { λ r. ⌜ Goes (addOp (laid (now (w .entry)) h c) (headWith h c)) (Only (c .place + 1)) h (now (w .entry)) c
-        (now (w .exit)) r ⌝ }
+    requires { ⌜ HeadFits h (now w) c × (c .place < 65536) ⌝ }
+    ensures { λ r. ⌜ CursorStep (addOp (laid (now (w .entry)) h c) (headWith h c)) (Only (c .place + 1)) h (now (w
+        .entry)) c (now (w .exit)) r ⌝ }
 {
     let t = read_two(w, h, c);
     if !t.there {
@@ -40,9 +40,9 @@ pub fn add(w: &mut [u32], h: Head, c: Cursor) -> Cursor
 }
 
 pub fn sub(w: &mut [u32], h: Head, c: Cursor) -> Cursor
-    requires { ⌜ Steady h (now w) c × (c .place < 65536) ⌝ }
-    ensures { λ r. ⌜ Goes (subOp (laid (now (w .entry)) h c) (headWith h c)) (Only (c .place + 1)) h (now (w .entry)) c
-        (now (w .exit)) r ⌝ }
+    requires { ⌜ HeadFits h (now w) c × (c .place < 65536) ⌝ }
+    ensures { λ r. ⌜ CursorStep (subOp (laid (now (w .entry)) h c) (headWith h c)) (Only (c .place + 1)) h (now (w
+        .entry)) c (now (w .exit)) r ⌝ }
 {
     let t = read_two(w, h, c);
     if !t.there {
@@ -52,9 +52,9 @@ pub fn sub(w: &mut [u32], h: Head, c: Cursor) -> Cursor
 }
 
 pub fn eq(w: &mut [u32], h: Head, c: Cursor) -> Cursor
-    requires { ⌜ Steady h (now w) c × (c .place < 65536) ⌝ }
-    ensures { λ r. ⌜ Goes (eqOp (laid (now (w .entry)) h c) (headWith h c)) (Only (c .place + 1)) h (now (w .entry)) c
-        (now (w .exit)) r ⌝ }
+    requires { ⌜ HeadFits h (now w) c × (c .place < 65536) ⌝ }
+    ensures { λ r. ⌜ CursorStep (eqOp (laid (now (w .entry)) h c) (headWith h c)) (Only (c .place + 1)) h (now (w
+        .entry)) c (now (w .exit)) r ⌝ }
 {
     let t = read_two(w, h, c);
     if !t.there {
@@ -65,9 +65,9 @@ pub fn eq(w: &mut [u32], h: Head, c: Cursor) -> Cursor
 }
 
 pub fn less(w: &mut [u32], h: Head, c: Cursor) -> Cursor
-    requires { ⌜ Steady h (now w) c × (c .place < 65536) ⌝ }
-    ensures { λ r. ⌜ Goes (lessOp (laid (now (w .entry)) h c) (headWith h c)) (Only (c .place + 1)) h (now (w .entry)) c
-        (now (w .exit)) r ⌝ }
+    requires { ⌜ HeadFits h (now w) c × (c .place < 65536) ⌝ }
+    ensures { λ r. ⌜ CursorStep (lessOp (laid (now (w .entry)) h c) (headWith h c)) (Only (c .place + 1)) h (now (w
+        .entry)) c (now (w .exit)) r ⌝ }
 {
     let t = read_two(w, h, c);
     if !t.there {
@@ -78,9 +78,9 @@ pub fn less(w: &mut [u32], h: Head, c: Cursor) -> Cursor
 }
 
 pub fn not(w: &mut [u32], h: Head, c: Cursor) -> Cursor
-    requires { ⌜ Steady h (now w) c × (c .place < 65536) ⌝ }
-    ensures { λ r. ⌜ Goes (notOp (laid (now (w .entry)) h c) (headWith h c)) (Only (c .place + 1)) h (now (w .entry)) c
-        (now (w .exit)) r ⌝ }
+    requires { ⌜ HeadFits h (now w) c × (c .place < 65536) ⌝ }
+    ensures { λ r. ⌜ CursorStep (notOp (laid (now (w .entry)) h c) (headWith h c)) (Only (c .place + 1)) h (now (w
+        .entry)) c (now (w .exit)) r ⌝ }
 {
     let t = read_top(w, h, c);
     if !t.there {

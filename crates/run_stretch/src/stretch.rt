@@ -9,7 +9,7 @@ ghost use Rattle.table.proofs.Owners.{Inside};
 ghost use Rattle.run_store.specs.StoreCode.{headOf, putTop};
 ghost use Rattle.run_ops.specs.OpsCode.{stepOp};
 ghost use Rattle.run_parts.specs.PartsCode.{partOf, withPart};
-ghost use Rattle.run_stretch.specs.StretchCode.{laid, cursor, Steady, Does, Halts, Ran};
+ghost use Rattle.run_stretch.specs.StretchCode.{laid, cursor, HeadFits, Does, Halts, PlainSteps};
 use super::cursor::Cursor;
 use super::frames::call;
 use super::frames::head_of;
@@ -19,7 +19,7 @@ use run_store::head::Head;
 use run_store::head::put_top;
 
 // The first entry that is not done, and where the top frame stands; halted where that entry names the process.
-pub struct Reached {
+pub struct StretchEnd {
     pub at: usize,
     pub place: u32,
     pub pending: u32,
@@ -37,20 +37,20 @@ fn run_frame(
     from: usize,
     n: u8,
     c: Cursor,
-) -> Reached
-    requires { ⌜ Steady h (now w) c × (h .status ≡ 1) × (offset ≡ offsetOf (now p) (h .method)) × (offset < 65536)
+) -> StretchEnd
+    requires { ⌜ HeadFits h (now w) c × (h .status ≡ 1) × (offset ≡ offsetOf (now p) (h .method)) × (offset < 65536)
         × (start ≡ 2 + 20 * methods (now p)) × Kept (now p) × Inside (now p) (h .method) (c .place) × (from ≤ length
         (now schedule)) ⌝ }
-    ensures { λ r. ⌜ Ran (now (p .entry)) (now (schedule .entry)) n from (laid (now (w .entry)) h c) (r .at) (laid (now
-        (w .exit)) h (cursor (r .place) (r .pending)))
-        × Steady h (now (w .exit)) (cursor (r .place) (r .pending)) × (r .at ≤ length (now (schedule .entry)))
+    ensures { λ r. ⌜ PlainSteps (now (p .entry)) (now (schedule .entry)) n from (laid (now (w .entry)) h c) (r .at)
+        (laid (now (w .exit)) h (cursor (r .place) (r .pending)))
+        × HeadFits h (now (w .exit)) (cursor (r .place) (r .pending)) × (r .at ≤ length (now (schedule .entry)))
         × (r .halted ≡ true → Halts (now (p .entry)) (now (schedule .entry)) n (h .method) (r .at) (r .place)) ⌝ }
 {
     let mut k = from;
     let mut s = c;
     while k < schedule.len() {
         if schedule[k] != n {
-            return Reached {
+            return StretchEnd {
                 at: k,
                 place: s.place,
                 pending: s.pending,
@@ -59,7 +59,7 @@ fn run_frame(
         }
         let d = step_on(p, start, w, h, s, offset);
         if d.halted {
-            return Reached {
+            return StretchEnd {
                 at: k,
                 place: d.place,
                 pending: d.pending,
@@ -69,7 +69,7 @@ fn run_frame(
         s = d;
         k += 1;
     }
-    Reached {
+    StretchEnd {
         at: k,
         place: s.place,
         pending: s.pending,
@@ -138,12 +138,12 @@ fn run_head(
     from: usize,
     n: u8,
 ) -> NextEntry
-    requires { ⌜ Steady h (now w) (cursor (h .place) (h .pending)) × (h ≡ headOf (now w)) × (h .status ≡ 1) × (first ≡
+    requires { ⌜ HeadFits h (now w) (cursor (h .place) (h .pending)) × (h ≡ headOf (now w)) × (h .status ≡ 1) × (first ≡
         offsetOf (now p) (h .method)) × (first < 65536)
         × (start ≡ 2 + 20 * methods (now p)) × Kept (now p) × Inside (now p) (h .method) (h .place) × (from ≤ length
         (now schedule)) ⌝ }
-    ensures { λ r. ⌜ Ran (now (p .entry)) (now (schedule .entry)) n from (now (w .entry)) (r .at) (now (w .exit)) ×
-        (r .at ≤ length (now (schedule .entry)))
+    ensures { λ r. ⌜ PlainSteps (now (p .entry)) (now (schedule .entry)) n from (now (w .entry)) (r .at) (now (w
+        .exit)) × (r .at ≤ length (now (schedule .entry)))
         × (r .changed ≡ true → from < r .at) ⌝ }
 {
     let c = Cursor {
@@ -183,8 +183,8 @@ fn run_head(
 fn run_top(p: &[u16], start: usize, w: &mut [u32], schedule: &[u8], from: usize, n: u8) -> NextEntry
     requires { ⌜ (start ≡ 2 + 20 * methods (now p)) × Kept (now p) × (from ≤ length (now schedule)) × (length (now w) ≡
         512) ⌝ }
-    ensures { λ r. ⌜ Ran (now (p .entry)) (now (schedule .entry)) n from (now (w .entry)) (r .at) (now (w .exit)) ×
-        (r .at ≤ length (now (schedule .entry)))
+    ensures { λ r. ⌜ PlainSteps (now (p .entry)) (now (schedule .entry)) n from (now (w .entry)) (r .at) (now (w
+        .exit)) × (r .at ≤ length (now (schedule .entry)))
         × (r .changed ≡ true → from < r .at) ⌝ }
 {
     let none = NextEntry {
@@ -210,8 +210,8 @@ fn run_top(p: &[u16], start: usize, w: &mut [u32], schedule: &[u8], from: usize,
 fn run_frames(p: &[u16], start: usize, w: &mut [u32], schedule: &[u8], from: usize, n: u8) -> usize
     requires { ⌜ (start ≡ 2 + 20 * methods (now p)) × Kept (now p) × (from ≤ length (now schedule)) × (length (now w) ≡
         512) ⌝ }
-    ensures { λ r. ⌜ Ran (now (p .entry)) (now (schedule .entry)) n from (now (w .entry)) r (now (w .exit)) × (r ≤
-        length (now (schedule .entry))) ⌝ }
+    ensures { λ r. ⌜ PlainSteps (now (p .entry)) (now (schedule .entry)) n from (now (w .entry)) r (now (w .exit))
+        × (r ≤ length (now (schedule .entry))) ⌝ }
 {
     let mut k = from;
     loop {
@@ -234,8 +234,8 @@ pub fn stretch(
 ) -> usize
     requires { ⌜ (start ≡ 2 + 20 * methods (now p)) × (8192 ≤ length (now work)) × (from ≤ length (now schedule)) × (n <
         8) × Kept (now p) ⌝ }
-    ensures { λ r. ⌜ Ran (now (p .entry)) (now (schedule .entry)) n from (partOf (now (work .entry)) n) r (partOf (now
-        (work .exit)) n)
+    ensures { λ r. ⌜ PlainSteps (now (p .entry)) (now (schedule .entry)) n from (partOf (now (work .entry)) n) r
+        (partOf (now (work .exit)) n)
         × (now (work .exit) ≡ withPart (now (work .entry)) n (partOf (now (work .exit)) n)) × (r ≤ length (now
         (schedule .entry))) ⌝ }
 {

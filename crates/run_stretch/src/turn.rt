@@ -5,7 +5,7 @@ ghost use Rattle.table.specs.Table.{methods, offsetOf};
 ghost use Rattle.table.proofs.Accepted.{Kept};
 ghost use Rattle.table.proofs.Owners.{Inside};
 ghost use Rattle.run_ops.specs.OpsCode.{actOp, stepOp};
-ghost use Rattle.run_stretch.specs.StretchCode.{headWith, laid, Steady, Goes, At};
+ghost use Rattle.run_stretch.specs.StretchCode.{headWith, laid, HeadFits, CursorStep, At};
 use super::cursor::Cursor;
 use super::jumps::jump;
 use super::jumps::jump_on_false;
@@ -23,12 +23,12 @@ use super::numbers::sub;
 use run_store::head::Head;
 use run_values::moves::extend;
 
-// The op's function. An op that is not done here halts. All numbers below 32 have an arm, so that no test of the number is
-// compiled.
+// The op's function. An op that is not done here halts. All numbers below 32 have an arm, so that no test of the number
+// is compiled.
 pub fn act(p: &[u16], w: &mut [u32], h: Head, c: Cursor, offset: u32, op: usize, a: u16) -> Cursor
-    requires { ⌜ Steady h (now w) c × (c .place < 65536) × (offset ≡ offsetOf (now p) (h .method)) × (offset < 65536)
+    requires { ⌜ HeadFits h (now w) c × (c .place < 65536) × (offset ≡ offsetOf (now p) (h .method)) × (offset < 65536)
         × Kept (now p) × At (now p) (h .method) (c .place) op a ⌝ }
-    ensures { λ r. ⌜ Goes (actOp (now (p .entry)) (laid (now (w .entry)) h c) (headWith h c) op a) (Inside (now
+    ensures { λ r. ⌜ CursorStep (actOp (now (p .entry)) (laid (now (w .entry)) h c) (headWith h c) op a) (Inside (now
         (p .entry)) (h .method)) h (now (w .entry)) c (now (w .exit)) r ⌝ }
 {
     match op {
@@ -67,12 +67,13 @@ pub fn act(p: &[u16], w: &mut [u32], h: Head, c: Cursor, offset: u32, op: usize,
     }
 }
 
-// The step of the process. That the place is one of the method's is known, and so by the check what its instruction can be.
+// The step of the process. That the place is one of the method's is known, and so by the check what its instruction can
+// be.
 pub fn step_on(p: &[u16], start: usize, w: &mut [u32], h: Head, c: Cursor, offset: u32) -> Cursor
-    requires { ⌜ Steady h (now w) c × (h .status ≡ 1) × (offset ≡ offsetOf (now p) (h .method)) × (offset < 65536)
+    requires { ⌜ HeadFits h (now w) c × (h .status ≡ 1) × (offset ≡ offsetOf (now p) (h .method)) × (offset < 65536)
         × (start ≡ 2 + 20 * methods (now p)) × Kept (now p) × Inside (now p) (h .method) (c .place) ⌝ }
-    ensures { λ r. ⌜ Goes (stepOp (now (p .entry)) (laid (now (w .entry)) h c)) (Inside (now (p .entry)) (h .method)) h
-        (now (w .entry)) c (now (w .exit)) r ⌝ }
+    ensures { λ r. ⌜ CursorStep (stepOp (now (p .entry)) (laid (now (w .entry)) h c)) (Inside (now (p .entry)) (h
+        .method)) h (now (w .entry)) c (now (w .exit)) r ⌝ }
 {
     let at = start + 2 * (c.place as usize);
     let op = (p[at] % 32) as usize;

@@ -38,7 +38,8 @@ module _ (text buffer : List ℕ) {r k : Translation}
       )
 
   -- a table of n words in the buffer
-  module _ {n : ℕ} (e : answerNumbers k ≡ table n) {filled : List ℕ} (f : filled ≡ bufferAfter buffer (textOf text)) where
+  module _ {n : ℕ} (e : answerNumbers k ≡ table n) {filled : List ℕ}
+      (f : filled ≡ bufferAfter buffer (textOf text)) where
     g : Given buffer (textOf text) n
     g = given buffer text n (sym same ∙ e)
 

@@ -72,8 +72,8 @@ fn run_with(
     }
 }
 
-// Asks 30, 31 and 32, then the eight questions, and runs where none says no. A table has at most 2 + 20 * 32 + 2 * 4,096
-// words.
+// Asks 30, 31 and 32, then the eight questions, and runs where none says no. A table has at most 2 + 20 * 32 + 2 *
+// 4,096 words.
 pub fn run_text(
     text: &[u8],
     schedule: &[u8],

@@ -14,7 +14,7 @@ use Rattle.machine.specs.State.{Frame, Config, Line, lineOf, gave}
 use Rattle.machine.specs.Entry.{thingsOf}
 use Rattle.machine.specs.Sound.{Made, ValueSound}
 use Rattle.machine.specs.Answer.{traceAfter}
-use Rattle.machine.proofs.Reached.{Running}
+use Rattle.machine.proofs.Reachable.{Running}
 use Rattle.layout.specs.Layout.{valueWords, encode}
 use Rattle.layout.proofs.Frames.{tagOf, numberOf}
 use Rattle.run_store.specs.declared.values.Val.{Val}

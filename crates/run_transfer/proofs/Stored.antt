@@ -16,7 +16,7 @@ use Rattle.machine.specs.State.{Frame, Process, Config, State, processAt, setPr
 use Rattle.machine.specs.Act.{passedBy}
 use Rattle.machine.specs.Entry.{lostWith, without, frameWithout, framesWithout, thingsOf, runs, joined}
 use Rattle.machine.specs.Sound.{ValueSound, FrameSound}
-use Rattle.machine.proofs.Reached.{Stack, stacked, Running}
+use Rattle.machine.proofs.Reachable.{Stack, stacked, Running}
 use Rattle.machine.proofs.Giving.{process-same, process-other, count-set, joined-old, joined-new}
 use Rattle.layout.specs.Layout.{processWords, encode}
 use Rattle.layout.proofs.RoundTrip.{process-length}

@@ -10,7 +10,7 @@ use Rattle.machine.specs.Value.{Value, empty}
 use Rattle.machine.specs.State.{Frame, Config, atPlace, withPending, withSlot, push}
 use Rattle.machine.specs.Act.{passedBy}
 use Rattle.machine.specs.Entry.{runs}
-use Rattle.machine.proofs.Reached.{Stack}
+use Rattle.machine.proofs.Reachable.{Stack}
 use Rattle.layout.specs.Layout.{valueWords, headWords, frameValues, processWords}
 use Rattle.layout.proofs.Frames.{tagOf, numberOf, write, frame-slot-get, frame-slot-set, frame-pending-get, frame-pending-set, frame-push, frame-pop}
 use Rattle.layout.proofs.Process.{part, Fitting, headsBelow, valuesBelow, process-part, process-fitting, part-count, part-status, part-fault, part-head-get, part-head-set, part-value-get, part-value-set}

@@ -23,7 +23,7 @@ abbrev pub Apart : Program → Type 0
 Apart [] = Unit {0}
 Apart (m ∷ ms) = All (Unlike m) ms × Apart ms
 
--- where no place is told of a name, all is well with it
+-- where no place is given for a name, all is well with it
 pub unless-nil : (ok : Bool) (x : Name) → unless ok x ≡ [] → T ok
 unless-nil true x e = tt
 unless-nil false x e = cons≢nil e

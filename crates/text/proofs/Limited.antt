@@ -114,7 +114,7 @@ names-kept bytes ms e =
 
 -- No limit passed
 
--- no place is told where no name is
+-- no place is given where no name is
 place-none : (o : Option Name) → placeOf o ≡ none → o ≡ none
 place-none none e = refl
 place-none (some x) e = absurd (Option·some-ne-none _ e)

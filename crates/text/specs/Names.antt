@@ -2,7 +2,7 @@
 -- method, or called with a wrong argument count", "at its lowest byte index", "a missing main is 31 at the text's end".
 --
 -- Each definition lists the places at fault; a text has no such fault where the list is empty, and else the lowest of
--- them is told. Methods and variables are two name spaces.
+-- them is given. Methods and variables are two name spaces.
 use Prim.Native.Nat.{ℕ}
 use mathlib.Core.Bool.{Bool, false, cond, not}
 use mathlib.Core.List.{List, [], _∷_, _++_, map}

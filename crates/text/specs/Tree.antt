@@ -15,7 +15,7 @@ ascii []ˢ = []
 ascii (c ∷ˢ s) = code c ∷ ascii s
 
 -- A name: its bytes, and where in the text it stands. The meaning of a text and its table go by the bytes alone; the
--- place is what a refusal tells.
+-- place is what a refusal gives.
 pub record Name : Type 0 where
   pub spelling : List ℕ
   pub at : ℕ

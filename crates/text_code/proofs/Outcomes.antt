@@ -15,7 +15,7 @@ use Rattle.text_tokens.specs.Places.{tokensAt}
 use Rattle.text_slots.specs.Placing.{Placing}
 use Rattle.text_emit_expr.specs.CodeBy.{numberFits}
 use Rattle.text_declare.specs.Entered.{typed}
-use Rattle.text_code.specs.OutcomeCode.{Tables, Written, Over, Outcome, all-written, over}
+use Rattle.text_code.specs.OutcomeCode.{Tables, Written, Overflow, Outcome, all-written, over}
 use Rattle.text_code.proofs.Words.{put-both, set-argument}
 use Rattle.text_code.proofs.Quiet.{both-fit}
 
@@ -56,15 +56,15 @@ module _ (text : List ℕ) where
   }
 
   -- where the first part does not fit, all does not
-  pub over-first : (c c' : List Instruction) (ds es : List Declared) (σ : Tables) → Over σ c ds
-      → Over σ (c ++ c') (ds ++ es)
+  pub over-first : (c c' : List Instruction) (ds es : List Declared) (σ : Tables) → Overflow σ c ds
+      → Overflow σ (c ++ c') (ds ++ es)
   over-first c c' ds es σ (inl h) = inl (omega (arith, length-append c c'))
   over-first c c' ds es σ (inr (inl e)) =
       inr (inl (both-fit c c' ∙ false-and (every numberFits c) (every numberFits c') e))
   over-first c c' ds es σ (inr (inr h)) = inr (inr (omega (arith, length-append ds es)))
 
   pub over-second : (c c' : List Instruction) (ds es : List Declared) (σ τ : Tables) → Written text c ds σ τ
-      → every numberFits c ≡ true → Over τ c' es → Over σ (c ++ c') (ds ++ es)
+      → every numberFits c ≡ true → Overflow τ c' es → Overflow σ (c ++ c') (ds ++ es)
   over-second c c' ds es σ τ w q (inl h) = let a = w .counted in inl (omega (arith, length-append c c'))
   over-second c c' ds es σ τ w q (inr (inl e)) =
       inr (inl (both-fit c c' ∙ (rw q e)))
@@ -98,5 +98,5 @@ module _ (text : List ℕ) where
       {σ τ υ : Tables} {ok fine : Bool} {at place : ℕ} → ok ≡ false → fine ≡ false
       → Outcome text low c ds us σ ok at τ → Outcome text most (c ++ c') ds vs σ fine place υ
   outcome-stuck c c' {ds} {us} {vs} {low} {most} {σ} t p (over o v) =
-      over p (subst (λ (es : List Declared). Over σ (c ++ c') es) (append-nil ds) (over-first c c' ds [] σ v))
+      over p (subst (λ (es : List Declared). Overflow σ (c ++ c') es) (append-nil ds) (over-first c c' ds [] σ v))
   outcome-stuck c c' t p (all-written o l i u q w) = absurd (clash t (passes o))

@@ -36,8 +36,8 @@ pub record Written (text : List ℕ) (c : List Instruction) (ds : List Declared)
   pub kept : (m : ℕ) (sc : Scope) → m ≤ σ .n → Placing text (σ .scope) m sc → Placing text (τ .scope) m sc
 
 -- They do not fit: more than 4,096 instructions, a number above 32,767, or more than 16 slots.
-abbrev pub Over : Tables → List Instruction → List Declared → Type 0
-Over σ c ds =
+abbrev pub Overflow : Tables → List Instruction → List Declared → Type 0
+Overflow σ c ds =
     (4096 < σ .count + length c) ⊎ ((every numberFits c ≡ false) ⊎ (16 < σ .used + length ds))
 
 -- The tokens us come after the part.
@@ -45,4 +45,4 @@ pub data Outcome (text : List ℕ) (low : ℕ) (c : List Instruction) (ds : List
     (ok : Bool) (at : ℕ) (τ : Tables) : Type 0 where
   all-written : ok ≡ true → low ≤ at → at ≤ length text → us ≡ tokensAt text at → every numberFits c ≡ true
       → Written text c ds σ τ → Outcome text low c ds us σ ok at τ
-  over : ok ≡ false → Over σ c ds → Outcome text low c ds us σ ok at τ
+  over : ok ≡ false → Overflow σ c ds → Outcome text low c ds us σ ok at τ

@@ -1,5 +1,5 @@
--- The code of a statement with the methods numbered in any way: crate text's `code` is the one with their numbers in the
--- table (proofs/Numbered.antt). While a text is gone over, a method is told by the place of the called name.
+-- The code of a statement with the methods numbered in any way: crate text's `code` is the one with their numbers in
+-- the table (proofs/Numbered.antt). While a text is gone over, a method is given by the place of the called name.
 use Prim.Native.Nat.{ℕ, _+_}
 use mathlib.Core.Bool.{Bool, true, false}
 use mathlib.Core.List.{List, [], _∷_, _++_}

@@ -22,7 +22,7 @@ use Rattle.text_declare.specs.Entered.{typed}
 use Rattle.text_emit_expr.specs.CodeBy.{numberFits}
 use Rattle.text_emit_expr.specs.Emitted.{Emitted}
 use Rattle.text_emit_expr.specs.declared.expression.EmitAt.{EmitAt}
-use Rattle.text_code.specs.OutcomeCode.{Tables, Written, Over, Outcome, all-written, over}
+use Rattle.text_code.specs.OutcomeCode.{Tables, Written, Overflow, Outcome, all-written, over}
 use Rattle.text_code.proofs.Outcomes.{outcome-then, outcome-stuck}
 use Rattle.text_code.proofs.Forms.{outcome-same}
 use Rattle.text_emit.specs.declared.emit.Emit.{Emit}

@@ -133,8 +133,8 @@ SimpleEmits text scope n e code r code' =
 abbrev pub Scoped : List ℕ → List ℕ → ℕ → Scope → Emit → Type 0
 Scoped text scope n sc e = e .ok ≡ true → Placing text scope n sc × (n ≤ e .used)
 
--- What is made of any outcome before a part of a text that may declare variables: the part is what the rule reads, c its
--- code from a slot and an instruction on, and ds what it declares.
+-- What is made of any outcome before a part of a text that may declare variables: the part is what the rule reads, c
+-- its code from a slot and an instruction on, and ds what it declares.
 abbrev pub Translates : {A : Type 0} → (Scopes → List Token → Reading A) → (Scope → ℕ → ℕ → A → List Instruction)
     → (A → List Declared) → List ℕ → ℕ → Emit → List ℕ → List ℕ → List ℕ → Emit → List ℕ → List ℕ → List ℕ → Type 0
 Translates rule c ds text n e scope row code r scope' row' code' =

@@ -122,7 +122,7 @@ module _ (text : List ℕ) (n left : ℕ) (ms : Program) (known : MethodsOf text
               (let one = length-append (b ++ C x) (JFALSE 0 ∷ []) in
               let two = length-append b (C x) in omega arith)
 
-      -- an if without else: JFALSE goes behind the body
+      -- an if without else: JFALSE goes to after the body
       abbrev Target : Expr → Statement → ℕ
       Target x t = σ .count + length b + length (C x) + 1 + length (S x t)
 
@@ -249,7 +249,7 @@ module _ (text : List ℕ) (n left : ℕ) (ms : Program) (known : MethodsOf text
         (outcome-same text (else-is us low b es σ scopes sc pl few h x t u)
         (append-assoc es (within t) (within u)) z₁))))))
 
-    -- a while: JUMP goes back to the condition, JFALSE behind it
+    -- a while: JUMP goes back to the condition, JFALSE to after it
     pub while-ends : (back : Emit) (code₄ code₅ : List ℕ) → PutsOne 17 (e .count) s code₃ back code₄
         → Patches back (c .count) (back .count) code₄ code₅
         → Translates (whileRule left) By within text n e scope row code₀ back scope' row' code₅
@@ -275,7 +275,7 @@ module _ (text : List ℕ) (n left : ℕ) (ms : Program) (known : MethodsOf text
         let two = length-append b C in
         let three = length-append S (JUMP (e .count) ∷ []) in omega arith) z)))))
 
-  -- the body of an else: JUMP goes behind it, and the JFALSE of its if behind that
+  -- the body of an else: JUMP goes to after it, and the JFALSE of its if to after that
   pub otherwise-ends : (e jump r : Emit) (k : ℕ) (scope row code₀ code₁ code₂ scope' row' code₃ code₄ : List ℕ)
       → e .ok ≡ true → PutsOne 17 0 e code₀ jump code₁ → Patches jump k (jump .count) code₁ code₂
       → StatementTranslates (bodyFrom left) text n jump scope row code₂ r scope' row' code₃
@@ -304,7 +304,7 @@ module _ (text : List ℕ) (n left : ℕ) (ms : Program) (known : MethodsOf text
       let two = length-append d (JUMP 0 ∷ []) in omega arith) h₁ in
       weaker-holds (λ t vs z.
       let T = By sc (σ .used + length es) X t in
-      let z₁ = outcome-same text (behind b d X (σ .count) (λ at. By sc (σ .used + length es) at t)) refl z in
+      let z₁ = outcome-same text (after-jump b d X (σ .count) (λ at. By sc (σ .used + length es) at t)) refl z in
       outcome-same text (append-assoc b (JFALSE X ∷ d) _) refl
       (patched text n r scope' row' code₃ code₄ (b ++ (JFALSE X ∷ d)) T 17 0 (r .count) (e .count) (X + length T) patch₂
       jump-fits
@@ -319,11 +319,11 @@ module _ (text : List ℕ) (n left : ℕ) (ms : Program) (known : MethodsOf text
       slots : {i j : ℕ} → e .used ≡ i → j ≡ i → n ≤ e .used → n ≤ j
       slots p q le = omega arith
 
-      behind : (b d : List Instruction) (X at : ℕ) (T : ℕ → List Instruction)
+      after-jump : (b d : List Instruction) (X at : ℕ) (T : ℕ → List Instruction)
           → (b ++ (JFALSE (at + length b + 1 + length d + 1) ∷ d ++ (JUMP 0 ∷ [])))
           ++ T (at + length (b ++ (JFALSE (at + length b + 1 + length d + 1) ∷ d ++ (JUMP 0 ∷ []))))
           ≡ (b ++ (JFALSE (at + length b + 1 + length d + 1) ∷ d)) ++ (JUMP 0 ∷ T (at + length b + 1 + length d + 1))
-      behind b d X at T =
+      after-jump b d X at T =
           let J = JFALSE (at + length b + 1 + length d + 1) in
           ap (λ (l : List Instruction). l ++ T (at + length (b ++ (J ∷ d ++ (JUMP 0 ∷ [])))))
           (sym (append-assoc b (J ∷ d) (JUMP 0 ∷ [])))

@@ -17,7 +17,7 @@ use Rattle.text_scan.proofs.Holding.{Holds, holds, off, weaker-holds}
 use Rattle.text_slots.specs.Placing.{Placing}
 use Rattle.text_declare.specs.Entered.{typed}
 use Rattle.text_emit_expr.specs.CodeBy.{numberFits}
-use Rattle.text_code.specs.OutcomeCode.{Tables, Written, Over, Outcome, all-written, over}
+use Rattle.text_code.specs.OutcomeCode.{Tables, Written, Overflow, Outcome, all-written, over}
 use Rattle.text_code.proofs.Quiet.{both-fit}
 use Rattle.text_code.proofs.Outcomes.{written-then, over-second, outcome-stays}
 use Rattle.text_code.proofs.Steps.{patch-stays}
@@ -46,7 +46,7 @@ module _ (text : List ℕ) where
   }
 
   -- what fits is not over
-  pub not-over : (c c' : List Instruction) (ds es : List Declared) {σ τ : Tables} → Over σ c ds
+  pub not-over : (c c' : List Instruction) (ds es : List Declared) {σ τ : Tables} → Overflow σ c ds
       → every numberFits (c ++ c') ≡ true → Written text (c ++ c') (ds ++ es) σ τ → ⊥
   not-over c c' ds es (inl h) q w =
       let a = w .counted in

@@ -61,7 +61,8 @@ unfoldable pub whileRule : ℕ → Scopes → List Token → Reading Statement
 whileRule left scopes ts =
     andThen (conditionRule scopes ts) (λ e us. andThen (bodyFrom left scopes us) (λ s vs. read (loop e s) vs))
 
--- the code of an else's body t, after the instructions d of the if's: the JFALSE before them goes behind a JUMP over it
+-- the code of an else's body t, after the instructions d of the if's: the JFALSE before them goes to after a JUMP over
+-- it
 abbrev pub elseFrom : ℕ → List Instruction → (ℕ → List Instruction) → List Instruction
 elseFrom at d t =
     JFALSE (at + 1 + length d + 1)

@@ -108,7 +108,7 @@ ends-list text low count code (i ∷ c) m r f h =
     {x = count + suc (length c)} {y = count + 1 + length c} (omega arith)
     (subst (λ z. Ends text low (count + suc (length c)) z m r) (sym (put-more code count i c)) h))))
 
--- what does not fit fits no better with more behind it
+-- what does not fit fits no better with more after it
 refused-list : (count : ℕ) (c : List Instruction) (m : Reading (List Instruction))
     → (leb (count + length c) 4096 && every numberFits c) ≡ false → Refused count (prefixed c m)
 unfolding prefixed

@@ -42,17 +42,17 @@ begun-stands text p from count h l c = record {
 }
 
 -- every answer from the state reached is one from the beginning
-abbrev pub Reached : List ℕ → List ℕ → ℕ → List ℕ → List ℕ → StateAt → List ℕ → List ℕ → StateAt → Type 0
-Reached text scope n p code s p' code' s' =
+abbrev pub LeadsFrom : List ℕ → List ℕ → ℕ → List ℕ → List ℕ → StateAt → List ℕ → List ℕ → StateAt → Type 0
+LeadsFrom text scope n p code s p' code' s' =
     n ≤ 16 → (scopes : Scopes) (sc : Scope) → Placing text scope n sc → Leads scopes sc text p code s p' code' s'
 
 pub reached-here : (text scope : List ℕ) (n : ℕ) (p code : List ℕ) (s : StateAt)
-    → Reached text scope n p code s p code s
+    → LeadsFrom text scope n p code s p code s
 reached-here text scope n p code s le scopes sc pl r h = h
 
 pub reached-on : (text scope : List ℕ) (n : ℕ) (p code : List ℕ) (s : StateAt) (p₁ code₁ : List ℕ) (s₁ : StateAt)
-    (p₂ code₂ : List ℕ) (s₂ : StateAt) → Reached text scope n p code s p₁ code₁ s₁ → Standing text p₁ s₁
-    → Steps text scope n p₁ code₁ s₁ p₂ code₂ s₂ → Reached text scope n p code s p₂ code₂ s₂
+    (p₂ code₂ : List ℕ) (s₂ : StateAt) → LeadsFrom text scope n p code s p₁ code₁ s₁ → Standing text p₁ s₁
+    → Steps text scope n p₁ code₁ s₁ p₂ code₂ s₂ → LeadsFrom text scope n p code s p₂ code₂ s₂
 reached-on text scope n p code s p₁ code₁ s₁ p₂ code₂ s₂ f st g le scopes sc pl r h =
     f le scopes sc pl r (g .leads st le scopes sc pl r h)
 
@@ -126,7 +126,7 @@ begun-rest scopes sc p ts e us q =
     ∙ ap (λ c. read c us) (append-nil (codeBy placeOf sc e))
 
 pub expression-emitted : (text scope : List ℕ) (n from count : ℕ) (p code p' code' : List ℕ) (s : StateAt)
-    → Standing text p' s → 3 ≤ s .phase → Reached text scope n p code (begun from count) p' code' s
+    → Standing text p' s → 3 ≤ s .phase → LeadsFrom text scope n p code (begun from count) p' code' s
     → ExpressionEmitted text scope n from code count code'
     (record { ok = eqb (s .phase) 3; at = s .at; count = s .count })
 expression-emitted text scope n from count p code p' code' s st h f le scopes sc pl e us q =

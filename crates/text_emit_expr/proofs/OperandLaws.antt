@@ -32,7 +32,7 @@ use Rattle.text_emit_expr.proofs.FlushLaws.{fits-other}
 use Rattle.text_emit_expr.proofs.PartLaws.{token-is, Came, came, then-came}
 use Rattle.text_emit_expr.proofs.StepLaws.{phase-operand, emit-steps, give-up-steps, stuck-steps, bracket-steps}
 
--- numbers up to 32767 are told apart
+-- numbers up to 32767 are kept apart
 capped-small : (m v : ℕ) → v ≡ capped m → v < 32768 → v ≡ m
 unfolding capped
 capped-small m v e h = by (ltb m 32768) refl e

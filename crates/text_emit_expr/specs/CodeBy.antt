@@ -1,5 +1,5 @@
 -- The code of an expression with the methods numbered in any way: crate text's `exprCode` is the one with their numbers
--- in the table (proofs/CodeLaws.antt). While a text is gone over, a method is told by the place of the called name.
+-- in the table (proofs/CodeLaws.antt). While a text is gone over, a method is given by the place of the called name.
 use Prim.Native.Nat.{ℕ}
 use mathlib.Core.Bool.{Bool, true, cond}
 use mathlib.Core.List.{List, [], _∷_, _++_}

@@ -39,7 +39,7 @@ fn emit_parameters(
     }
 }
 
-// "methodParams? )", after the opening bracket, behind the `count` instructions that stand in the buffer.
+// "methodParams? )", after the opening bracket, after the `count` instructions that stand in the buffer.
 pub fn emit_arguments(
     text: &[u8],
     from: usize,

@@ -36,7 +36,7 @@ fn step(
     ended_step(text, pending, code, s, t)
 }
 
-// The code of the expression at `from`, behind the `count` instructions that stand in the buffer.
+// The code of the expression at `from`, after the `count` instructions that stand in the buffer.
 pub fn emit_expression(
     text: &[u8],
     from: usize,

@@ -112,7 +112,7 @@ fn recv_step(text: &[u8], pending: &mut [usize], s: StateAt, t: TokenAt) -> Stat
     gave_up(s)
 }
 
-// "methodName ( methodParams? )", after its bracket at `from`: CALL waits for the closing bracket; the method is told
+// "methodName ( methodParams? )", after its bracket at `from`: CALL waits for the closing bracket; the method is given
 // by the place of its name.
 fn call_step(
     text: &[u8],

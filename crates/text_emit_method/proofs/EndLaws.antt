@@ -13,7 +13,7 @@ use Rattle.text.specs.Tree.{Carried, intType, booleanType, qbitType, NonVoidTyp
 use Rattle.text.specs.Translation.{Instruction, GET, RET, carriedCode, typeCode, returnCode, closing, holeType}
 use Rattle.text_parse.specs.Tokens.{Token}
 use Rattle.text_emit_expr.specs.CodeBy.{numberFits}
-use Rattle.text_code.specs.OutcomeCode.{Over, Outcome, all-written, over}
+use Rattle.text_code.specs.OutcomeCode.{Overflow, Outcome, all-written, over}
 use Rattle.text_code.proofs.Quiet.{quiet-after, closing-quiet}
 use Rattle.text_code.proofs.Forms.{outcome-same}
 use Rattle.text_emit.specs.declared.emit.Emit.{Emit}
@@ -69,7 +69,7 @@ module _ (text : List ℕ) (low : ℕ) (c : List Instruction) (vs : List Declare
   ended-outcome e room (over o (inr (inr h))) = too-much o (inr (inr (omega arith)))
 
   -- what does not fit before its end
-  ended-over : r .ok ≡ false → Over (before row₀ code₀) c vs → Ending text low c vs us t row₀ code₀ r row' code'
+  ended-over : r .ok ≡ false → Overflow (before row₀ code₀) c vs → Ending text low c vs us t row₀ code₀ r row' code'
   ended-over o (inl h) =
       too-much o (inl (let l = length-append c (closing t (length vs)) in omega arith))
   ended-over o (inr (inl g)) = too-much o (inr (inl g))

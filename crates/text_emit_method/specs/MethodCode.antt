@@ -27,7 +27,7 @@ TooLarge ms m =
     (4096 < length (methodBy placeOf ms m))
     ⊎ ((every isNumber (allNumbersIn (m .statements)) ≡ false) ⊎ (16 < length (slotCodes m)))
 
--- its code, with methods told by the places of the called names, stands in the buffer from its first word on, and its
+-- its code, with methods given by the places of the called names, stands in the buffer from its first word on, and its
 -- row is the table's
 pub record MethodWritten (text : List ℕ) (ms : Program) (m : Method) (us : List Token) (from at long : ℕ)
     (row code code' : List ℕ) : Type 0 where

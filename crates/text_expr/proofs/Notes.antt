@@ -18,15 +18,15 @@ use Rattle.text_expr.specs.PhasesCode.{Phase, operand, whole, bare, name
 use Rattle.text_expr.specs.LevelsCode.{Level, Action, stay, assigns, unassigns, opensLevel, closesLevel, nextArgument, astray, beyond, innermost, isOpen, endedAction, newAction, wholeAction, operandAction, namedAction, action, lessOne, countAfter, levelsAfter, outsideOf, withoutLevel, Note, known, noted, note, levelOver}
 
 -- the pass goes on
-abbrev pub Goes : Action → Type 0
-Goes (stay p) = Unit {0}
-Goes assigns = Unit {0}
-Goes unassigns = Unit {0}
-Goes (opensLevel b) = Unit {0}
-Goes closesLevel = Unit {0}
-Goes nextArgument = Unit {0}
-Goes (astray i) = ⊥
-Goes beyond = ⊥
+abbrev pub Continues : Action → Type 0
+Continues (stay p) = Unit {0}
+Continues assigns = Unit {0}
+Continues unassigns = Unit {0}
+Continues (opensLevel b) = Unit {0}
+Continues closesLevel = Unit {0}
+Continues nextArgument = Unit {0}
+Continues (astray i) = ⊥
+Continues beyond = ⊥
 
 -- a closing bracket is no comma
 comma-or-not : (t : Token) → is ")" t ≡ true → is "," t ≡ false
@@ -39,45 +39,45 @@ comma-or-not t e = by (is "," t) refl
     by false c = refl
 
 -- Where the pass goes on, what a token does needs no knowledge of the levels.
-ended-known : (b : Option Bool) (t : Token) → Goes (endedAction b t) → endedAction b t ≡ endedAction (some true) t
+ended-known : (b : Option Bool) (t : Token) → Continues (endedAction b t) → endedAction b t ≡ endedAction (some true) t
 unfolding endedAction
 ended-known none t g = absurd g
 ended-known (some true) t g = refl
 ended-known (some false) t g = by (is ")" t) refl g
   where
-    by : (c : Bool) → is ")" t ≡ c → Goes (cond c closesLevel (astray (t .at)))
+    by : (c : Bool) → is ")" t ≡ c → Continues (cond c closesLevel (astray (t .at)))
         → cond c closesLevel (astray (t .at)) ≡ cond (is "," t) nextArgument (cond c closesLevel (astray (t .at)))
     by true e g = sym (ap (λ (x : Bool). cond x nextArgument closesLevel) (comma-or-not t e))
     by false e g = absurd g
 
-new-known : (a : Bool) (b : Option Bool) (t : Token) → Goes (newAction a b t) → newAction a b t ≡ unassigns
+new-known : (a : Bool) (b : Option Bool) (t : Token) → Continues (newAction a b t) → newAction a b t ≡ unassigns
 unfolding newAction
 new-known true b t g = refl
 new-known false none t g = absurd g
 new-known false (some b) t g = absurd g
 
-whole-known : (b : Option Bool) (t : Token) → Goes (wholeAction b t) → wholeAction b t ≡ wholeAction (some true) t
+whole-known : (b : Option Bool) (t : Token) → Continues (wholeAction b t) → wholeAction b t ≡ wholeAction (some true) t
 unfolding wholeAction
 whole-known b t g = by (isOperator t) g
   where
-    by : (o : Bool) → Goes (cond o (stay operand) (endedAction b t))
+    by : (o : Bool) → Continues (cond o (stay operand) (endedAction b t))
         → cond o (stay operand) (endedAction b t) ≡ cond o (stay operand) (endedAction (some true) t)
     by true g = refl
     by false g = ended-known b t g
 
 bare-known : (a : Bool) (b : Option Bool) (t : Token)
-    → Goes (cond (isOperator t) (newAction a b t) (endedAction b t))
+    → Continues (cond (isOperator t) (newAction a b t) (endedAction b t))
     → cond (isOperator t) (newAction a b t) (endedAction b t)
     ≡ cond (isOperator t) (newAction true (some true) t) (endedAction (some true) t)
 unfolding newAction
 bare-known a b t g = by (isOperator t) g
   where
-    by : (o : Bool) → Goes (cond o (newAction a b t) (endedAction b t))
+    by : (o : Bool) → Continues (cond o (newAction a b t) (endedAction b t))
         → cond o (newAction a b t) (endedAction b t) ≡ cond o unassigns (endedAction (some true) t)
     by true g = new-known a b t g
     by false g = ended-known b t g
 
-named-known : (scopes : Scopes) (x : Name) (b : Option Bool) (t : Token) → Goes (namedAction scopes x b t)
+named-known : (scopes : Scopes) (x : Name) (b : Option Bool) (t : Token) → Continues (namedAction scopes x b t)
     → namedAction scopes x b t ≡ namedAction scopes x (some true) t
 unfolding namedAction
 named-known scopes x b t g = by (is "=" t) (is "(" t) g
@@ -85,15 +85,15 @@ named-known scopes x b t g = by (is "=" t) (is "(" t) g
     assigned : Action
     assigned = cond (isWithends scopes x) (astray (x .at)) assigns
 
-    by : (e c : Bool) → Goes (cond e assigned (cond c (opensLevel true) (wholeAction b t)))
+    by : (e c : Bool) → Continues (cond e assigned (cond c (opensLevel true) (wholeAction b t)))
         → cond e assigned (cond c (opensLevel true) (wholeAction b t))
         ≡ cond e assigned (cond c (opensLevel true) (wholeAction (some true) t))
     by true c g = refl
     by false true g = refl
     by false false g = whole-known b t g
 
-pub action-known : (scopes : Scopes) (p : Phase) (a : Bool) (b : Option Bool) (t : Token) → Goes (action scopes p a b t)
-    → action scopes p a b t ≡ known scopes p t
+pub action-known : (scopes : Scopes) (p : Phase) (a : Bool) (b : Option Bool) (t : Token)
+    → Continues (action scopes p a b t) → action scopes p a b t ≡ known scopes p t
 unfolding action known
 action-known scopes operand a b t g = refl
 action-known scopes whole a b t g = whole-known b t g
@@ -219,7 +219,7 @@ closes-right d r n l ls h = record {
 }
 
 -- Every action with which the pass goes on; one that closes a level has one to close.
-pub note-right : (d : ℕ) (r : Note) (n : ℕ) (ls : List Level) (a : Action) → Right d r n ls → Goes a
+pub note-right : (d : ℕ) (r : Note) (n : ℕ) (ls : List Level) (a : Action) → Right d r n ls → Continues a
     → (a ≡ closesLevel → 0 < length ls)
     → Right d (note d a r) (countAfter a n ls) (levelsAfter a n ls)
 unfolding note countAfter levelsAfter outsideOf withoutLevel

@@ -1,4 +1,5 @@
--- A method's code with its methods numbered in two ways: the same instructions, but for the numbers of the called names.
+-- A method's code with its methods numbered in two ways: the same instructions, but for the numbers of the called
+-- names.
 use Prim.Native.Nat.{ℕ, zero, suc, _+_, _<_}
 use native.Mathlib.Omega.{arith}
 use mathlib.Core.Path.{_≡_, refl, sym, ap, subst, _∙_}

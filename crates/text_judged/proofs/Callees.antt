@@ -17,7 +17,7 @@ use Rattle.text_scan.specs.Events.{Event, methodNamed, declared, used, called, 
 use Rattle.text_scan.specs.ScanCode.{eventsFrom}
 use Rattle.text_scan.specs.FaultsCode.{Entry, Blocks, countOf, callable, invocable, entriesOf, innermost, withName, withoutBlock, namesIn, faultsOf, methodFaultsOf, mainFaultOf, faultsFrom}
 use Rattle.text_scan.proofs.Methods.{parameterCount}
-use Rattle.text_scan.proofs.EventsText.{text-told}
+use Rattle.text_scan.proofs.EventsText.{text-events}
 use Rattle.text_scan.proofs.SameFaults.{text-faults, text-count}
 use Rattle.text_emit_expr.specs.CodeBy.{placeOf}
 use Rattle.text_code.specs.StatementBy.{methodBy}
@@ -25,7 +25,7 @@ use Rattle.text_judged.specs.JudgedCode.{Spelt, There}
 use Rattle.text_judged.proofs.Spelling.{Calling, events-of, text-spelt}
 use Rattle.text_judged.proofs.Alike.{AllAlike, program-alike}
 
--- no fault is told
+-- no fault is found
 
 lowest-none : (is : List ℕ) → lowest is ≡ none → is ≡ []
 unfolding lowest
@@ -91,7 +91,7 @@ is-there ms x n (some m) e t = record { method = m; found = e }
 abbrev pub Callee : List ℕ → Program → Name → Type 0
 Callee text ms x = Spelt text x × There ms x
 
--- The code of the text's k-th method, with the methods told by the places of the called names and in any other way.
+-- The code of the text's k-th method, with the methods given by the places of the called names and in any other way.
 module _ (text : List ℕ) (ns : Program) (us : List Token) (e : programOf (tokensOf text) ≡ read ns us)
     (f : nameRefusal (length text) ns ≡ none) where
   abbrev ms : Program
@@ -124,6 +124,6 @@ module _ (text : List ℕ) (ns : Program) (us : List Token) (e : programOf (toke
   pub text-alike : (num : Name → ℕ) (k : ℕ) (m : Method) → methodAt ns k ≡ some m
       → AllAlike (Callee text ms) placeOf num (methodBy placeOf ms m) (methodBy num ms m)
   text-alike num k m q =
-      let t = text-told text ns us e in
+      let t = text-events text ns us e in
       program-alike (Callee text ms) placeOf num ms Known by-call by-invoke ns (t .ends)
-      (subst (All Known) (t .tells) all-known) k m q
+      (subst (All Known) (t .events) all-known) k m q

@@ -1,4 +1,4 @@
--- Every name of a text stands at its place; so do the names that its events tell.
+-- Every name of a text stands at its place; so do the names that its events have.
 use Prim.Native.Nat.{ℕ, zero, suc, _+_, _≤_, _<_}
 use native.Mathlib.Omega.{arith}
 use mathlib.Core.Path.{_≡_, refl, sym, ap, subst, _∙_}

@@ -15,13 +15,13 @@ use Rattle.text_parse.specs.Equations.{methodFrom}
 use Rattle.text_tokens.specs.Places.{tokensAt}
 use Rattle.text_tokens.proofs.Tokenwise.{tokens-at-start}
 use Rattle.text_scan.specs.Standing.{Stand, stand}
-use Rattle.text_scan.proofs.EventsText.{text-told, same-tree, same-left}
-use Rattle.text_limits.specs.LimitsCode.{WellNamed, MethodThere, isWithin, Answered, Reached}
+use Rattle.text_scan.proofs.EventsText.{text-events, same-tree, same-left}
+use Rattle.text_limits.specs.LimitsCode.{WellNamed, MethodThere, isWithin, Answered, LimitsUpTo}
 
 pub begins : (text : List ℕ) (ns : Program) (us : List Token) → programOf (tokensOf text) ≡ read ns us
-    → Reached text ns 0 0 0
+    → LimitsUpTo text ns 0 0 0
 begins text ns us e =
-    let t = text-told text ns us e in
+    let t = text-events text ns us e in
     record {
       rest = ns;
       ends = t .ends;
@@ -33,7 +33,7 @@ begins text ns us e =
     }
 
 -- all are judged: no limit is passed
-pub all-within : (text : List ℕ) (ns : Program) (at k total : ℕ) → Reached text ns at k total → length ns ≤ k
+pub all-within : (text : List ℕ) (ns : Program) (at k total : ℕ) → LimitsUpTo text ns at k total → length ns ≤ k
     → (limitRefusal ns ≡ none) × (k ≡ length ns) × (total ≡ length (programCode (mainFirst ns) ns))
 unfolding limitRefusal firstOver programCode
 all-within text ns at k total r l = by (r .rest) (r .counted) (r .same) (r .sum)
@@ -47,8 +47,8 @@ all-within text ns at k total r l = by (r .rest) (r .counted) (r .same) (r .sum)
     by (m ∷ rest) c s q = absurd (omega (arith, c))
 
 -- the next method stands at the place
-unfoldable pub next-there : (text : List ℕ) (w : WellNamed text) (at k total : ℕ) → Reached text (w .program) at k total
-    → k < length (w .program) → MethodThere text at k
+unfoldable pub next-there : (text : List ℕ) (w : WellNamed text) (at k total : ℕ)
+    → LimitsUpTo text (w .program) at k total → k < length (w .program) → MethodThere text at k
 unfolding methodAt
 next-there text w at k total r l =
     let (m, us, e, t) = by (r .rest) (r .ends) (r .stands) (r .counted) (r .further 0) in
@@ -64,7 +64,7 @@ next-there text w at k total r l =
 
 -- The method that stands there is judged
 module _ (text : List ℕ) (at k total : ℕ) (h : MethodThere text at k) (next start long : ℕ) (row : List ℕ)
-    (r : Reached text (h .named .program) at k total) where
+    (r : LimitsUpTo text (h .named .program) at k total) where
   abbrev ns : Program
   ns = h .named .program
 
@@ -80,7 +80,7 @@ module _ (text : List ℕ) (at k total : ℕ) (h : MethodThere text at k) (next 
 
   -- no limit is passed with it
   pub goes-on : Answered text at k h k total true next start long row → k < length ns
-      → Reached text ns next (k + 1) (total + long)
+      → LimitsUpTo text ns next (k + 1) (total + long)
   unfolding methodAt programCode
   goes-on a l = by (r .rest) (r .ends) (r .stands) (r .further) (r .counted) (r .same) (r .sum)
     where
@@ -88,7 +88,7 @@ module _ (text : List ℕ) (at k total : ℕ) (h : MethodThere text at k) (next 
           → ((i : ℕ) → methodAt ns (k + i) ≡ methodAt rest i) → k + length rest ≡ length ns
           → firstOver ms 0 0 ns ≡ firstOver ms k total rest
           → total + length (programCode ms rest) ≡ length (programCode ms ns)
-          → Reached text ns next (k + 1) (total + long)
+          → LimitsUpTo text ns next (k + 1) (total + long)
       by [] ends s f c q z = absurd (omega (arith, c))
       by (m ∷ rest) (us ∷ ends) (stand e s) f c q z =
           let same : m ≡ h .method = same-tree m (h .method) us (h .after) (sym e ∙ h .here) in

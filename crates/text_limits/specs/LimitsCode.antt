@@ -67,7 +67,7 @@ pub record Answered (text : List ℕ) (at index : ℕ) (h : MethodThere text at 
   pub counted : ok ≡ true → long ≡ length (methodCode (mainFirst (h .named .program)) (h .method))
 
 -- k methods are judged, which have so many instructions; the others stand from a place on
-pub record Reached (text : List ℕ) (ns : Program) (at k total : ℕ) : Type 0 where
+pub record LimitsUpTo (text : List ℕ) (ns : Program) (at k total : ℕ) : Type 0 where
   pub rest : Program
   pub ends : List (List Token)
   pub stands : Stand (tokensAt text at) rest ends

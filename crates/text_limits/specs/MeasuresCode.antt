@@ -12,7 +12,7 @@ use Rattle.text.specs.Limits.{limitRefusal}
 use Rattle.text_judge.specs.RowsCode.{copied}
 use Rattle.text_put.specs.TableCode.{rowIn}
 use Rattle.text_put.specs.Measures.{Measures}
-use Rattle.text_limits.specs.LimitsCode.{MethodThere, Answered, Reached}
+use Rattle.text_limits.specs.LimitsCode.{MethodThere, Answered, LimitsUpTo}
 
 -- the method of this index is judged, and where no limit is passed with it, its length and its row are kept
 pub record Judgement (text : List ℕ) (at index : ℕ) (h : MethodThere text at index) (total : ℕ) (ok : Bool)
@@ -23,7 +23,7 @@ pub record Judgement (text : List ℕ) (at index : ℕ) (h : MethodThere text at
 
 -- no limit is passed with the first k methods, and their lengths and rows are kept
 pub record Progress (text : List ℕ) (ns : Program) (at k total : ℕ) (lengths rows : List ℕ) : Type 0 where
-  pub reached : Reached text ns at k total
+  pub reached : LimitsUpTo text ns at k total
   pub long : (i : ℕ) (m : Method) → i < k → methodAt ns i ≡ some m
       → getD lengths i 0 ≡ length (methodCode (mainFirst ns) m)
   pub row : (i : ℕ) (m : Method) → i < k → methodAt ns i ≡ some m → rowIn rows i ≡ rowWords m

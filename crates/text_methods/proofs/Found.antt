@@ -22,7 +22,7 @@ use Rattle.text_scan.specs.ScanCode.{kindAt, isNone, lessOne, modeAfter, braces
 use Rattle.text_scan.specs.FaultsCode.{eachMethod}
 use Rattle.text_scan.specs.Standing.{Stand, none-stand, stand}
 use Rattle.text_scan.proofs.Methods.{each-method, firstNamed, first-of}
-use Rattle.text_scan.proofs.EventsText.{text-told}
+use Rattle.text_scan.proofs.EventsText.{text-events}
 use Rattle.text_methods.specs.RowsCode.{Row, namesMethod, endsMethod, rowsFrom, rowsOf, rowOf, rowIndex, Agrees, agrees, no-row}
 use Rattle.text_methods.specs.MethodSays.{MethodSays, stands, absent}
 
@@ -103,18 +103,18 @@ module _ (hs ts : List Token) (x : Name) (n : ℕ) (es : List Event) where
           ∙ keep (and-off (isNone b) (eqb k 22) (not-brace k 33 e refl))
       by false e = brace (eqb k 21) (eqb k 22) refl refl
 
-pub rows-told : (hs : List Token) (m b : ℕ) (ts : List Token)
+pub rows-scanned : (hs : List Token) (m b : ℕ) (ts : List Token)
     → eachMethod rowFor hs (eventsFrom m b ts) ≡ rowsFrom hs b ts
 unfolding eventsFrom rowsFrom eachMethod
-rows-told hs m b [] = refl
-rows-told hs m zero (t ∷ ts) =
+rows-scanned hs m b [] = refl
+rows-scanned hs m zero (t ∷ ts) =
     let k = kindOf (t .bytes) in
     outside hs ts (nameOf t) (argumentCount (rest ts)) (eventsFrom (modeAfter m 0 k) (bracesAfter 0 k) ts) m k
     (kindAt ts)
     ∙ ap (λ (rs : List Row). cond (eqb k 33 && eqb (kindAt ts) 19)
     (rowFor hs (nameOf t) (argumentCount (rest ts)) ∷ rs) rs)
-    (rows-told hs (modeAfter m 0 k) (bracesAfter 0 k) ts)
-rows-told hs m (suc b) (t ∷ ts) =
+    (rows-scanned hs (modeAfter m 0 k) (bracesAfter 0 k) ts)
+rows-scanned hs m (suc b) (t ∷ ts) =
     let k = kindOf (t .bytes) in
     let gs = cond (isNone b && eqb k 22) ts hs in
     let ends : (isNone b && eqb k 22) ≡ endsMethod (suc b) k =
@@ -123,7 +123,7 @@ rows-told hs m (suc b) (t ∷ ts) =
     inside hs ts (nameOf t) (argumentCount (rest ts))
     (eventsFrom (modeAfter m (suc b) k) (bracesAfter (suc b) k) ts) m b k
     (kindAt ts)
-    ∙ rows-told gs (modeAfter m (suc b) k) (bracesAfter (suc b) k) ts
+    ∙ rows-scanned gs (modeAfter m (suc b) k) (bracesAfter (suc b) k) ts
     ∙ ap (λ (c : Bool). rowsFrom (cond c ts hs) (bracesAfter (suc b) k) ts) ends
     ∙ sym (ap (λ (c : Bool). cond (c && (eqb k 33 && eqb (kindAt ts) 19))
     (rowFor hs (nameOf t) (argumentCount (rest ts))
@@ -150,9 +150,9 @@ pub text-rows : (text : List ℕ) (ms : Program) (us : List Token) → programOf
     → RowsFor ms (rowsOf text)
 unfolding rowsOf
 text-rows text ms us e =
-    let t = text-told text ms us e in
+    let t = text-events text ms us e in
     subst (RowsFor ms)
-    (ap (eachMethod rowFor (tokensOf text)) (sym (t .tells)) ∙ rows-told (tokensOf text) 0 0 (tokensOf text)
+    (ap (eachMethod rowFor (tokensOf text)) (sym (t .events)) ∙ rows-scanned (tokensOf text) 0 0 (tokensOf text)
     ∙ ap (λ ts. rowsFrom ts 0 ts) (tokens-at-start text))
     (stand-listed (tokensOf text) ms (t .ends) (t .stands))
 

@@ -113,8 +113,8 @@ fn entry_at(index: &[usize], i: usize) -> MethodAt
     }
 }
 
-// The first method with this name, of any text: an entry of the index, or where there are more methods than entries what
-// is found in the text.
+// The first method with this name, of any text: an entry of the index, or where there are more methods than entries
+// what is found in the text.
 pub fn find_word(text: &[u8], index: &[usize], word: &[u8]) -> MethodAt
     requires { ⌜ Indexed (now text) (now index) ⌝ }
     ensures { λ r. ⌜

@@ -17,7 +17,7 @@ use Rattle.text_scan.specs.ScanCode.{eventsFrom}
 use Rattle.text_scan.specs.FaultsCode.{Entry, eachMethod, entry, entriesOf, namesMain, mainFaultOf}
 use Rattle.text_scan.proofs.Methods.{same-comm}
 use Rattle.text_methods.specs.RowsCode.{Row, rowsOf, rowOf, Agrees, agrees, no-row}
-use Rattle.text_methods.proofs.Found.{rowFor, rows-told}
+use Rattle.text_methods.proofs.Found.{rowFor, rows-scanned}
 use Rattle.text_names.specs.FaultsCode.{allFaults, lowerOf, placeIf}
 use Rattle.text_names.specs.FaultCode.{rowEntry, methodsOf, lowestFault, Refuses}
 use Rattle.text_names.proofs.Merged.{text-refusal}
@@ -40,7 +40,7 @@ text-methods : (text : List ℕ) → entriesOf (eventsFrom 0 0 (tokensAt text 0)
 unfolding entriesOf methodsOf rowsOf
 text-methods text =
     let ts = tokensAt text 0 in
-    entries-rows [] ts (eventsFrom 0 0 ts) ∙ ap (map rowEntry) (rows-told ts 0 0 ts)
+    entries-rows [] ts (eventsFrom 0 0 ts) ∙ ap (map rowEntry) (rows-scanned ts 0 0 ts)
 
 -- a method called main
 abbrev there : Option Row → Bool

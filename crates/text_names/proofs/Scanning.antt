@@ -1,4 +1,4 @@
--- The scan by places tells the faults that the scan over the tokens tells.
+-- The scan by places finds the faults that the scan over the tokens finds.
 use Prim.Native.Nat.{ℕ, zero, suc, _+_, _≤_, _<_}
 use native.Mathlib.Omega.{arith}
 use mathlib.Core.Path.{_≡_, refl, sym, ap, _∙_}

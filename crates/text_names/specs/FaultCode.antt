@@ -46,7 +46,7 @@ unfoldable pub isKnownAt : List ℕ → ℕ → ℕ → ℕ → ℕ → Bool
 isKnownAt text from least start end =
     ltb 0 (foundUpTo least (slice start end text) start 0 0 0 (tokensAt text from))
 
--- the name from start up to end, of role r, with a bracket up to `after` behind it; i methods are passed
+-- the name from start up to end, of role r, with a bracket up to `after` after it; i methods are passed
 unfoldable pub faultHere : List ℕ → ℕ → ℕ → ℕ → ℕ → ℕ → ℕ → ℕ → Bool
 faultHere text from braces i r start end after =
     cond (eqb r 1) (ltb (rowIndex (slice start end text) (rowsOf text)) i)

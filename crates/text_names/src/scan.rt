@@ -1,4 +1,4 @@
-// What a token does, told by what is open before it, by its kind and by the kind of the next one.
+// What a token does, known from what is open before it, by its kind and by the kind of the next one.
 ghost use mathlib.Core.Path.{_≡_};
 ghost use Rattle.text_scan.specs.ScanCode.{endsPart, modeWithin, modeAfter, nameRole, braceRole, role};
 use text_tokens::kinds::CLOSE;

@@ -15,40 +15,40 @@ use Rattle.text_parse.proofs.EnoughExpr.{Room, enough-room}
 use Rattle.text_parse.proofs.EnoughDeclarations.{declarations-from, simple-rule, condition-rule}
 
 module _ (n left : ℕ) (scopes : Scopes) (ts : List Token) where
-  statement-settled : Room 2 ts n
+  statement-stable : Room 2 ts n
       → ((k : ℕ) → Room 2 ts k → statement k left scopes ts ≡ statementRule left scopes ts)
       → statement n left scopes ts ≡ statementFrom left scopes ts
   unfolding statementFrom
-  statement-settled m rule = rule n m ∙ sym (rule (enough ts) (omega (arith, enough-room ts)))
+  statement-stable m rule = rule n m ∙ sym (rule (enough ts) (omega (arith, enough-room ts)))
 
-  body-settled : Room 2 ts n → ((k : ℕ) → Room 2 ts k → body k left scopes ts ≡ bodyRule left scopes ts)
+  body-stable : Room 2 ts n → ((k : ℕ) → Room 2 ts k → body k left scopes ts ≡ bodyRule left scopes ts)
       → body n left scopes ts ≡ bodyFrom left scopes ts
   unfolding bodyFrom
-  body-settled m rule = rule n m ∙ sym (rule (enough ts) (omega (arith, enough-room ts)))
+  body-stable m rule = rule n m ∙ sym (rule (enough ts) (omega (arith, enough-room ts)))
 
-  block-settled : Room 1 ts n → ((k : ℕ) → Room 1 ts k → blockOf k left scopes ts ≡ blockRule left scopes ts)
+  block-stable : Room 1 ts n → ((k : ℕ) → Room 1 ts k → blockOf k left scopes ts ≡ blockRule left scopes ts)
       → blockOf n left scopes ts ≡ blockFrom left scopes ts
   unfolding blockFrom
-  block-settled m rule = rule n m ∙ sym (rule (enough ts) (omega (arith, enough-room ts)))
+  block-stable m rule = rule n m ∙ sym (rule (enough ts) (omega (arith, enough-room ts)))
 
-  statements-settled : Room 3 ts n
+  statements-stable : Room 3 ts n
       → ((k : ℕ) → Room 3 ts k → statements k left scopes ts ≡ statementsRule left scopes ts)
       → statements n left scopes ts ≡ statementsFrom left scopes ts
   unfolding statementsFrom
-  statements-settled m rule = rule n m ∙ sym (rule (enough ts) (omega (arith, enough-room ts)))
+  statements-stable m rule = rule n m ∙ sym (rule (enough ts) (omega (arith, enough-room ts)))
 
   -- a body and what is read after it, and statements
   body-then : {A : Type 0} {f g : Statement → List Token → Reading A} → Room 2 ts n
       → ((k : ℕ) → Room 2 ts k → body k left scopes ts ≡ bodyRule left scopes ts)
       → ((s : Statement) (us : List Token) → Onward ts us → f s us ≡ g s us)
       → andThen (body n left scopes ts) f ≡ andThen (bodyFrom left scopes ts) g
-  body-then m rule e = andThen-same (body-settled m rule) (progress .body-on n left scopes ts) e
+  body-then m rule e = andThen-same (body-stable m rule) (progress .body-on n left scopes ts) e
 
   statements-then : {A : Type 0} {f g : Statements → List Token → Reading A} → Room 3 ts n
       → ((k : ℕ) → Room 3 ts k → statements k left scopes ts ≡ statementsRule left scopes ts)
       → ((ss : Statements) (us : List Token) → Onward ts us → f ss us ≡ g ss us)
       → andThen (statements n left scopes ts) f ≡ andThen (statementsFrom left scopes ts) g
-  statements-then m rule e = andThen-same (statements-settled m rule) (progress .statements-on n left scopes ts) e
+  statements-then m rule e = andThen-same (statements-stable m rule) (progress .statements-on n left scopes ts) e
 
 mutual
   unfolding statement unbracedRule statementRule bodyRule blockRule statementsRule
@@ -60,7 +60,7 @@ mutual
   statement-rule (suc b) left scopes ts l (suc n) m =
       cond-same (next? "{" ts)
       (λ e. deeper-same left ts (λ i.
-      block-settled n i scopes ts (omega arith) (λ k r. block-rule b i scopes ts (omega arith) k r)))
+      block-stable n i scopes ts (omega arith) (λ k r. block-rule b i scopes ts (omega arith) k r)))
       (λ e. unbraced-rule b left scopes ts (omega arith) n (omega arith))
 
   pub body-rule : (b left : ℕ) (scopes : Scopes) (ts : List Token) → Room 2 ts b → (n : ℕ) → Room 2 ts n
@@ -69,7 +69,7 @@ mutual
   body-rule (suc b) left scopes ts l zero m = absurd (omega arith)
   body-rule (suc b) left scopes ts l (suc n) m =
       deeper-same left ts (λ i. cond-same (next? "{" ts)
-      (λ e. block-settled n i scopes ts (omega arith) (λ k r. block-rule b i scopes ts (omega arith) k r))
+      (λ e. block-stable n i scopes ts (omega arith) (λ k r. block-rule b i scopes ts (omega arith) k r))
       (λ e. unbraced-rule b i scopes ts (omega arith) n (omega arith)))
 
   pub unbraced-rule : (b left : ℕ) (scopes : Scopes) (ts : List Token) → Room 1 ts b → (n : ℕ) → Room 1 ts n
@@ -107,7 +107,7 @@ mutual
   statements-rule (suc b) left scopes ts l (suc n) m =
       next-same "}" ts tt (λ f. refl)
       (andThen-same
-      (statement-settled n left scopes ts (omega arith) (λ k r. statement-rule b left scopes ts (omega arith) k r))
+      (statement-stable n left scopes ts (omega arith) (λ k r. statement-rule b left scopes ts (omega arith) k r))
       (progress .statement-on n left scopes ts) (λ s us o.
       statements-then n left scopes us (omega arith) (λ k r. statements-rule b left scopes us (omega arith) k r)
       (λ ss vs p. refl)))
@@ -115,24 +115,24 @@ mutual
 -- Readings with any number that is enough
 module _ (n left : ℕ) (scopes : Scopes) (ts : List Token) where
   pub statement-from : Room 2 ts n → statement n left scopes ts ≡ statementFrom left scopes ts
-  statement-from m = statement-settled n left scopes ts m (statement-rule n left scopes ts m)
+  statement-from m = statement-stable n left scopes ts m (statement-rule n left scopes ts m)
 
   pub body-from : Room 2 ts n → body n left scopes ts ≡ bodyFrom left scopes ts
-  body-from m = body-settled n left scopes ts m (body-rule n left scopes ts m)
+  body-from m = body-stable n left scopes ts m (body-rule n left scopes ts m)
 
   pub block-from : Room 1 ts n → blockOf n left scopes ts ≡ blockFrom left scopes ts
-  block-from m = block-settled n left scopes ts m (block-rule n left scopes ts m)
+  block-from m = block-stable n left scopes ts m (block-rule n left scopes ts m)
 
   pub statements-from : Room 3 ts n → statements n left scopes ts ≡ statementsFrom left scopes ts
-  statements-from m = statements-settled n left scopes ts m (statements-rule n left scopes ts m)
+  statements-from m = statements-stable n left scopes ts m (statements-rule n left scopes ts m)
 
 -- Methods
 
-moreParameters-settled : (n : ℕ) (ps : List Parameter) (ts : List Token) → Room 1 ts n
+moreParameters-stable : (n : ℕ) (ps : List Parameter) (ts : List Token) → Room 1 ts n
     → ((k : ℕ) → Room 1 ts k → moreParameters k ps ts ≡ moreParametersRule ps ts)
     → moreParameters n ps ts ≡ moreParametersFrom ps ts
 unfolding moreParametersFrom
-moreParameters-settled n ps ts m rule = rule n m ∙ sym (rule (enough ts) (omega (arith, enough-room ts)))
+moreParameters-stable n ps ts m rule = rule n m ∙ sym (rule (enough ts) (omega (arith, enough-room ts)))
 
 pub moreParameters-rule : (b : ℕ) (ps : List Parameter) (ts : List Token) → Room 1 ts b → (n : ℕ) → Room 1 ts n
     → moreParameters n ps ts ≡ moreParametersRule ps ts
@@ -142,14 +142,14 @@ moreParameters-rule (suc b) ps ts l zero m = absurd (omega arith)
 moreParameters-rule (suc b) ps ts l (suc n) m =
     andThen-same refl (progress .parameter-on ts) (λ p us o.
     next-same "," us tt
-    (λ f. moreParameters-settled n (ps ++ (p ∷ [])) (rest us) (omega arith)
+    (λ f. moreParameters-stable n (ps ++ (p ∷ [])) (rest us) (omega arith)
     (λ k r. moreParameters-rule b (ps ++ (p ∷ [])) (rest us) (omega arith) k r))
     refl)
 
 pub parameters-rule : (n : ℕ) (ts : List Token) → Room 1 ts n → parameters n ts ≡ parametersRule ts
 unfolding parameters parametersRule
 parameters-rule n ts m =
-    next-same ")" ts tt (λ f. refl) (moreParameters-settled n [] ts m (moreParameters-rule n [] ts m))
+    next-same ")" ts tt (λ f. refl) (moreParameters-stable n [] ts m (moreParameters-rule n [] ts m))
 
 pub methodBody-rule : (n : ℕ) (t : Option NonVoidType) (x : Name) (ps : List Parameter) (ts : List Token) → Room 0 ts n
     → methodBody n t x ps ts ≡ methodBodyRule t x ps ts
@@ -172,10 +172,10 @@ pub method-from : (n : ℕ) (ts : List Token) → Room 0 ts n → method n ts �
 unfolding methodFrom
 method-from n ts m = method-rule n ts m ∙ sym (method-rule (enough ts) ts (omega (arith, enough-room ts)))
 
-program-settled : (n : ℕ) (ts : List Token) → Room 1 ts n
+program-stable : (n : ℕ) (ts : List Token) → Room 1 ts n
     → ((k : ℕ) → Room 1 ts k → program k ts ≡ programRule ts) → program n ts ≡ programOf ts
 unfolding programOf
-program-settled n ts m rule = rule n m ∙ sym (rule (enough ts) (omega (arith, enough-room ts)))
+program-stable n ts m rule = rule n m ∙ sym (rule (enough ts) (omega (arith, enough-room ts)))
 
 pub program-rule : (b : ℕ) (ts : List Token) → Room 1 ts b → (n : ℕ) → Room 1 ts n → program n ts ≡ programRule ts
 unfolding program programRule
@@ -185,8 +185,8 @@ program-rule (suc b) ts l (suc n) m =
     andThen-same (method-from n ts (omega arith)) (progress .method-on n ts) (λ x us o.
     cond-same (atTextEnd us) (λ e. refl)
     (λ e. andThen-same
-    (program-settled n us (omega arith) (λ k r. program-rule b us (omega arith) k r))
+    (program-stable n us (omega arith) (λ k r. program-rule b us (omega arith) k r))
     (progress .methods-on n us) (λ ms vs p. refl)))
 
 pub program-from : (n : ℕ) (ts : List Token) → Room 1 ts n → program n ts ≡ programOf ts
-program-from n ts m = program-settled n ts m (program-rule n ts m)
+program-from n ts m = program-stable n ts m (program-rule n ts m)

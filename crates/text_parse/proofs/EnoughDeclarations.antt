@@ -13,11 +13,11 @@ use Rattle.text_parse.proofs.EnoughExpr.{Room, enough-room, expr-first,
 
 -- Declarations
 
-moreNames-settled : (n : ℕ) (t : NonVoidType) (xs : List Name) (ts : List Token) → Room 1 ts n
+moreNames-stable : (n : ℕ) (t : NonVoidType) (xs : List Name) (ts : List Token) → Room 1 ts n
     → ((k : ℕ) → Room 1 ts k → moreNames k t xs ts ≡ moreNamesRule t xs ts)
     → moreNames n t xs ts ≡ moreNamesFrom t xs ts
 unfolding moreNamesFrom
-moreNames-settled n t xs ts m rule = rule n m ∙ sym (rule (enough ts) (omega (arith, enough-room ts)))
+moreNames-stable n t xs ts m rule = rule n m ∙ sym (rule (enough ts) (omega (arith, enough-room ts)))
 
 pub moreNames-rule : (b : ℕ) (t : NonVoidType) (xs : List Name) (ts : List Token) → Room 1 ts b → (n : ℕ) → Room 1 ts n
     → moreNames n t xs ts ≡ moreNamesRule t xs ts
@@ -27,13 +27,13 @@ moreNames-rule (suc b) t xs ts l zero m = absurd (omega arith)
 moreNames-rule (suc b) t xs ts l (suc n) m =
     next-same "," ts tt
     (λ f. expectName-same (rest ts) (λ x us g.
-    moreNames-settled n t (xs ++ (x ∷ [])) us (omega arith)
+    moreNames-stable n t (xs ++ (x ∷ [])) us (omega arith)
     (λ k r. moreNames-rule b t (xs ++ (x ∷ [])) us (omega arith) k r)))
     refl
 
 moreNames-from : (n : ℕ) (t : NonVoidType) (xs : List Name) (ts : List Token) → Room 1 ts n
     → moreNames n t xs ts ≡ moreNamesFrom t xs ts
-moreNames-from n t xs ts m = moreNames-settled n t xs ts m (moreNames-rule n t xs ts m)
+moreNames-from n t xs ts m = moreNames-stable n t xs ts m (moreNames-rule n t xs ts m)
 
 variables-rule : (n : ℕ) (t : NonVoidType) (x : Name) (ts : List Token) → Room 1 ts n
     → declarationOf n t x ts ≡ variablesRule t x ts
@@ -54,11 +54,11 @@ unfolding declarationFrom
 declaration-from n ts m =
     declaration-rule n ts m ∙ sym (declaration-rule (enough ts) ts (omega (arith, enough-room ts)))
 
-declarations-settled : (n : ℕ) (ds : List Declaration) (ts : List Token) → Room 1 ts n
+declarations-stable : (n : ℕ) (ds : List Declaration) (ts : List Token) → Room 1 ts n
     → ((k : ℕ) → Room 1 ts k → declarations k ds ts ≡ declarationsRule ds ts)
     → declarations n ds ts ≡ declarationsFrom ds ts
 unfolding declarationsFrom
-declarations-settled n ds ts m rule = rule n m ∙ sym (rule (enough ts) (omega (arith, enough-room ts)))
+declarations-stable n ds ts m rule = rule n m ∙ sym (rule (enough ts) (omega (arith, enough-room ts)))
 
 pub declarations-rule : (b : ℕ) (ds : List Declaration) (ts : List Token) → Room 1 ts b → (n : ℕ) → Room 1 ts n
     → declarations n ds ts ≡ declarationsRule ds ts
@@ -68,13 +68,13 @@ declarations-rule (suc b) ds ts l zero m = absurd (omega arith)
 declarations-rule (suc b) ds ts l (suc n) m =
     cond-same (startsType ts)
     (λ e. andThen-same (declaration-from n ts (omega arith)) (progress .declaration-on n ts) (λ d us o.
-    declarations-settled n (ds ++ (d ∷ [])) us (omega arith)
+    declarations-stable n (ds ++ (d ∷ [])) us (omega arith)
     (λ k r. declarations-rule b (ds ++ (d ∷ [])) us (omega arith) k r)))
     (λ e. refl)
 
 pub declarations-from : (n : ℕ) (ds : List Declaration) (ts : List Token) → Room 1 ts n
     → declarations n ds ts ≡ declarationsFrom ds ts
-declarations-from n ds ts m = declarations-settled n ds ts m (declarations-rule n ds ts m)
+declarations-from n ds ts m = declarations-stable n ds ts m (declarations-rule n ds ts m)
 
 -- Statements that hold no other
 

@@ -24,29 +24,29 @@ unfolding enough
 enough-room ts = omega arith
 
 -- a reading that comes to what the production says, from c more than 4 for each token on, comes to the same with enough
-expr-settled : (n : ℕ) (scopes : Scopes) (ts : List Token) → Room 2 ts n
+expr-stable : (n : ℕ) (scopes : Scopes) (ts : List Token) → Room 2 ts n
     → ((k : ℕ) → Room 2 ts k → expr k scopes ts ≡ exprRule scopes ts) → expr n scopes ts ≡ exprFrom scopes ts
 unfolding exprFrom
-expr-settled n scopes ts m rule = rule n m ∙ sym (rule (enough ts) (omega (arith, enough-room ts)))
+expr-stable n scopes ts m rule = rule n m ∙ sym (rule (enough ts) (omega (arith, enough-room ts)))
 
-indivExpr-settled : (n : ℕ) (scopes : Scopes) (ts : List Token) → Room 1 ts n
+indivExpr-stable : (n : ℕ) (scopes : Scopes) (ts : List Token) → Room 1 ts n
     → ((k : ℕ) → Room 1 ts k → indivExpr k scopes ts ≡ indivExprRule scopes ts)
     → indivExpr n scopes ts ≡ indivExprFrom scopes ts
 unfolding indivExprFrom
-indivExpr-settled n scopes ts m rule = rule n m ∙ sym (rule (enough ts) (omega (arith, enough-room ts)))
+indivExpr-stable n scopes ts m rule = rule n m ∙ sym (rule (enough ts) (omega (arith, enough-room ts)))
 
-methodParams-settled : (n : ℕ) (scopes : Scopes) (ts : List Token) → Room 3 ts n
+methodParams-stable : (n : ℕ) (scopes : Scopes) (ts : List Token) → Room 3 ts n
     → ((k : ℕ) → Room 3 ts k → methodParams k scopes ts ≡ methodParamsRule scopes ts)
     → methodParams n scopes ts ≡ methodParamsFrom scopes ts
 unfolding methodParamsFrom
-methodParams-settled n scopes ts m rule = rule n m ∙ sym (rule (enough ts) (omega (arith, enough-room ts)))
+methodParams-stable n scopes ts m rule = rule n m ∙ sym (rule (enough ts) (omega (arith, enough-room ts)))
 
 -- and so does what is read after an expression
 expr-then : {A : Type 0} (n : ℕ) (scopes : Scopes) (ts : List Token) {f g : Expr → List Token → Reading A}
     → Room 2 ts n → ((k : ℕ) → Room 2 ts k → expr k scopes ts ≡ exprRule scopes ts)
     → ((e : Expr) (us : List Token) → Onward ts us → f e us ≡ g e us)
     → andThen (expr n scopes ts) f ≡ andThen (exprFrom scopes ts) g
-expr-then n scopes ts m rule e = andThen-same (expr-settled n scopes ts m rule) (progress .expr-on n scopes ts) e
+expr-then n scopes ts m rule e = andThen-same (expr-stable n scopes ts m rule) (progress .expr-on n scopes ts) e
 
 mutual
   unfolding expr operandsRule exprRule argumentsRule namedRule receptionRule indivExprRule methodParamsRule
@@ -58,7 +58,7 @@ mutual
   expr-rule (suc b) scopes ts l (suc n) m =
       next-same "new" ts tt (λ f. refl)
       (andThen-same
-      (indivExpr-settled n scopes ts (omega arith) (λ k r. indivExpr-rule b scopes ts (omega arith) k r))
+      (indivExpr-stable n scopes ts (omega arith) (λ k r. indivExpr-rule b scopes ts (omega arith) k r))
       (progress .indivExpr-on n scopes ts)
       (λ e us o. operands-rule b scopes e (operatorAt us) us refl (omega arith) n (omega arith)))
 
@@ -109,7 +109,7 @@ mutual
   arguments-rule (suc b) scopes ts l zero m = absurd (omega arith)
   arguments-rule (suc b) scopes ts l (suc n) m =
       next-same ")" ts tt (λ f. refl)
-      (methodParams-settled n scopes ts (omega arith) (λ k r. methodParams-rule b scopes ts (omega arith) k r))
+      (methodParams-stable n scopes ts (omega arith) (λ k r. methodParams-rule b scopes ts (omega arith) k r))
 
   pub methodParams-rule : (b : ℕ) (scopes : Scopes) (ts : List Token) → Room 3 ts b → (n : ℕ) → Room 3 ts n
       → methodParams n scopes ts ≡ methodParamsRule scopes ts
@@ -119,7 +119,7 @@ mutual
       expr-then n scopes ts (omega arith) (λ k r. expr-rule b scopes ts (omega arith) k r) (λ e us o.
       next-same "," us tt
       (λ f. andThen-same
-      (methodParams-settled n scopes (rest us) (omega arith)
+      (methodParams-stable n scopes (rest us) (omega arith)
       (λ k r. methodParams-rule b scopes (rest us) (omega arith) k r))
       (progress .methodParams-on n scopes (rest us)) (λ es vs o. refl))
       refl)
@@ -134,13 +134,13 @@ expr-first n scopes ts m e = expr-then n scopes ts m (expr-rule n scopes ts m) e
 
 module _ (n : ℕ) (scopes : Scopes) (ts : List Token) where
   pub expr-from : Room 2 ts n → expr n scopes ts ≡ exprFrom scopes ts
-  expr-from m = expr-settled n scopes ts m (expr-rule n scopes ts m)
+  expr-from m = expr-stable n scopes ts m (expr-rule n scopes ts m)
 
   pub indivExpr-from : Room 1 ts n → indivExpr n scopes ts ≡ indivExprFrom scopes ts
-  indivExpr-from m = indivExpr-settled n scopes ts m (indivExpr-rule n scopes ts m)
+  indivExpr-from m = indivExpr-stable n scopes ts m (indivExpr-rule n scopes ts m)
 
   pub methodParams-from : Room 3 ts n → methodParams n scopes ts ≡ methodParamsFrom scopes ts
-  methodParams-from m = methodParams-settled n scopes ts m (methodParams-rule n scopes ts m)
+  methodParams-from m = methodParams-stable n scopes ts m (methodParams-rule n scopes ts m)
 
   pub arguments-from : Room 4 ts n → arguments n scopes ts ≡ argumentsRule scopes ts
   arguments-from m = arguments-rule n scopes ts m n m

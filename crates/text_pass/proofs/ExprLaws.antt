@@ -20,7 +20,7 @@ use Rattle.text_types.specs.SaysCode.{Passed, Says, reads, leaves-at}
 use Rattle.text_expr.specs.PhasesCode.{operand, bare, over, closed, isOperator, ended, afterNew, bareStep, step, follow, pass}
 use Rattle.text_expr.specs.LevelsCode.{assigned, opens, Action, stay, assigns, unassigns, opensLevel, closesLevel, nextArgument, astray, beyond, operandAction, action, phaseAfter, countAfter, levelsAfter}
 use Rattle.text_expr.proofs.Same.{expr-passes}
-use Rattle.text_expr.proofs.Notes.{Goes}
+use Rattle.text_expr.proofs.Notes.{Continues}
 use Rattle.text_pass.specs.EffectCode.{phaseIn, effectIn}
 use Rattle.text_pass.specs.WindowCode.{countsAfter, bracketsAfter, depthAfter, stopsOn, Window}
 use Rattle.text_pass.specs.WalkCode.{State, begins, doing, after, Leads, Standing, answerOf}
@@ -194,7 +194,7 @@ module _ (scopes : Scopes) (text : List ℕ) (from : ℕ) where
           (n : NextToken text at t)
           (e : Effect)
           (q : effectIn text e ≡ doing scopes text here)
-          (g : Goes (effectIn text e))
+          (g : Continues (effectIn text e))
           (size : length text < 18446744073709551616)
           (p : Phase)
           (ph : phaseIn text p ≡ phaseAfter (effectIn text e))
@@ -233,13 +233,14 @@ module _ (scopes : Scopes) (text : List ℕ) (from : ℕ) where
 
           pub next-leads : Leads scopes text (begins from) next
           next-leads =
-              subst (Leads scopes text (begins from)) next-after (leads-on scopes text (s .leads) (subst Goes q g))
+              subst (Leads scopes text (begins from)) next-after (leads-on scopes text (s .leads) (subst Continues q g))
 
           pub next-window : Window room low (depthAfter e depth) (countsAfter low depth e counts)
               (bracketsAfter low depth e brackets)
               (next .count) (next .levels)
           next-window =
-              let passes : Passed text at (after scopes text here .at) = goes-passed scopes text here (subst Goes q g)
+              let passes : Passed text at (after scopes text here .at) = goes-passed scopes text here (subst Continues
+              q g)
               in
               let begun : at < length text = passes .begun in
               let few : s .count ≤ at = few-open scopes text from here (s .leads) in

@@ -20,7 +20,7 @@ use Rattle.text_tokens.specs.NextCode.{NextToken}
 use Rattle.text_tokens.specs.declared.next.TokenAt.{TokenAt}
 use Rattle.text_types.specs.SaysCode.{Says}
 use Rattle.text_expr.specs.LevelsCode.{innermost, isOpen, action, known, phaseAfter}
-use Rattle.text_expr.proofs.Notes.{Goes, Right, action-known}
+use Rattle.text_expr.proofs.Notes.{Continues, Right, action-known}
 use Rattle.text_pass.specs.EffectCode.{token, phaseIn, effectIn, bracketIn}
 use Rattle.text_pass.specs.WindowCode.{slotOf, cell, put, countsAfter, bracketsAfter, depthAfter, stopsOn, noteAt, Window, innermostIn}
 use Rattle.text_pass.specs.WalkCode.{State, begins, doing, Leads, there, Standing, Ready, answerOf}
@@ -33,7 +33,7 @@ use Rattle.text_pass.proofs.SeenLaws.{seen}
 use Rattle.text_pass.proofs.WalkLaws.{goes-kind, leads-moved, leads-goes}
 use Rattle.text_pass.proofs.ExprLaws.{here, next-after, stands-on, stop-says}
 
-pub goes-effect : (text : List ℕ) (e : Effect) → stopsOn e ≡ false → Goes (effectIn text e)
+pub goes-effect : (text : List ℕ) (e : Effect) → stopsOn e ≡ false → Continues (effectIn text e)
 unfolding stopsOn effectIn
 goes-effect text (Stay p) h = tt
 goes-effect text Assigns h = tt
@@ -154,7 +154,7 @@ module _ (scopes : Scopes) (text : List ℕ) (from : ℕ) where
             (exprFrom scopes (tokensAt text from))
         ends-says e h q =
             ⊎-elim (λ y. stop-says scopes text from at phase room low depth counts brackets s e y q)
-            (λ z. absurd (goes-kind scopes text Here (subst Goes q (goes-effect text e z))
+            (λ z. absurd (goes-kind scopes text Here (subst Continues q (goes-effect text e z))
             (ap (λ (x : Token). kindOf (x .bytes)) first-token ∙ sym (n .kind) ∙ eqb-true (t .kind) 32 (ended z))))
             (decide (stopsOn e))
           where
@@ -237,7 +237,7 @@ module _ (scopes : Scopes) (text : List ℕ) (from : ℕ) where
         returning-on e h size p ph =
             let w : effectIn text e ≡ doing scopes text There = known-doing e h in
             let gl = leads-goes scopes text (r .onward) later in
-            let g : Goes (effectIn text e) = subst Goes (sym w) (gl .0) in
+            let g : Continues (effectIn text e) = subst Continues (sym w) (gl .0) in
             record {
               standing = stands-on scopes text from at phase room low depth counts brackets (r .standing) t n e w g
                   size p ph;

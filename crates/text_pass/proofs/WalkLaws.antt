@@ -23,18 +23,18 @@ use Rattle.text_types.proofs.Answers.{passed-next}
 use Rattle.text_expr.specs.PhasesCode.{Phase, operand, whole, bare, named, called, recv₁, measure₁, measure₂, measure₃, measure₄, measure₅, new₁, new₂, new₃, new₄, new₅, new₆, Step, on, isOperator, follow, pass}
 use Rattle.text_expr.specs.LevelsCode.{Level, opens, Action, stay, assigns, unassigns, opensLevel, closesLevel, nextArgument, astray, beyond, innermost, isOpen, endedAction, newAction, wholeAction, operandAction, namedAction, mustAction, allocAction, action, lessOne, phaseAfter, outsideOf, countAfter, withoutLevel, levelsAfter, applied}
 use Rattle.text_expr.proofs.Levels.{step-level}
-use Rattle.text_expr.proofs.Notes.{Goes}
+use Rattle.text_expr.proofs.Notes.{Continues}
 use Rattle.text_pass.specs.WalkCode.{State, begins, doing, after, Leads, there, further}
 
 -- The token that ends the text ends the pass.
-ended-stops : (b : Option Bool) (i : ℕ) → Goes (endedAction b (record { bytes = []; at = i })) → ⊥
+ended-stops : (b : Option Bool) (i : ℕ) → Continues (endedAction b (record { bytes = []; at = i })) → ⊥
 unfolding endedAction
 ended-stops none i g = g
 ended-stops (some true) i g = g
 ended-stops (some false) i g = g
 
 end-stops : (scopes : Scopes) (p : Phase) (a : Bool) (b : Option Bool) (i : ℕ)
-    → Goes (action scopes p a b (record { bytes = []; at = i })) → ⊥
+    → Continues (action scopes p a b (record { bytes = []; at = i })) → ⊥
 unfolding action operandAction wholeAction namedAction mustAction allocAction isOperator isName isNumeral
 end-stops scopes operand a b i g = g
 end-stops scopes whole a b i g = ended-stops b i g
@@ -58,7 +58,7 @@ no-bytes : (t : Token) → kindOf (t .bytes) ≡ 32 → t .bytes ≡ []
 no-bytes t e = same-equal (t .bytes) [] (passes (is-end t ∙ eq-eqb (kindOf (t .bytes)) 32 e))
 
 -- What an action that goes on makes of what is open
-goes-applied : (a : Action) (n : ℕ) (ls : List Level) → Goes a
+goes-applied : (a : Action) (n : ℕ) (ls : List Level) → Continues a
     → applied a n ls ≡ on (phaseAfter a) (opens (countAfter a n ls) (levelsAfter a n ls))
 unfolding applied phaseAfter countAfter levelsAfter
 goes-applied (stay p) n ls g = refl
@@ -183,7 +183,7 @@ some-level [] x e = let z : _≡_ {A = ℕ} 0 1 = cc in omega arith
 some-level (l ∷ ls) x e = omega arith
 
 -- after an action that goes on, a call is open where the phase says so
-still-open : (a : Action) (n : ℕ) (ls : List Level) → Goes a → Orderly (0 < length ls) a → phaseAfter a ≡ called
+still-open : (a : Action) (n : ℕ) (ls : List Level) → Continues a → Orderly (0 < length ls) a → phaseAfter a ≡ called
     → 0 < length (levelsAfter a n ls)
 unfolding phaseAfter levelsAfter
 still-open (stay p) n ls g o e = absurd (o e)
@@ -203,7 +203,7 @@ outsides (l ∷ ls) = l .outside + outsides ls
 abbrev weight : ℕ → List Level → ℕ
 weight n ls = n + (outsides ls + length ls)
 
-heavier : (a : Action) (n : ℕ) (ls : List Level) → Goes a
+heavier : (a : Action) (n : ℕ) (ls : List Level) → Continues a
     → weight (countAfter a n ls) (levelsAfter a n ls) ≤ suc (weight n ls)
 unfolding countAfter levelsAfter lessOne outsideOf withoutLevel
 heavier (stay p) n ls g = omega arith
@@ -226,16 +226,16 @@ module _ (scopes : Scopes) (text : List ℕ) where
       let n : NextToken text i (nextAt text i) = next-token text i in
       n .reads ∙ sym (ap (λ (ts : List Token). first ts ∷ rest ts) (n .reads))
 
-  pub goes-kind : (s : State) → Goes (doing scopes text s) → kindOf (first (tokensAt text (s .at)) .bytes) ≡ 32 → ⊥
+  pub goes-kind : (s : State) → Continues (doing scopes text s) → kindOf (first (tokensAt text (s .at)) .bytes) ≡ 32 → ⊥
   goes-kind s g e =
       let t : Token = first (tokensAt text (s .at)) in
       end-stops scopes (s .phase) (isOpen (s .count)) (innermost (s .levels)) (t .at)
       (subst
-      (λ (bs : List ℕ). Goes (action scopes (s .phase) (isOpen (s .count)) (innermost (s .levels))
+      (λ (bs : List ℕ). Continues (action scopes (s .phase) (isOpen (s .count)) (innermost (s .levels))
       (record { bytes = bs; at = t .at })))
       (no-bytes t e) g)
 
-  pub goes-passed : (s : State) → Goes (doing scopes text s) → Passed text (s .at) (after scopes text s .at)
+  pub goes-passed : (s : State) → Continues (doing scopes text s) → Passed text (s .at) (after scopes text s .at)
   goes-passed s g =
       let n : NextToken text (s .at) (nextAt text (s .at)) = next-token text (s .at) in
       passed-next text (s .at) (nextAt text (s .at)) n
@@ -255,7 +255,7 @@ module _ (scopes : Scopes) (text : List ℕ) where
       ap (λ (us : List Token). pass scopes us (s .phase) (opens (s .count) (s .levels))) (tokens (s .at))
       ∙ ap (λ (x : Step). follow (pass scopes ts) t ts x) (step-level scopes (s .phase) (s .count) (s .levels) t)
 
-  pass-after : (s : State) → Goes (doing scopes text s) → passFrom s ≡ passFrom (after scopes text s)
+  pass-after : (s : State) → Continues (doing scopes text s) → passFrom s ≡ passFrom (after scopes text s)
   unfolding follow
   pass-after s g =
       let q : State = after scopes text s in
@@ -286,7 +286,7 @@ module _ (scopes : Scopes) (text : List ℕ) where
 
   -- Some tokens
 
-  pub leads-on : {s t : State} → Leads scopes text s t → Goes (doing scopes text t)
+  pub leads-on : {s t : State} → Leads scopes text s t → Continues (doing scopes text t)
       → Leads scopes text s (after scopes text t)
   leads-on there g = further g there
   leads-on (further h l) g = further h (leads-on l g)
@@ -307,7 +307,7 @@ module _ (scopes : Scopes) (text : List ℕ) where
 
   -- a state that leads to a later place goes on
   pub leads-goes : {s t : State} → Leads scopes text s t → s .at < t .at
-      → Goes (doing scopes text s) × Leads scopes text (after scopes text s) t
+      → Continues (doing scopes text s) × Leads scopes text (after scopes text s) t
   leads-goes there h = absurd (omega arith)
   leads-goes (further g l) h = (g, l)
 

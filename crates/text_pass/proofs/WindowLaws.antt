@@ -12,7 +12,7 @@ use lib.ListN.{length, getD, set, length-set}
 use lib.Seq.{getD-set-same, getD-set-other}
 use Rattle.lists.proofs.Tests.{passed, passes, and-left, and-right, cond-each}
 use Rattle.text_expr.specs.LevelsCode.{Level, Action, stay, assigns, unassigns, opensLevel, closesLevel, nextArgument, lessOne, countAfter, levelsAfter, withoutLevel, Note, note}
-use Rattle.text_expr.proofs.Notes.{Goes, Right, note-right}
+use Rattle.text_expr.proofs.Notes.{Continues, Right, note-right}
 use Rattle.text_pass.specs.EffectCode.{phaseIn, effectIn}
 use Rattle.text_pass.specs.WindowCode.{slotOf, cell, put, oneMore, countsAfter, bracketsAfter, depthAfter, noteAt, Window, Held}
 use Rattle.text_pass.specs.declared.phase.Effect.{Effect}
@@ -102,8 +102,8 @@ module _
     (shallow : depth < 18446744073709551615)
   where
     -- by the figures of each level that is kept
-    by-figures : (a : Action) (depth′ : ℕ) (counts′ brackets′ : List ℕ) → Goes a → (a ≡ closesLevel → 0 < length ls)
-        → length counts′ ≡ room → length brackets′ ≡ room → depth′ ≡ length (levelsAfter a n ls)
+    by-figures : (a : Action) (depth′ : ℕ) (counts′ brackets′ : List ℕ) → Continues a → (a ≡ closesLevel
+        → 0 < length ls) → length counts′ ≡ room → length brackets′ ≡ room → depth′ ≡ length (levelsAfter a n ls)
         → ((d : ℕ) → low ≤ d → d < low + room → Right d (noteAt low depth counts brackets d) n ls
         → (depth′ ≡ note d a (noteAt low depth counts brackets d) .depth)
         × (cell counts′ low d ≡ note d a (noteAt low depth counts brackets d) .count)
@@ -165,7 +165,7 @@ module _
         choice true y = q
         choice false y = refl
 
-    same-cells : (a : Action) → Goes a → (a ≡ closesLevel → 0 < length ls) → (depth′ : ℕ)
+    same-cells : (a : Action) → Continues a → (a ≡ closesLevel → 0 < length ls) → (depth′ : ℕ)
         → depth′ ≡ length (levelsAfter a n ls)
         → ((d : ℕ) → (depth′ ≡ note d a (noteAt low depth counts brackets d) .depth)
         × (cell counts low d ≡ note d a (noteAt low depth counts brackets d) .count)
@@ -174,7 +174,7 @@ module _
     same-cells a g c depth′ e f =
         by-figures a depth′ counts brackets g c (w .counts-size) (w .brackets-size) e (λ d l u h. f d)
 
-    put-count : (a : Action) (v : ℕ) → Goes a → (a ≡ closesLevel → 0 < length ls) → length ls ≡ length
+    put-count : (a : Action) (v : ℕ) → Continues a → (a ≡ closesLevel → 0 < length ls) → length ls ≡ length
         (levelsAfter a n ls)
         → ((d : ℕ) → low ≤ d → d < low + room → Right d (noteAt low depth counts brackets d) n ls
         → (depth ≡ note d a (noteAt low depth counts brackets d) .depth)
@@ -190,7 +190,7 @@ module _
     less-length [] = refl
     less-length (l ∷ ls) = refl
 
-    pub window-after : (text : List ℕ) (e : Effect) → Goes (effectIn text e)
+    pub window-after : (text : List ℕ) (e : Effect) → Continues (effectIn text e)
         → (effectIn text e ≡ closesLevel → 0 < length ls)
         → Window room low (depthAfter e depth) (countsAfter low depth e counts) (bracketsAfter low depth e brackets)
         (countAfter (effectIn text e) n ls) (levelsAfter (effectIn text e) n ls)

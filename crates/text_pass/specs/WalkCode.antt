@@ -8,7 +8,7 @@ use Rattle.text_tokens.specs.Places.{tokensAt}
 use Rattle.text_tokens.specs.NextCode.{nextAt}
 use Rattle.text_expr.specs.PhasesCode as P
 use Rattle.text_expr.specs.LevelsCode.{Level, Action, innermost, isOpen, action, phaseAfter, countAfter, levelsAfter}
-use Rattle.text_expr.proofs.Notes.{Goes}
+use Rattle.text_expr.proofs.Notes.{Continues}
 use Rattle.text_pass.specs.EffectCode.{phaseIn}
 use Rattle.text_pass.specs.WindowCode.{Window, Held, asksLevel}
 use Rattle.text_pass.specs.declared.phase.Phase.{Phase}
@@ -43,7 +43,7 @@ after scopes text s = record {
 -- the pass goes on from one state to another, by some tokens or none
 pub data Leads (scopes : Scopes) (text : List ℕ) : State → State → Type 0 where
   there : {s : State} → Leads scopes text s s
-  further : {s t : State} → Goes (doing scopes text s) → Leads scopes text (after scopes text s) t
+  further : {s t : State} → Continues (doing scopes text s) → Leads scopes text (after scopes text s) t
       → Leads scopes text s t
 
 -- The pass that began at `from` has come to a place and a phase, and what is kept of the levels there is right.

@@ -1,4 +1,4 @@
--- A method's code in a buffer: its words with the called methods told by their numbers are those of its instructions.
+-- A method's code in a buffer: its words with the called methods by their numbers are those of its instructions.
 use Prim.Native.Nat.{ℕ, zero, suc, _+_, _*_, _≤_, _<_}
 use native.Mathlib.Omega.{arith}
 use mathlib.Core.Path.{_≡_, refl, sym, ap, _∙_}
@@ -13,7 +13,7 @@ use Rattle.text.proofs.Words.{code-at, codeWords-length}
 use Rattle.text_put.specs.TableCode.{argumentBy, codeTo}
 use Rattle.text_put.proofs.Ordered.{take-nth, code-append}
 
--- an instruction, with the called method told by f from the place of its name
+-- an instruction, with the called method given by f from the place of its name
 unfoldable pub resolved : (ℕ → ℕ) → Instruction → Instruction
 resolved f i = instruction (i .op) (argumentBy f (i .op) (i .argument))
 

@@ -55,7 +55,7 @@ unfoldable pub calledAt : List ℕ → ℕ → ℕ → ℕ
 calledAt text main a =
     cond (leb a (length text)) (numberIn main (rowIndex (first (tokensAt text a) .bytes) (rowsOf text))) 0
 
--- an argument, with the method told by f from the place
+-- an argument, with the method given by f from the place
 unfoldable pub argumentBy : (ℕ → ℕ) → ℕ → ℕ → ℕ
 argumentBy f op a = cond (calls op) (f a) a
 

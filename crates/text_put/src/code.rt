@@ -1,4 +1,4 @@
-// The code of one method, from a buffer in which each call tells the place of the called name.
+// The code of one method, from a buffer in which each call has the place of the called name.
 ghost use mathlib.Core.Path.{_≡_};
 ghost use mathlib.Core.List.{[], _∷_};
 ghost use Prim.Native.Nat.{_*_, _≤_, _<_};

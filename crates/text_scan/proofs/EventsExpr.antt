@@ -1,4 +1,4 @@
--- The scan over an expression tells the events of its tree.
+-- The scan over an expression finds the events of its tree.
 use Prim.Native.Nat.{ℕ, zero, suc}
 use Prim.Native.String.{String}
 use mathlib.Core.Path.{_≡_, refl, sym, ap, _∙_}
@@ -136,34 +136,34 @@ on-part : (s : String) {K : ℕ → Type 0} (m b m′ : ℕ) → By K m b m′ �
 on-part s m b m′ by w f {ts} {us} a =
     on-word s m b a f ∙ by (kindOf (ascii s)) w (kindAt us) (argumentCount (rest us)) (nameOf (first ts)) us
 
-carried-told : (m b m′ : ℕ) → By TypeWord m b m′ → (ts : List Token)
+carried-events : (m b m′ : ℕ) → By TypeWord m b m′ → (ts : List Token)
     → Holds (λ t us. eventsFrom m b ts ≡ eventsFrom m′ b us) (carried ts)
 unfolding carried kindOf wordKind placeFrom
-carried-told m b m′ by ts =
+carried-events m b m′ by ts =
     next-holds "int" ts (λ a. holds (on-part "int" m b m′ by int-word refl a))
     (λ f. next-holds "boolean" ts (λ a. holds (on-part "boolean" m b m′ by boolean-word refl a))
     (λ f. next-holds "qbit" ts (λ a. holds (on-part "qbit" m b m′ by qbit-word refl a))
     (λ f. leavesAt-holds ts)))
 
-bracketed-told : {A : Type 0} (m b : ℕ) → By TypePart m b m → (ts : List Token) (f : Carried → A)
+bracketed-events : {A : Type 0} (m b : ℕ) → By TypePart m b m → (ts : List Token) (f : Carried → A)
     → Holds (λ t us. eventsFrom m b ts ≡ eventsFrom m b us) (bracketed ts f)
 unfolding bracketed kindOf markKind placeFrom
-bracketed-told m b by ts f =
-    expect-holds "[" ts (λ us a. then-holds (carried-told m b m (words-too m b m by) us) (λ t vs p.
+bracketed-events m b by ts f =
+    expect-holds "[" ts (λ us a. then-holds (carried-events m b m (words-too m b m by) us) (λ t vs p.
     expect-holds "]" vs (λ ws c.
     holds (on-part "[" m b m by bracket refl a ∙ p ∙ on-part "]" m b m by closing refl c))))
 
-pub type-told : (m b m′ : ℕ) → By TypeWord m b m′ → By TypePart m′ b m′ → (ts : List Token)
+pub type-events : (m b m′ : ℕ) → By TypeWord m b m′ → By TypePart m′ b m′ → (ts : List Token)
     → Holds (λ t us. eventsFrom m b ts ≡ eventsFrom m′ b us) (nonVoidType ts)
 unfolding nonVoidType kindOf wordKind placeFrom
-type-told m b m′ by steady ts =
+type-events m b m′ by steady ts =
     next-holds "channel" ts
     (λ a. weaker-holds (λ t us p. on-part "channel" m b m′ by channel-word refl a ∙ p)
-    (bracketed-told m′ b steady (rest ts) _))
+    (bracketed-events m′ b steady (rest ts) _))
     (λ f. next-holds "channelEnd" ts
     (λ a. weaker-holds (λ t us p. on-part "channelEnd" m b m′ by end-word refl a ∙ p)
-    (bracketed-told m′ b steady (rest ts) _))
-    (λ f. then-holds (carried-told m b m′ by ts) (λ t us p. holds p)))
+    (bracketed-events m′ b steady (rest ts) _))
+    (λ f. then-holds (carried-events m b m′ by ts) (λ t us p. holds p)))
 
 -- Names
 
@@ -195,19 +195,19 @@ called-name b {ts} {us} {x} a f =
 
 -- Expressions
 
--- from mode 0 in a body on, over what tells these events
-pub record Tells (b : ℕ) (ts us : List Token) (f : List Event → List Event) : Type 0 where
+-- from mode 0 in a body on, over what has these events
+pub record HasEvents (b : ℕ) (ts us : List Token) (f : List Event → List Event) : Type 0 where
   pub ending : Bool
-  pub tells : eventsFrom 0 (suc b) ts ≡ f (eventsFrom (mid ending) (suc b) us)
+  pub events : eventsFrom 0 (suc b) ts ≡ f (eventsFrom (mid ending) (suc b) us)
 
--- what tells nothing
+-- what has no event
 abbrev NoEvents : Expr → Type 0
 NoEvents e = (es : List Event) → exprEvents e es ≡ es
 
-bracketed-untold : (ts : List Token) (f : Carried → Expr) → ((t : Carried) → NoEvents (f t))
+bracketed-none : (ts : List Token) (f : Carried → Expr) → ((t : Carried) → NoEvents (f t))
     → Holds (λ e us. NoEvents e) (bracketed ts f)
 unfolding bracketed carried
-bracketed-untold ts f q =
+bracketed-none ts f q =
     expect-holds "[" ts (λ us a. then-holds (any-carried us) (λ t vs p. expect-holds "]" vs (λ ws c. holds (q t))))
   where
     any-carried : (us : List Token) → Holds (λ t vs. Unit {0}) (carried us)
@@ -216,20 +216,20 @@ bracketed-untold ts f q =
         (λ f. next-holds "qbit" us (λ a. holds tt) (λ f. leavesAt-holds us)))
 
 -- new T ( ), from its brackets on, and from its type on
-allocated-told : (b : ℕ) (e : Expr) (ts : List Token) → NoEvents e
+allocated-events : (b : ℕ) (e : Expr) (ts : List Token) → NoEvents e
     → Holds (λ d us. eventsFrom 0 (suc b) ts ≡ exprEvents d (eventsFrom 1 (suc b) us)) (allocated e ts)
 unfolding allocated scan-opened
-allocated-told b e ts q =
+allocated-events b e ts q =
     expect-holds "(" ts (λ us a. expect-holds ")" us (λ vs c.
     holds (on-word "(" 0 (suc b) a refl ∙ on-word ")" 0 (suc b) c refl ∙ sym (q (eventsFrom 1 (suc b) vs)))))
 
-allocation-told : (b : ℕ) (ts : List Token)
+allocation-events : (b : ℕ) (ts : List Token)
     → Holds (λ e us. eventsFrom 0 (suc b) ts ≡ exprEvents e (eventsFrom 1 (suc b) us)) (allocation ts)
 unfolding allocation scan-opened exprEvents
-allocation-told b ts =
+allocation-events b ts =
     next-holds "qbit" ts
     (λ a. weaker-holds (λ e us p. on-word "qbit" 0 (suc b) a refl ∙ p)
-    (allocated-told b newQubit (rest ts) (λ es. refl)))
+    (allocated-events b newQubit (rest ts) (λ es. refl)))
     (λ f. next-holds "channel" ts
     (λ a. made newChannel (on-word "channel" 0 (suc b) a refl) (λ t es. refl))
     (λ f. next-holds "channelEnd" ts
@@ -242,22 +242,22 @@ allocation-told b ts =
         (andThen (bracketed (rest ts) f) allocated)
     made f e q =
         then-holds
-        (both-hold (bracketed-told 0 (suc b) (body-steady b) (rest ts) f) (bracketed-untold (rest ts) f q))
-        (λ d us p. weaker-holds (λ c vs r. e ∙ p .0 ∙ r) (allocated-told b d us (p .1)))
+        (both-hold (bracketed-events 0 (suc b) (body-steady b) (rest ts) f) (bracketed-none (rest ts) f q))
+        (λ d us p. weaker-holds (λ c vs r. e ∙ p .0 ∙ r) (allocated-events b d us (p .1)))
 
-pub measured-told : (b : ℕ) (ts : List Token)
+pub measured-events : (b : ℕ) (ts : List Token)
     → Holds (λ q us. eventsFrom 2 (suc b) ts ≡ used q ∷ eventsFrom 1 (suc b) us) (measuredName ts)
 unfolding measuredName scan-opened
-measured-told b ts =
+measured-events b ts =
     expect-holds "(" ts (λ us a. expect-holds "StdBasis" us (λ vs c. expect-holds "," vs (λ ws d.
     name-holds ws (λ q xs x. expect-holds ")" xs (λ ys e. holds (
     on-word "(" 2 (suc b) a refl ∙ on-word "StdBasis" 3 (suc b) c refl ∙ on-word "," 0 (suc b) d refl
     ∙ used-name false b x (not-open ")" e refl) ∙ ap (λ es. used q ∷ es) (on-word ")" 0 (suc b) e refl)))))))
 
-operator-told : (c : Bool) (b : ℕ) (ts : List Token) (o : Operator) → operatorAt ts ≡ some o
+operator-events : (c : Bool) (b : ℕ) (ts : List Token) (o : Operator) → operatorAt ts ≡ some o
     → eventsFrom (mid c) (suc b) ts ≡ eventsFrom 0 (suc b) (rest ts)
 unfolding operatorAt scan-opened
-operator-told c b ts o =
+operator-events c b ts o =
     cond-each Q (next? "+" ts) (λ e s. mid-word "+" c b {ts = ts} {us = rest ts} (after e) refl refl refl)
     (λ f. cond-each Q (next? "-" ts) (λ e s. mid-word "-" c b {ts = ts} {us = rest ts} (after e) refl refl refl)
     (λ f. cond-each Q (next? "==" ts) (λ e s. mid-word "==" c b {ts = ts} {us = rest ts} (after e) refl refl refl)
@@ -270,95 +270,96 @@ operator-told c b ts o =
 mutual
   unfolding expr scan-opened exprEvents
 
-  pub expr-told : (n b : ℕ) (scopes : Scopes) (ts : List Token)
-      → Holds (λ e us. Tells b ts us (exprEvents e)) (expr n scopes ts)
-  expr-told zero b scopes ts = leavesAt-holds ts
-  expr-told (suc n) b scopes ts =
+  pub expr-events : (n b : ℕ) (scopes : Scopes) (ts : List Token)
+      → Holds (λ e us. HasEvents b ts us (exprEvents e)) (expr n scopes ts)
+  expr-events zero b scopes ts = leavesAt-holds ts
+  expr-events (suc n) b scopes ts =
       next-holds "new" ts
-      (λ a. weaker-holds (λ e us p. record { ending = true; tells = on-word "new" 0 (suc b) a refl ∙ p })
-      (allocation-told b (rest ts)))
-      (λ f. then-holds (indiv-told n b scopes ts) (λ e us p. operands-told n b scopes e (operatorAt us) ts us p refl))
+      (λ a. weaker-holds (λ e us p. record { ending = true; events = on-word "new" 0 (suc b) a refl ∙ p })
+      (allocation-events b (rest ts)))
+      (λ f. then-holds (indiv-events n b scopes ts) (λ e us p. operands-events n b scopes e (operatorAt us) ts us p
+      refl))
 
   -- after the expression e, which began at ts
-  operands-told : (n b : ℕ) (scopes : Scopes) (e : Expr) (o : Option Operator) (ts us : List Token)
-      → Tells b ts us (exprEvents e) → operatorAt us ≡ o
-      → Holds (λ f vs. Tells b ts vs (exprEvents f)) (operands n scopes e o us)
-  operands-told zero b scopes e o ts us p q = leavesAt-holds us
-  operands-told (suc n) b scopes e none ts us p q = holds p
-  operands-told (suc n) b scopes e (some o) ts us p q =
-      then-holds (expr-told n b scopes (rest us)) (λ f vs r. holds (record {
+  operands-events : (n b : ℕ) (scopes : Scopes) (e : Expr) (o : Option Operator) (ts us : List Token)
+      → HasEvents b ts us (exprEvents e) → operatorAt us ≡ o
+      → Holds (λ f vs. HasEvents b ts vs (exprEvents f)) (operands n scopes e o us)
+  operands-events zero b scopes e o ts us p q = leavesAt-holds us
+  operands-events (suc n) b scopes e none ts us p q = holds p
+  operands-events (suc n) b scopes e (some o) ts us p q =
+      then-holds (expr-events n b scopes (rest us)) (λ f vs r. holds (record {
         ending = r .ending;
-        tells = p .tells ∙ ap (exprEvents e) (operator-told (p .ending) b us o q ∙ r .tells);
+        events = p .events ∙ ap (exprEvents e) (operator-events (p .ending) b us o q ∙ r .events);
       }))
 
-  indiv-told : (n b : ℕ) (scopes : Scopes) (ts : List Token)
-      → Holds (λ e us. Tells b ts us (exprEvents e)) (indivExpr n scopes ts)
-  indiv-told zero b scopes ts = leavesAt-holds ts
-  indiv-told (suc n) b scopes ts =
-      cond-each (Holds (λ e us. Tells b ts us (exprEvents e))) (isNumeral (first ts))
-      (λ e. holds (record { ending = false; tells = event-token 0 (suc b) 34 ts (number-kind (first ts) e) refl }))
+  indiv-events : (n b : ℕ) (scopes : Scopes) (ts : List Token)
+      → Holds (λ e us. HasEvents b ts us (exprEvents e)) (indivExpr n scopes ts)
+  indiv-events zero b scopes ts = leavesAt-holds ts
+  indiv-events (suc n) b scopes ts =
+      cond-each (Holds (λ e us. HasEvents b ts us (exprEvents e))) (isNumeral (first ts))
+      (λ e. holds (record { ending = false; events = event-token 0 (suc b) 34 ts (number-kind (first ts) e) refl }))
       (λ f. next-holds "true" ts
-      (λ a. holds (record { ending = false; tells = on-word "true" 0 (suc b) a refl }))
+      (λ a. holds (record { ending = false; events = on-word "true" 0 (suc b) a refl }))
       (λ f. next-holds "false" ts
-      (λ a. holds (record { ending = false; tells = on-word "false" 0 (suc b) a refl }))
+      (λ a. holds (record { ending = false; events = on-word "false" 0 (suc b) a refl }))
       (λ f. next-holds "(" ts
-      (λ a. then-holds (expr-told n b scopes (rest ts)) (λ e us p. expect-holds ")" us (λ vs c. holds (record {
+      (λ a. then-holds (expr-events n b scopes (rest ts)) (λ e us p. expect-holds ")" us (λ vs c. holds (record {
         ending = true;
-        tells = on-word "(" 0 (suc b) a refl ∙ p .tells
+        events = on-word "(" 0 (suc b) a refl ∙ p .events
             ∙ ap (exprEvents e) (mid-word ")" (p .ending) b c refl refl refl);
       }))))
       (λ f. next-holds "recv" ts
-      (λ a. expect-holds "(" (rest ts) (λ us d. then-holds (expr-told n b scopes us) (λ e vs p.
+      (λ a. expect-holds "(" (rest ts) (λ us d. then-holds (expr-events n b scopes us) (λ e vs p.
       expect-holds ")" vs (λ ws c. holds (record {
         ending = true;
-        tells = on-word "recv" 0 (suc b) a refl ∙ on-word "(" 0 (suc b) d refl ∙ p .tells
+        events = on-word "recv" 0 (suc b) a refl ∙ on-word "(" 0 (suc b) d refl ∙ p .events
             ∙ ap (exprEvents e) (mid-word ")" (p .ending) b c refl refl refl);
       })))))
       (λ f. next-holds "measure" ts
-      (λ a. then-holds (measured-told b (rest ts)) (λ q us p. holds (record {
+      (λ a. then-holds (measured-events b (rest ts)) (λ q us p. holds (record {
         ending = true;
-        tells = on-word "measure" 0 (suc b) a refl ∙ p;
+        events = on-word "measure" 0 (suc b) a refl ∙ p;
       })))
-      (λ f. name-holds ts (λ x us a. named-told n b scopes x ts us a)))))))
+      (λ f. name-holds ts (λ x us a. named-events n b scopes x ts us a)))))))
 
   -- after the name x, which is the first of ts
-  named-told : (n b : ℕ) (scopes : Scopes) (x : Name) (ts us : List Token) → AfterName ts x us
-      → Holds (λ e vs. Tells b ts vs (exprEvents e)) (named n scopes x us)
-  named-told zero b scopes x ts us a = leavesAt-holds us
-  named-told (suc n) b scopes x ts us a =
+  named-events : (n b : ℕ) (scopes : Scopes) (x : Name) (ts us : List Token) → AfterName ts x us
+      → Holds (λ e vs. HasEvents b ts vs (exprEvents e)) (named n scopes x us)
+  named-events zero b scopes x ts us a = leavesAt-holds us
+  named-events (suc n) b scopes x ts us a =
       next-holds "=" us
-      (λ c. cond-both (Holds (λ e vs. Tells b ts vs (exprEvents e))) (isWithends scopes x) off
-      (then-holds (expr-told n b scopes (rest us)) (λ e vs p. holds (record {
+      (λ c. cond-both (Holds (λ e vs. HasEvents b ts vs (exprEvents e))) (isWithends scopes x) off
+      (then-holds (expr-events n b scopes (rest us)) (λ e vs p. holds (record {
         ending = p .ending;
-        tells = used-name false b a (not-open "=" c refl)
-            ∙ ap (λ es. used x ∷ es) (on-word "=" 0 (suc b) c refl ∙ p .tells);
+        events = used-name false b a (not-open "=" c refl)
+            ∙ ap (λ es. used x ∷ es) (on-word "=" 0 (suc b) c refl ∙ p .events);
       }))))
       (λ f. next-holds "(" us
-      (λ c. then-holds (both-hold (arguments-told n b scopes (rest us)) (arguments-close n scopes (rest us)))
+      (λ c. then-holds (both-hold (arguments-events n b scopes (rest us)) (arguments-close n scopes (rest us)))
       (λ es vs p. holds (record {
         ending = true;
-        tells = called-name b a (opens c)
+        events = called-name b a (opens c)
             ∙ ap (λ (k : ℕ). called x k ∷ eventsFrom 0 (suc b) us) (p .1 .1)
             ∙ ap (λ fs. called x (count es) ∷ fs) (on-word "(" 0 (suc b) c refl ∙ p .0);
       })))
       (λ g. holds (record {
         ending = false;
-        tells = used-name false b a (sym (is-open (first us)) ∙ g);
+        events = used-name false b a (sym (is-open (first us)) ∙ g);
       })))
 
-  pub arguments-told : (n b : ℕ) (scopes : Scopes) (ts : List Token)
+  pub arguments-events : (n b : ℕ) (scopes : Scopes) (ts : List Token)
       → Holds (λ es us. eventsFrom 0 (suc b) ts ≡ exprsEvents es (eventsFrom 1 (suc b) us)) (arguments n scopes ts)
-  arguments-told zero b scopes ts = leavesAt-holds ts
-  arguments-told (suc n) b scopes ts =
-      next-holds ")" ts (λ a. holds (on-word ")" 0 (suc b) a refl)) (λ f. params-told n b scopes ts)
+  arguments-events zero b scopes ts = leavesAt-holds ts
+  arguments-events (suc n) b scopes ts =
+      next-holds ")" ts (λ a. holds (on-word ")" 0 (suc b) a refl)) (λ f. params-events n b scopes ts)
 
-  params-told : (n b : ℕ) (scopes : Scopes) (ts : List Token)
+  params-events : (n b : ℕ) (scopes : Scopes) (ts : List Token)
       → Holds (λ es us. eventsFrom 0 (suc b) ts ≡ exprsEvents es (eventsFrom 1 (suc b) us)) (methodParams n scopes ts)
-  params-told zero b scopes ts = leavesAt-holds ts
-  params-told (suc n) b scopes ts =
-      then-holds (expr-told n b scopes ts) (λ e us p.
+  params-events zero b scopes ts = leavesAt-holds ts
+  params-events (suc n) b scopes ts =
+      then-holds (expr-events n b scopes ts) (λ e us p.
       next-holds "," us
-      (λ a. then-holds (params-told n b scopes (rest us)) (λ es vs q. holds
-      (p .tells ∙ ap (exprEvents e) (mid-word "," (p .ending) b a refl refl refl ∙ q))))
+      (λ a. then-holds (params-events n b scopes (rest us)) (λ es vs q. holds
+      (p .events ∙ ap (exprEvents e) (mid-word "," (p .ending) b a refl refl refl ∙ q))))
       (λ f. expect-holds ")" us (λ vs c. holds
-      (p .tells ∙ ap (exprEvents e) (mid-word ")" (p .ending) b c refl refl refl)))))
+      (p .events ∙ ap (exprEvents e) (mid-word ")" (p .ending) b c refl refl refl)))))

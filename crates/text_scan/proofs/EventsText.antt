@@ -1,4 +1,4 @@
--- The scan over a text of the grammar tells the events of its tree.
+-- The scan over a text of the grammar finds the events of its tree.
 use Prim.Native.Nat.{ℕ, zero, suc}
 use mathlib.Core.Path.{_≡_, refl, sym, ap, _∙_, subst}
 use mathlib.Core.Bool.{Bool, true, false, cond}
@@ -20,17 +20,17 @@ use Rattle.text_scan.specs.Standing.{Stand, none-stand, stand}
 use Rattle.text_scan.proofs.Opened.{scan-opened}
 use Rattle.text_scan.proofs.Holding.{Holds, holds, After, after, AfterName, held, then-holds, both-hold, leavesAt-holds, next-holds, expect-holds, name-holds}
 use Rattle.text_scan.proofs.Counting.{parameters-counted}
-use Rattle.text_scan.proofs.EventsExpr.{on-word, on-name, words-too, type-told, header-steady, not-open, opens}
-use Rattle.text_scan.proofs.EventsCode.{declared-append, declarations-told, statements-told}
+use Rattle.text_scan.proofs.EventsExpr.{on-word, on-name, words-too, type-events, header-steady, not-open, opens}
+use Rattle.text_scan.proofs.EventsCode.{declared-append, declarations-events, statements-events}
 
 -- Headers
 
 header-type : (ts : List Token) → Holds (λ t us. eventsFrom 0 0 ts ≡ eventsFrom 0 0 us) (nonVoidType ts)
-header-type ts = type-told 0 0 0 (words-too 0 0 0 header-steady) header-steady ts
+header-type ts = type-events 0 0 0 (words-too 0 0 0 header-steady) header-steady ts
 
-return-told : (ts : List Token) → Holds (λ t us. eventsFrom 0 0 ts ≡ eventsFrom 0 0 us) (returnType ts)
+return-events : (ts : List Token) → Holds (λ t us. eventsFrom 0 0 ts ≡ eventsFrom 0 0 us) (returnType ts)
 unfolding returnType scan-opened
-return-told ts =
+return-events ts =
     next-holds "void" ts (λ a. holds (on-word "void" 0 0 a refl))
     (λ f. then-holds (header-type ts) (λ t us p. holds p))
 
@@ -47,11 +47,11 @@ method-name {ts} {us} {x} a f =
     on-name 0 0 a ∙ ap (λ (o : Bool). withEvent (cond o 1 2) x (argumentCount (rest us)) us (eventsFrom 0 0 us)) f
 
 -- a parameter, before a token that opens no bracket
-parameter-told : (ts : List Token)
+parameter-events : (ts : List Token)
     → Holds (λ p us. eqb (kindAt us) 19 ≡ false → eventsFrom 0 0 ts ≡ declared (p .name) ∷ eventsFrom 0 0 us)
     (parameter ts)
 unfolding parameter
-parameter-told ts =
+parameter-events ts =
     then-holds (header-type ts) (λ t us p. name-holds us (λ x vs a. holds (λ f. p ∙ parameter-name a f)))
 
 parameters-more : (ps : List Parameter) (p : Parameter) (es : List Event)
@@ -62,16 +62,16 @@ parameters-more [] p es = refl
 parameters-more (q ∷ ps) p es = ap (λ fs. declared (q .name) ∷ fs) (parameters-more ps p es)
 
 -- parameters that begin at os, from after ps on
-more-told : (n : ℕ) (os : List Token) (ps : List Parameter) (ts : List Token)
+more-events : (n : ℕ) (os : List Token) (ps : List Parameter) (ts : List Token)
     → eventsFrom 0 0 os ≡ declaredEvents (map parameterOf ps) (eventsFrom 0 0 ts)
     → Holds (λ qs us. eventsFrom 0 0 os ≡ declaredEvents (map parameterOf qs) (eventsFrom 0 0 us))
     (moreParameters n ps ts)
 unfolding moreParameters scan-opened
-more-told zero os ps ts h = leavesAt-holds ts
-more-told (suc n) os ps ts h =
-    then-holds (parameter-told ts) (λ p us q.
+more-events zero os ps ts h = leavesAt-holds ts
+more-events (suc n) os ps ts h =
+    then-holds (parameter-events ts) (λ p us q.
     next-holds "," us
-    (λ a. more-told n os (ps ++ (p ∷ [])) (rest us)
+    (λ a. more-events n os (ps ++ (p ∷ [])) (rest us)
     (h ∙ ap (declaredEvents (map parameterOf ps))
     (q (not-open "," a refl) ∙ ap (λ es. declared (p .name) ∷ es) (on-word "," 0 0 a refl))
     ∙ sym (parameters-more ps p (eventsFrom 0 0 (rest us)))))
@@ -80,36 +80,36 @@ more-told (suc n) os ps ts h =
     (q (not-open ")" a refl) ∙ ap (λ es. declared (p .name) ∷ es) (on-word ")" 0 0 a refl))
     ∙ sym (parameters-more ps p (eventsFrom 0 0 vs))))))
 
-parameters-told : (n : ℕ) (ts : List Token)
+parameters-events : (n : ℕ) (ts : List Token)
     → Holds (λ ps us. eventsFrom 0 0 ts ≡ declaredEvents (map parameterOf ps) (eventsFrom 0 0 us)) (parameters n ts)
 unfolding parameters scan-opened declaredEvents
-parameters-told n ts =
-    next-holds ")" ts (λ a. holds (on-word ")" 0 0 a refl)) (λ f. more-told n ts [] ts refl)
+parameters-events n ts =
+    next-holds ")" ts (λ a. holds (on-word ")" 0 0 a refl)) (λ f. more-events n ts [] ts refl)
 
 -- Methods
 
 -- a body, after a header that began at os
-body-told : (n : ℕ) (t : Option NonVoidType) (x : Name) (ps : List Parameter) (os ts : List Token)
+body-events : (n : ℕ) (t : Option NonVoidType) (x : Name) (ps : List Parameter) (os ts : List Token)
     → eventsFrom 0 0 os
     ≡ methodNamed x (length ps) ∷ declaredEvents (map parameterOf ps) (eventsFrom 0 0 ts)
     → Holds (λ m us. eventsFrom 0 0 os ≡ methodEvents m us (eventsFrom 0 0 us)) (methodBody n t x ps ts)
 unfolding methodBody scan-opened methodEvents bodyVariables
-body-told n t x ps os ts h =
-    expect-holds "{" ts (λ us a. then-holds (declarations-told n 0 us) (λ ds vs p.
-    then-holds (statements-told n 31 0 ((map parameterOf ps ++ declaredBy ds) ∷ []) vs) (λ ss ws q. holds
+body-events n t x ps os ts h =
+    expect-holds "{" ts (λ us a. then-holds (declarations-events n 0 us) (λ ds vs p.
+    then-holds (statements-events n 31 0 ((map parameterOf ps ++ declaredBy ds) ∷ []) vs) (λ ss ws q. holds
     (h ∙ ap (λ es. methodNamed x (length ps) ∷ es)
     (ap (declaredEvents (map parameterOf ps))
     (on-word "{" 0 0 a refl ∙ p ∙ ap (declaredEvents (declaredBy ds)) q)
     ∙ sym (declared-append (map parameterOf ps) (declaredBy ds)
     (statementsEvents ss (ended ws ∷ eventsFrom 0 0 ws))))))))
 
-method-told : (n : ℕ) (ts : List Token)
+method-events : (n : ℕ) (ts : List Token)
     → Holds (λ m us. eventsFrom 0 0 ts ≡ methodEvents m us (eventsFrom 0 0 us)) (method n ts)
 unfolding method scan-opened
-method-told n ts =
-    then-holds (return-told ts) (λ t us p. name-holds us (λ x vs a. expect-holds "(" vs (λ ws c.
-    then-holds (both-hold (parameters-told n ws) (parameters-counted n ws)) (λ ps xs q.
-    body-told n t x ps ts xs (p ∙ by-count vs ws c x ps (method-name a (opens c)) (q .1)
+method-events n ts =
+    then-holds (return-events ts) (λ t us p. name-holds us (λ x vs a. expect-holds "(" vs (λ ws c.
+    then-holds (both-hold (parameters-events n ws) (parameters-counted n ws)) (λ ps xs q.
+    body-events n t x ps ts xs (p ∙ by-count vs ws c x ps (method-name a (opens c)) (q .1)
     (on-word "(" 0 0 c refl ∙ q .0))))))
   where
     by-count : (us vs : List Token) → After "(" us vs → (x : Name) (ps : List Parameter) {as′ bs cs : List Event}
@@ -186,22 +186,22 @@ parts-of ms ts us e =
           further = inr (p .2 ∙ ap (read (p .0)) (same-left (m ∷ p .0) ms (p .1) us (p .3)));
         }
 
--- Programs: where each method stands, and the events up to tokens that tell none
+-- Programs: where each method stands, and the events up to tokens that have none
 pub record Scan (ts : List Token) (ms : Program) : Type 0 where
   pub ends : List (List Token)
   pub stands : Stand ts ms ends
-  pub tells : eventsFrom 0 0 ts ≡ programEvents ms ends
+  pub events : eventsFrom 0 0 ts ≡ programEvents ms ends
 
 method-all : (ts : List Token) (m : Method) (us : List Token) → methodFrom ts ≡ read m us
     → eventsFrom 0 0 ts ≡ methodEvents m us (eventsFrom 0 0 us)
 unfolding methodFrom
 method-all ts m us e =
     held m us (subst (Holds (λ n vs. eventsFrom 0 0 ts ≡ methodEvents n vs (eventsFrom 0 0 vs))) e
-    (method-told (enough ts) ts))
+    (method-events (enough ts) ts))
 
 nothing-scanned : (ts : List Token) → eventsFrom 0 0 ts ≡ [] → Scan ts []
 unfolding programEvents
-nothing-scanned ts q = record { ends = []; stands = none-stand; tells = q }
+nothing-scanned ts q = record { ends = []; stands = none-stand; events = q }
 
 one-scanned : (ts us : List Token) (m : Method) (ms : Program) → methodFrom ts ≡ read m us → Scan us ms
     → Scan ts (m ∷ ms)
@@ -209,22 +209,22 @@ unfolding programEvents
 one-scanned ts us m ms r t = record {
   ends = us ∷ t .ends;
   stands = stand r (t .stands);
-  tells = method-all ts m us r ∙ ap (methodEvents m us) (t .tells);
+  events = method-all ts m us r ∙ ap (methodEvents m us) (t .events);
 }
 
 tail-of : Program → Program
 tail-of [] = []
 tail-of (m ∷ ms) = ms
 
-program-told : (ms : Program) (ts us : List Token) → programOf ts ≡ read ms us → eventsFrom 0 0 us ≡ []
+program-events : (ms : Program) (ts us : List Token) → programOf ts ≡ read ms us → eventsFrom 0 0 us ≡ []
     → Scan ts ms
 unfolding tail-of
-program-told [] ts us e q = absurd (cons≢nil (sym (parts-of [] ts us e .is)))
-program-told (m ∷ ms) ts us e q =
+program-events [] ts us e q = absurd (cons≢nil (sym (parts-of [] ts us e .is)))
+program-events (m ∷ ms) ts us e q =
     let p = parts-of (m ∷ ms) ts us e in
     subst (Scan ts) (sym (p .is))
     (one-scanned ts (p .left) (p .one) (p .others) (p .reads)
-    (by (p .others) (p .left) (p .further) (λ d. program-told ms (p .left) us
+    (by (p .others) (p .left) (p .further) (λ d. program-events ms (p .left) us
     (d ∙ ap (λ ns. read ns us) (sym (ap tail-of (p .is)))) q)
     (ap tail-of (p .is))))
   where
@@ -235,16 +235,16 @@ program-told (m ∷ ms) ts us e q =
     by ns vs (inr d) later i = subst (Scan vs) i (later d)
 
 -- at the end of a text there is no event
-end-told : (text : List ℕ) → eventsFrom 0 0 (endToken text ∷ []) ≡ []
+end-no-events : (text : List ℕ) → eventsFrom 0 0 (endToken text ∷ []) ≡ []
 unfolding scan-opened eventsFrom
-end-told text = refl
+end-no-events text = refl
 
-pub text-told : (text : List ℕ) (ms : Program) (us : List Token) → programOf (tokensOf text) ≡ read ms us
+pub text-events : (text : List ℕ) (ms : Program) (us : List Token) → programOf (tokensOf text) ≡ read ms us
     → Scan (tokensOf text) ms
-text-told text ms us e =
-    program-told ms (tokensOf text) us e
+text-events text ms us e =
+    program-events ms (tokensOf text) us e
     (ap (eventsFrom 0 0) (ending (subst (Leaving (λ vs. vs ≡ endToken text ∷ [])) e (whole-text .all-read text)))
-    ∙ end-told text)
+    ∙ end-no-events text)
   where
     ending : Leaving (λ vs. vs ≡ endToken text ∷ []) (read ms us) → us ≡ endToken text ∷ []
     ending (leaving p) = p

@@ -1,4 +1,4 @@
--- The faults within methods that the events of a tree tell are the tree's own.
+-- The faults within methods that the events of a tree give are the tree's own.
 use Prim.Native.Nat.{ℕ}
 use mathlib.Core.Path.{_≡_, refl, sym, ap, _∙_}
 use mathlib.Core.Bool.{not}

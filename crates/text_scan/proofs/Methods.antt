@@ -1,4 +1,4 @@
--- The methods that the events of a text tell are those of its tree, in text order; and the first method of a name is
+-- The methods that the events of a text name are those of its tree, in text order; and the first method of a name is
 -- the same in text order and main first.
 use Prim.Native.Nat.{ℕ, suc}
 use mathlib.Core.Path.{_≡_, refl, sym, ap, _∙_, subst}

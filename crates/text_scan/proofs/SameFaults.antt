@@ -1,4 +1,4 @@
--- The faults that the scan over a text of the grammar tells are those of its tree.
+-- The faults that the scan over a text of the grammar finds are those of its tree.
 use Prim.Native.Nat.{ℕ, suc, _≤_, _<_}
 use native.Mathlib.Omega.{arith}
 use mathlib.Core.Path.{_≡_, refl, sym, ap, ap₂, _∙_}
@@ -17,7 +17,7 @@ use Rattle.text_scan.specs.ScanCode.{eventsFrom}
 use Rattle.text_scan.specs.FaultsCode.{Entry, entriesOf, countOf, indexIn, faultsOf, methodFaultsOf, mainFaultOf, faultsFrom}
 use Rattle.text_scan.proofs.Methods.{entryOf, entries-program, parameterCount, count-first, index-first, mains-named}
 use Rattle.text_scan.proofs.Faults.{faults-methods}
-use Rattle.text_scan.proofs.EventsText.{text-told}
+use Rattle.text_scan.proofs.EventsText.{text-events}
 
 abbrev entryName : Entry → Name
 entryName e = e .name
@@ -94,13 +94,13 @@ faults-same end ms uss =
 pub text-faults : (text : List ℕ) (end : ℕ) (ms : Program) (us : List Token) → programOf (tokensOf text) ≡ read ms us
     → faultsFrom end (eventsFrom 0 0 (tokensOf text)) ≡ nameFaults end ms
 text-faults text end ms us e =
-    let t = text-told text ms us e in ap (faultsFrom end) (t .tells) ∙ faults-same end ms (t .ends)
+    let t = text-events text ms us e in ap (faultsFrom end) (t .events) ∙ faults-same end ms (t .ends)
 
 -- the methods of a text, in text order
 pub text-entries : (text : List ℕ) (ms : Program) (us : List Token) → programOf (tokensOf text) ≡ read ms us
     → entriesOf (eventsFrom 0 0 (tokensOf text)) ≡ map entryOf ms
 text-entries text ms us e =
-    let t = text-told text ms us e in ap entriesOf (t .tells) ∙ entries-program ms (t .ends)
+    let t = text-events text ms us e in ap entriesOf (t .events) ∙ entries-program ms (t .ends)
 
 pub text-count : (text : List ℕ) (ms : Program) (us : List Token) → programOf (tokensOf text) ≡ read ms us
     → (x : Name)

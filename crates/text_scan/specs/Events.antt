@@ -1,4 +1,4 @@
--- What the names of a text do, in text order, as its tree tells it. In each definition `es` is what comes after.
+-- What the names of a text do, in text order, as its tree has it. In each definition `es` is what comes after.
 use Prim.Native.Nat.{ℕ}
 use mathlib.Core.List.{List, [], _∷_}
 use lib.ListN.{length}

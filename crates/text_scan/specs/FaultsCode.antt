@@ -1,4 +1,4 @@
--- The faults of names told from the events of a text, in text order. These definitions follow the code; that they are
+-- The faults of names found in the events of a text, in text order. These definitions follow the code; that they are
 -- the faults of the text's tree is proved (proofs/Faults.antt, proofs/SameFaults.antt).
 use Prim.Native.Nat.{ℕ, suc}
 use mathlib.Core.Bool.{Bool, false, cond, not}

@@ -1,8 +1,8 @@
--- What the names of a text do, in text order, as one scan over its tokens tells it. These definitions follow the code;
+-- What the names of a text do, in text order, as one scan over its tokens finds it. These definitions follow the code;
 -- that a text of the grammar has the events of its tree is proved (proofs/EventsText.antt).
 --
--- A scan has a mode and the number of braces that are open. What a token does is told by these, by its kind and by the
--- kind of the next token. Modes: 0 within a statement or a header, 1 where a statement or a declaration may begin,
+-- A scan has a mode and the number of braces that are open. What a token does is known from these, by its kind and by
+-- the kind of the next token. Modes: 0 within a statement or a header, 1 where a statement or a declaration may begin,
 -- 2 after measure, 3 after measure and its bracket, 4 within a declaration.
 use Prim.Native.Nat.{ℕ, zero, suc}
 use mathlib.Core.Bool.{Bool, true, false, cond, _&&_, _||_}

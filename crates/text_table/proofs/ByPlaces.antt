@@ -1,4 +1,4 @@
--- In a text that is given a table, a method's code with the places of the called names, its methods then told by their
+-- In a text that is given a table, a method's code with the places of the called names, its methods then given by their
 -- numbers, is its code in the table.
 use Prim.Native.Nat.{ℕ}
 use mathlib.Core.Path.{_≡_, refl, sym, ap, _∙_}
@@ -24,12 +24,12 @@ use Rattle.text_put.proofs.MainAt.{MainStands, number-at}
 use Rattle.text_put.proofs.Buffer.{resolved}
 use Rattle.text_put.proofs.WordLaws.{argument-called, argument-stays}
 
--- where f tells the number of each called name from its place
-module _ (f : ℕ → ℕ) (P : Name → Type 0) (num : Name → ℕ) (tells : (x : Name) → P x → f (x .at) ≡ num x) where
+-- where f numbers the number of each called name from its place
+module _ (f : ℕ → ℕ) (P : Name → Type 0) (num : Name → ℕ) (numbers : (x : Name) → P x → f (x .at) ≡ num x) where
   one-resolved : {i j : Instruction} → Alike P placeOf num i j → resolved f i ≡ j
   unfolding resolved calls
   one-resolved (as-is o a b e q) = ap (instruction o) (sym (argument-stays f o a (plain-calls o e)) ∙ q)
-  one-resolved (naming o x e p) = ap (instruction o) (sym (argument-called f o (x .at) e) ∙ tells x p)
+  one-resolved (naming o x e p) = ap (instruction o) (sym (argument-called f o (x .at) e) ∙ numbers x p)
 
   all-resolved : {is js : List Instruction} → AllAlike P placeOf num is js → map (resolved f) is ≡ js
   all-resolved all-done = refl

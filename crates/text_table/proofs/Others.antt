@@ -23,7 +23,7 @@ use Rattle.text_scan.specs.Standing.{Stand, stand}
 use Rattle.text_put.proofs.MainAt.{MainStands, NotMain, others-append}
 use Rattle.text_put.proofs.Ordered.{take-method, program-append, code-append}
 use Rattle.text_put.proofs.WordLaws.{words-then, words-same}
-use Rattle.text_table.specs.WrittenCode.{Reached, OthersPut}
+use Rattle.text_table.specs.WrittenCode.{MethodStep, OthersPut}
 
 -- main is the method of its index, and no other is
 
@@ -95,7 +95,7 @@ one-code qs m false = ap codeWords (append-nil (methodCode qs m))
 pub others-step : (text : List ℕ) (ns : Program) (p : MainStands ns) (k q at : ℕ) (table mid end : List ℕ) (i j : ℕ)
     → OthersPut text ns k q at table mid i → (m : Method) → methodAt ns k ≡ some m
     → (us : List Token) (vss : List (List Token)) → Stand us (drop (suc k) ns) vss → (on : ℕ)
-    → Reached text ns m us (eqb k (length (p .before))) mid i on end j → OthersPut text ns (k + 1) on at table end j
+    → MethodStep text ns m us (eqb k (length (p .before))) mid i on end j → OthersPut text ns (k + 1) on at table end j
 others-step text ns p k q at table mid end i j o m e us vss s on w =
     let qs = mainFirst ns in
     let before = withoutMain (take k ns) in

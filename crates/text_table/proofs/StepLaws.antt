@@ -19,13 +19,13 @@ use Rattle.text_parse.specs.Equations.{methodFrom}
 use Rattle.text_tokens.specs.Places.{tokensAt}
 use Rattle.text_tokens.proofs.Tokenwise.{tokens-at-start}
 use Rattle.text_scan.specs.Standing.{Stand}
-use Rattle.text_scan.proofs.EventsText.{text-told}
+use Rattle.text_scan.proofs.EventsText.{text-events}
 use Rattle.text_put.specs.TableCode.{Writes, calledAt, codeTo, words}
 use Rattle.text_put.proofs.MainAt.{MainStands, main-number}
 use Rattle.text_put.proofs.Assembled.{text-main}
 use Rattle.text_put.proofs.WordLaws.{words-none, words-same, words-length, code-count}
 use Rattle.text_emit_method.specs.MethodCode.{MethodEmits}
-use Rattle.text_table.specs.WrittenCode.{OthersPut, Writing, Reached, Reaches}
+use Rattle.text_table.specs.WrittenCode.{OthersPut, Writing, MethodStep, MethodSteps}
 use Rattle.text_table.proofs.Emitted.{method-put}
 use Rattle.text_table.proofs.Others.{next-stands, others-step}
 
@@ -85,7 +85,7 @@ module _ {text : List ℕ} {ns : Program} {main : ℕ} (w : Writing text ns main
       → methodFrom (tokensAt text from) ≡ read m us → 8192 ≤ length code
       → MethodEmits text qs from ok on start end long row code code' (methodFrom (tokensAt text from))
       → PutsOne text main leave code' long table at table' r → at < 20000
-      → Reached text ns m us leave table at on table' r
+      → MethodStep text ns m us leave table at on table' r
   method-reached {from} {long = long} {at = at} {leave = leave} {code' = code'} table k m us e q c h f l =
       let o = method-put text ns (w .given) main-here k m e us (methodFrom (tokensAt text from)) q c h in
       record {
@@ -97,7 +97,7 @@ module _ {text : List ℕ} {ns : Program} {main : ℕ} (w : Writing text ns main
   pub others-start : (at : ℕ) (table : List ℕ) → OthersPut text ns 0 0 at table table at
   unfolding programCode withoutMain codeWords
   others-start at table =
-      let t = text-told text ns (w .given .left) (w .given .reads) in
+      let t = text-events text ns (w .given .left) (w .given .reads) in
       record {
         uss = t .ends;
         stands = subst (λ ts. Stand ts ns (t .ends)) (tokens-at-start text) (t .stands);
@@ -118,12 +118,13 @@ module _ {text : List ℕ} {ns : Program} {main : ℕ} (w : Writing text ns main
       )
 
   pub others-on : {k q on at i j : ℕ} {table mid table' : List ℕ} → OthersPut text ns k q at table mid i → k < length ns
-      → at ≤ 9000 → Reaches text main q (eqb k main) mid i on table' j → OthersPut text ns (k + 1) on at table table' j
+      → at ≤ 9000 → MethodSteps text main q (eqb k main) mid i on table' j
+      → OthersPut text ns (k + 1) on at table table' j
   others-on {k} {q} {on} {at} {i} {j} {table} {mid} {table'} o l b f =
       let (m, e) = method-there ns k l in
       let (us, vss, r, s) = next-stands text ns k q at table mid i o m e in
       others-step text ns main-here k q at table mid table' i j o m e us vss s on
-      (subst (λ n. Reached text ns m us (eqb k n) mid i on table' j) main-index
+      (subst (λ n. MethodStep text ns m us (eqb k n) mid i on table' j) main-index
       (f ns k m us w e r (room-left k q at table mid i b o)))
 
   pub others-all : {q at r : ℕ} {table table' : List ℕ} → OthersPut text ns (length ns) q at table table' r

@@ -24,7 +24,7 @@ use Rattle.text_put.specs.Measures.{TableText, Measures}
 use Rattle.text_put.proofs.MainAt.{MainStands, order-is, number-at, main-number, index-at}
 use Rattle.text_put.proofs.WordLaws.{words-then, words-same, words-length, pairs-count, rows-count, number-main, index-main}
 use Rattle.text_put.proofs.Assembled.{text-main, table-is}
-use Rattle.text_table.specs.WrittenCode.{Writing, Reaches, headWords}
+use Rattle.text_table.specs.WrittenCode.{Writing, MethodSteps, headWords}
 use Rattle.text_table.proofs.Fitting.{one-of-all, table-words}
 
 -- the words before the code
@@ -130,7 +130,7 @@ module _ {text : List ℕ} {ns : Program} (g : TableText text ns) where
       → Measures ns methods instructions lengths rows → {found : Bool} {index at params : ℕ}
       → MethodOf text (ascii "main") found index at params → (table : List ℕ) {mid next end : List ℕ} {i on j r : ℕ}
       → Writes table 0 (headWords methods instructions lengths rows index) mid i → i ≤ 642
-      → Reaches text index at false mid i on next j
+      → MethodSteps text index at false mid i on next j
       → ((ns : Program) → Writing text ns index → methods ≡ length ns → j ≤ 9000
       → Writes next j (codeWords (programCode (mainFirst ns) (withoutMain ns))) end r)
       → (end ≡ putFrom table 0 (textTable ns)) × (r ≡ length (textTable ns))

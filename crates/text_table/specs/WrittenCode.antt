@@ -26,16 +26,16 @@ pub record Writing (text : List ℕ) (ns : Program) (main : ℕ) : Type 0 where
 
 -- Method m of ns, in text order, whose tokens stand from a place on: it is read up to another place, and its code is
 -- written, unless it is left out.
-pub record Reached (text : List ℕ) (ns : Program) (m : Method) (us : List Token) (leave : Bool) (table : List ℕ)
+pub record MethodStep (text : List ℕ) (ns : Program) (m : Method) (us : List Token) (leave : Bool) (table : List ℕ)
     (at on : ℕ) (table' : List ℕ) (to : ℕ) : Type 0 where
   pub left : us ≡ tokensAt text on
   pub written : Writes table at (cond leave [] (codeWords (methodCode (mainFirst ns) m))) table' to
 
 -- so for every text that is given a table
-abbrev pub Reaches : List ℕ → ℕ → ℕ → Bool → List ℕ → ℕ → ℕ → List ℕ → ℕ → Type 0
-Reaches text main from leave table at on table' to =
+abbrev pub MethodSteps : List ℕ → ℕ → ℕ → Bool → List ℕ → ℕ → ℕ → List ℕ → ℕ → Type 0
+MethodSteps text main from leave table at on table' to =
     (ns : Program) (k : ℕ) (m : Method) (us : List Token) → Writing text ns main → methodAt ns k ≡ some m
-    → methodFrom (tokensAt text from) ≡ read m us → at < 20000 → Reached text ns m us leave table at on table' to
+    → methodFrom (tokensAt text from) ≡ read m us → at < 20000 → MethodStep text ns m us leave table at on table' to
 
 -- what an emission comes to, for a method m with the tokens us after it: its code in the buffer, with its calls by
 -- number, is its code in the table

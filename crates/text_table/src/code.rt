@@ -9,7 +9,7 @@ ghost use Rattle.text.specs.Tree.{Program, mainFirst, withoutMain};
 ghost use Rattle.text.specs.Translation.{programCode, codeWords};
 ghost use Rattle.text_methods.specs.IndexCode.{Indexed};
 ghost use Rattle.text_put.specs.TableCode.{Writes, calledAt, codeTo};
-ghost use Rattle.text_table.specs.WrittenCode.{Writing, Reaches};
+ghost use Rattle.text_table.specs.WrittenCode.{Writing, MethodSteps};
 use text_emit_method::method::emit_method;
 use text_put::code::put_code;
 
@@ -62,7 +62,7 @@ pub fn put_method(
 ) -> Next
     requires { ⌜ (12288 ≤ length (now pending)) × (8192 ≤ length (now code)) × Indexed (now text) (now index) ⌝ }
     ensures { λ r. ⌜
-        Reaches (now (text .entry)) main from leave (now (table .entry)) at (r .at) (now (table .exit)) (r .to)
+        MethodSteps (now (text .entry)) main from leave (now (table .entry)) at (r .at) (now (table .exit)) (r .to)
         × (at < 30000 → r .to < 30000) ⌝ }
 {
     let mut row = [0u16; 18];

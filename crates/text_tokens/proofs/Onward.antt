@@ -72,15 +72,15 @@ module _ (a : ℕ) (as′ : List ℕ) (at i : ℕ) where
   ends (b ∷ bs) h = ends-before b bs (h b)
 
   -- k further bytes are the token's
-  abbrev Goes : ℕ → List ℕ → Type 0
-  Goes k bs =
+  abbrev Extends : ℕ → List ℕ → Type 0
+  Extends k bs =
       tokensFrom (a ∷ as′) at i bs ≡ token (a ∷ (as′ ++ take k bs)) at ∷ tokensFrom [] (i + k) (i + k) (drop k bs)
 
-  goes-none : (bs : List ℕ) → Ends bs → Goes 0 bs
+  goes-none : (bs : List ℕ) → Ends bs → Extends 0 bs
   goes-none bs e = e ∙ rw (append-nil, add-zero) refl
 
 goes-one : (a : ℕ) (as′ : List ℕ) (at i k b : ℕ) (bs : List ℕ) → extends (a ∷ as′) b ≡ true
-    → Goes a (as′ ++ (b ∷ [])) at (suc i) k bs → Goes a as′ at i (suc k) (b ∷ bs)
+    → Extends a (as′ ++ (b ∷ [])) at (suc i) k bs → Extends a as′ at i (suc k) (b ∷ bs)
 goes-one a as′ at i k b bs t g =
     let shift : suc i + k ≡ i + suc k = omega arith in
     goes-further a as′ at i b bs t ∙ g
@@ -100,7 +100,7 @@ leading-end f = refl
 
 -- a token that goes on with every byte of a class
 module _ (f : ℕ → Bool) (a : ℕ) (goes-on : (as′ : List ℕ) (b : ℕ) → extends (a ∷ as′) b ≡ f b) where
-  goes : (as′ : List ℕ) (at i : ℕ) (bs : List ℕ) → Goes a as′ at i (leading f bs) bs
+  goes : (as′ : List ℕ) (at i : ℕ) (bs : List ℕ) → Extends a as′ at i (leading f bs) bs
   goes as′ at i [] = rw (leading-end f) (goes-none a as′ at i [] (ends-last a as′ at i))
   goes as′ at i (b ∷ bs) =
       ⊎-elim
@@ -128,7 +128,7 @@ module _ (a : ℕ) (no-letter : isLetter a ≡ false) where
     extends-two : (b c : ℕ) → extends (a ∷ b ∷ []) c ≡ false
     extends-two b c = extends-mark (b ∷ []) c ∙ ap (λ (t : Bool). t && eqb c 61) (and-no (eqb a 61))
 
-    goes-mark : (at i : ℕ) (bs : List ℕ) → Goes a [] at i (cond (eqb a 61 && eqb (getD bs 0 0) 61) 1 0) bs
+    goes-mark : (at i : ℕ) (bs : List ℕ) → Extends a [] at i (cond (eqb a 61 && eqb (getD bs 0 0) 61) 1 0) bs
     goes-mark at i [] = rw (and-no (eqb a 61)) (goes-none a [] at i [] (ends-last a [] at i))
     goes-mark at i (b ∷ bs) =
         ⊎-elim
@@ -148,11 +148,11 @@ further a bs =
     cond (isLetter a) (leading isWordByte bs)
     (cond (isDigit a) (leading isDigit bs) (cond (eqb a 61 && eqb (getD bs 0 0) 61) 1 0))
 
-goes-token : (a at i : ℕ) (bs : List ℕ) → Goes a [] at i (further a bs) bs
+goes-token : (a at i : ℕ) (bs : List ℕ) → Extends a [] at i (further a bs) bs
 goes-token a at i bs =
-    cond-each (λ k. Goes a [] at i k bs) (isLetter a)
+    cond-each (λ k. Extends a [] at i k bs) (isLetter a)
     (λ l. goes isWordByte a (extends-word a l) [] at i bs)
-    (λ l. cond-each (λ k. Goes a [] at i k bs) (isDigit a)
+    (λ l. cond-each (λ k. Extends a [] at i k bs) (isDigit a)
     (λ d. goes isDigit a (extends-number a l d) [] at i bs)
     (λ d. goes-mark a l d at i bs))
 

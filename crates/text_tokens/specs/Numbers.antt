@@ -1,4 +1,4 @@
--- Numbers above 32767 are not told apart.
+-- Numbers above 32767 are not kept apart.
 use Prim.Native.Nat.{ℕ}
 use mathlib.Core.Bool.{cond}
 use lib.Dec.{ltb}

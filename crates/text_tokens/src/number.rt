@@ -1,4 +1,4 @@
-// The number that digits say, as far as numbers are told apart.
+// The number that digits say, as far as numbers are kept apart.
 ghost use mathlib.Core.Path.{_≡_};
 ghost use Prim.Native.Nat.{_+_, _*_, _-_};
 ghost use Rattle.text_parse.specs.Tokens.{numeralOf};

@@ -51,7 +51,8 @@ drop-put out at (b ∷ bs) n h =
 put-front : (out bs : List ℕ) → length bs ≤ length out → putFrom out 0 bs ≡ bs ++ drop (length bs) out
 put-front out bs h =
     sym (take-append-drop (length bs) (putFrom out 0 bs))
-    ∙ ap (λ (n : ℕ). take n (putFrom out 0 bs) ++ drop (length bs) (putFrom out 0 bs)) {x = length bs} {y = 0 + length bs} (omega arith)
+    ∙ ap (λ (n : ℕ). take n (putFrom out 0 bs) ++ drop (length bs) (putFrom out 0 bs)) {x = length bs} {y = 0 + length
+    bs} (omega arith)
     ∙ ap (λ (l : List ℕ). l ++ drop (length bs) (putFrom out 0 bs)) (putFrom-take out 0 bs (omega (arith, h)))
     ∙ ap (λ (l : List ℕ). bs ++ l) (drop-put out 0 bs (length bs) (omega arith))
 

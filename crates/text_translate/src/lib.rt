@@ -106,7 +106,8 @@ fn names_then_table(text: &[u8], methods: &mut [usize], table: &mut [u16]) -> Tr
 }
 
 // "30 when the text leaves the grammar or the nesting, 31 when a name is undeclared .., 32 when the table .. passes a
-// limit of questions 1 to 5: all before question 1, in this order". The buffer is untouched unless a table is given out.
+// limit of questions 1 to 5: all before question 1, in this order". The buffer is untouched unless a table is given
+// out.
 pub fn translate(text: &[u8], table: &mut [u16]) -> Translation
     ensures { λ r. ⌜
         (answerNumbers r ≡ answerFor (length (now (table .entry))) (textOf (now (text .entry))))

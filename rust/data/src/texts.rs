@@ -101,15 +101,15 @@ fn method(rest: &str) -> Method {
 fn repeated(text: &str) -> String {
     let mut out = String::new();
     let mut rest = text;
-    while let Some((before, behind)) = rest.split_once("\\<") {
-        let (count, behind) = behind.split_once(':').expect("a count");
-        let (body, behind) = behind.split_once("\\>").expect("an end of the repetition");
+    while let Some((before, after)) = rest.split_once("\\<") {
+        let (count, after) = after.split_once(':').expect("a count");
+        let (body, after) = after.split_once("\\>").expect("an end of the repetition");
         out += before;
         for index in 1..=number(count) {
             let index: usize = index;
             out += &body.replace("\\#", &index.to_string());
         }
-        rest = behind;
+        rest = after;
     }
     out + rest
 }

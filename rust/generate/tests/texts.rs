@@ -35,7 +35,7 @@ fn a_seed_names_one_text() {
 
 /// 32 stands "at the name of the first method in text order with which a limit is
 /// passed": the first with which the questions refuse the table, while all methods
-/// behind it in the text are empty.
+/// after it in the text are empty.
 #[test]
 fn the_place_of_32_is_the_questions() {
     let mut refused = 0;
@@ -51,7 +51,7 @@ fn the_place_of_32_is_the_questions() {
     assert!(refused > 50, "{refused} are refused");
 }
 
-/// Whether the methods behind can be made empty without passing a limit themselves.
+/// Whether the methods after can be made empty without passing a limit themselves.
 fn is_small(tree: &Tree) -> bool {
     let instructions: usize = tree.methods.iter().map(|method| code::translate(tree, method).code.len()).sum();
     let signature = |method: &Method| {

@@ -48,8 +48,11 @@ same-length c = search needs
 returns : tie.Need-returns
 unfolding answerNumbers
 returns c =
-    let args = c .before .before .before .before .before .before .before .before .before .before .before .before .before .before .args in
-    refused-runs (args .text .now) (args .table .now) (c .before .before .before .before .before .before .translate .ensures .0) (c .before .before .t .given .1) _ _ _ _ refl (c .refused .ensures)
+    let at-translate = c .before .before .before .before .before .before in
+    let entry = at-translate .before .before .before .before .before .before .before .before in
+    let args = entry .args in
+    refused-runs (args .text .now) (args .table .now) (at-translate .translate .ensures .0)
+    (c .before .before .t .given .1) _ _ _ _ refl (c .refused .ensures)
 
 same-length-2 : tie.Need-same-length-2
 same-length-2 c = search needs
@@ -57,8 +60,11 @@ same-length-2 c = search needs
 returns-2 : tie.Need-returns-2
 unfolding answerNumbers
 returns-2 c =
-    let args = c .before .before .before .before .before .before .before .before .before .before .before .before .before .before .args in
-    refused-runs (args .text .now) (args .table .now) (c .before .before .before .before .before .before .translate .ensures .0) (c .before .before .t2 .given .1) _ _ _ _ refl (c .refused2 .ensures)
+    let at-translate = c .before .before .before .before .before .before in
+    let entry = at-translate .before .before .before .before .before .before .before .before in
+    let args = entry .args in
+    refused-runs (args .text .now) (args .table .now) (at-translate .translate .ensures .0)
+    (c .before .before .t2 .given .1) _ _ _ _ refl (c .refused2 .ensures)
 
 same-length-3 : tie.Need-same-length-3
 same-length-3 c = search needs
@@ -66,8 +72,11 @@ same-length-3 c = search needs
 returns-3 : tie.Need-returns-3
 unfolding answerNumbers
 returns-3 c =
-    let args = c .before .before .before .before .before .before .before .before .before .before .before .before .before .before .args in
-    refused-runs (args .text .now) (args .table .now) (c .before .before .before .before .before .before .translate .ensures .0) (c .before .before .t3 .given .1) _ _ _ _ refl (c .refused3 .ensures)
+    let at-translate = c .before .before .before .before .before .before in
+    let entry = at-translate .before .before .before .before .before .before .before .before in
+    let args = entry .args in
+    refused-runs (args .text .now) (args .table .now) (at-translate .translate .ensures .0)
+    (c .before .before .t3 .given .1) _ _ _ _ refl (c .refused3 .ensures)
 
 same-length-4 : tie.Need-same-length-4
 same-length-4 c = search needs
@@ -81,9 +90,12 @@ same-length-6 c = search needs
 returns-4 : tie.Need-returns-4
 unfolding answerNumbers
 returns-4 c =
-    let t = c .before .before .before .before .before .before .before .before .before .before .before .before .before .translate .ensures in
-    let r = c .before .before .before .before .run-first .ensures in
-    table-runs _ _ (t .0) (c .before .before .before .before .before .before .before .before .before .t4 .given .1) refl (t .1) _ _ _ _ (r .0) (r .1) (r .2)
+    let at-run-first = c .before .before .before .before in
+    let at-t4 = at-run-first .before .before .before .before .before in
+    let at-translate = at-t4 .before .before .before .before in
+    let t = at-translate .translate .ensures in
+    let r = at-run-first .run-first .ensures in
+    table-runs _ _ (t .0) (at-t4 .t4 .given .1) refl (t .1) _ _ _ _ (r .0) (r .1) (r .2)
 
 same-length-7 : tie.Need-same-length-7
 same-length-7 c = search needs
@@ -91,8 +103,11 @@ same-length-7 c = search needs
 returns-5 : tie.Need-returns-5
 unfolding answerNumbers
 returns-5 c =
-    let args = c .before .before .before .before .before .before .before .before .before .before .before .before .before .before .args in
-    never-runs (args .text .now) (args .table .now) (c .before .before .before .before .before .before .translate .ensures .0) (c .before .before .t5 .given .1) (c .before .before .before .before .before .before .before .before .before .before .before .before .before .before .pre) refl
+    let at-translate = c .before .before .before .before .before .before in
+    let entry = at-translate .before .before .before .before .before .before .before .before in
+    let args = entry .args in
+    never-runs (args .text .now) (args .table .now) (at-translate .translate .ensures .0)
+    (c .before .before .t5 .given .1) (entry .pre) refl
 
 pub run-with-spec : {M : Type 1} → statement M
 run-with-spec =

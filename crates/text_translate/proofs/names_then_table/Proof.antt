@@ -19,15 +19,21 @@ enum-told c = search needs
 
 table-of-requires : tie.Need-table-of-requires
 table-of-requires c κs =
-    let named = well-named _ (c .before .before .before .before .before .before .before .before .before .before .before .before .before .pre .1) (c .before .before .before .before .name-fault .ensures) (c .before .before .enum-told .given .1) in
-    (named, c .before .before .before .before .before .before .before .before .index-methods .ensures)
+    let at-name-fault = c .before .before .before .before in
+    let at-index-methods = at-name-fault .before .before .before .before in
+    let entry = at-index-methods .before .before .before .before .before in
+    let named = well-named _ (entry .pre .1) (at-name-fault .name-fault .ensures)
+    (c .before .before .enum-told .given .1) in
+    (named, at-index-methods .index-methods .ensures)
 
 same-length : tie.Need-same-length
 same-length c = search needs
 
 returns : tie.Need-returns
 unfolding answerNumbers
-returns c = names-say _ _ (c .before .before .before .before .before .before .before .before .before .before .before .before .pre .1) (c .before .before .before .name-fault .ensures) (c .before .fault .given .1)
+returns c =
+    let entry = c .before .before .before .before .before .before .before .before .before .before .before .before in
+    names-say _ _ (entry .pre .1) (c .before .before .before .name-fault .ensures) (c .before .fault .given .1)
 
 same-length-2 : tie.Need-same-length-2
 same-length-2 c = search needs

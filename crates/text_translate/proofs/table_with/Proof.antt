@@ -25,14 +25,20 @@ same-length-4 c = search needs
 returns : tie.Need-returns
 unfolding answerNumbers
 returns c =
-    let w = c .before .before .before .before .before .before .before .before .before .before .before .before .before .before .before .before .before .before .before .before .before .before .pre .0 in
-    let l = c .before .before .before .before .before .before .before .before .before .before .limits .ensures w in
+    let at-limits = c .before .before .before .before .before .before .before .before .before .before in
+    let earlier = at-limits .before .before .before .before .before .before .before .before .before .before in
+    let entry = earlier .before .before in
+    let w = entry .pre .0 in
+    let l = at-limits .limits .ensures w in
     limits-say _ w l _ (not-true _ (c .if1 .taken))
 
 mul-words : tie.Need-mul-words
 mul-words c =
-    let w = c .before .before .before .before .before .before .before .before .before .before .before .before .before .before .before .before .before .before .before .before .before .before .before .pre .0 in
-    let l = c .before .before .before .before .before .before .before .before .before .before .before .limits .ensures w in
+    let at-limits = c .before .before .before .before .before .before .before .before .before .before .before in
+    let earlier = at-limits .before .before .before .before .before .before .before .before .before .before in
+    let entry = earlier .before .before in
+    let w = entry .pre .0 in
+    let l = at-limits .limits .ensures w in
     let ok = not-false _ (c .before .if1 .left) in
     let methods = few-methods _ w l ok in
     let instructions = few-instructions _ w l ok in
@@ -40,8 +46,11 @@ mul-words c =
 
 add-words : tie.Need-add-words
 add-words c =
-    let w = c .before .before .before .before .before .before .before .before .before .before .before .before .before .before .before .before .before .before .before .before .before .before .before .pre .0 in
-    let l = c .before .before .before .before .before .before .before .before .before .before .before .limits .ensures w in
+    let at-limits = c .before .before .before .before .before .before .before .before .before .before .before in
+    let earlier = at-limits .before .before .before .before .before .before .before .before .before .before in
+    let entry = earlier .before .before in
+    let w = entry .pre .0 in
+    let l = at-limits .limits .ensures w in
     let ok = not-false _ (c .before .if1 .left) in
     let methods = few-methods _ w l ok in
     let instructions = few-instructions _ w l ok in
@@ -49,8 +58,11 @@ add-words c =
 
 mul-words-2 : tie.Need-mul-words-2
 mul-words-2 c =
-    let w = c .before .before .before .before .before .before .before .before .before .before .before .before .before .before .before .before .before .before .before .before .before .before .before .before .pre .0 in
-    let l = c .before .before .before .before .before .before .before .before .before .before .before .before .limits .ensures w in
+    let at-limits = c .before .before .before .before .before .before .before .before .before .before .before .before in
+    let earlier = at-limits .before .before .before .before .before .before .before .before .before .before in
+    let entry = earlier .before .before in
+    let w = entry .pre .0 in
+    let l = at-limits .limits .ensures w in
     let ok = not-false _ (c .before .before .if1 .left) in
     let methods = few-methods _ w l ok in
     let instructions = few-instructions _ w l ok in
@@ -58,8 +70,11 @@ mul-words-2 c =
 
 add-words-2 : tie.Need-add-words-2
 add-words-2 c =
-    let w = c .before .before .before .before .before .before .before .before .before .before .before .before .before .before .before .before .before .before .before .before .before .before .before .before .pre .0 in
-    let l = c .before .before .before .before .before .before .before .before .before .before .before .before .limits .ensures w in
+    let at-limits = c .before .before .before .before .before .before .before .before .before .before .before .before in
+    let earlier = at-limits .before .before .before .before .before .before .before .before .before .before in
+    let entry = earlier .before .before in
+    let w = entry .pre .0 in
+    let l = at-limits .limits .ensures w in
     let ok = not-false _ (c .before .before .if1 .left) in
     let methods = few-methods _ w l ok in
     let instructions = few-instructions _ w l ok in
@@ -80,17 +95,26 @@ same-length-8 c = search needs
 returns-2 : tie.Need-returns-2
 unfolding answerNumbers
 returns-2 c =
-    let w = c .before .before .before .before .before .before .before .before .before .before .before .before .before .before .before .before .before .before .before .before .before .before .before .before .before .pre .0 in
-    let l = c .before .before .before .before .before .before .before .before .before .before .before .before .before .limits .ensures w in
+    let earlier = c .before .before .before .before .before .before .before .before .before .before in
+    let at-limits = earlier .before .before .before in
+    let earlier-2 = at-limits .before .before .before .before .before .before .before .before .before .before in
+    let entry = earlier-2 .before .before in
+    let w = entry .pre .0 in
+    let l = at-limits .limits .ensures w in
     let ok = not-false _ (c .before .before .before .if1 .left) in
     short-says _ w l _ ok (c .if2 .taken)
 
 write-table-requires : tie.Need-write-table-requires
 write-table-requires c κs =
-    let pre = c .before .before .before .before .before .before .before .before .before .before .before .before .before .before .before .before .before .before .before .before .before .before .before .before .before .before .before .before .before .before .pre in (
-      omega (arith, pre .4, c .before .before .before .before .before .before .before .before .before .before .before .rows .given),
-      omega (arith, pre .1, c .before .before .before .before .before .before .before .before .before .before .before .before .before .before .before .before .before .pending .given),
-      omega (arith, pre .2, c .before .before .before .before .before .before .before .before .before .before .before .before .before .before .before .code .given),
+    let at-rows = c .before .before .before .before .before .before .before .before .before .before .before in
+    let at-code = at-rows .before .before .before .before in
+    let at-pending = at-code .before .before in
+    let earlier = at-pending .before .before .before .before .before .before .before .before .before .before in
+    let entry = earlier .before .before .before in
+    let pre = entry .pre in (
+      omega (arith, pre .4, at-rows .rows .given),
+      omega (arith, pre .1, at-pending .pending .given),
+      omega (arith, pre .2, at-code .code .given),
       pre .5,
     )
 
@@ -112,10 +136,16 @@ same-length-13 c = search needs
 returns-3 : tie.Need-returns-3
 unfolding answerNumbers
 returns-3 c =
-    let w = c .before .before .before .before .before .before .before .before .before .before .before .before .before .before .before .before .before .before .before .before .before .before .before .before .before .before .before .before .before .before .before .before .before .before .before .before .before .pre .0 in
-    let l = c .before .before .before .before .before .before .before .before .before .before .before .before .before .before .before .before .before .before .before .before .before .before .before .before .before .limits .ensures w in
-    let ok = not-false _ (c .before .before .before .before .before .before .before .before .before .before .before .before .before .before .before .if1 .left) in
-    table-says _ w l _ _ ok (c .before .before .before .before .before .before .before .before .before .before .before .before .if2 .left) (c .before .before .before .before .before .before .write-table .ensures)
+    let at-write-table = c .before .before .before .before .before .before in
+    let at-if2 = at-write-table .before .before .before .before .before .before in
+    let at-if1 = at-if2 .before .before .before in
+    let at-limits = at-if1 .before .before .before .before .before .before .before .before .before .before in
+    let earlier = at-limits .before .before .before .before .before .before .before .before .before .before in
+    let entry = earlier .before .before in
+    let w = entry .pre .0 in
+    let l = at-limits .limits .ensures w in
+    let ok = not-false _ (at-if1 .if1 .left) in
+    table-says _ w l _ _ ok (at-if2 .if2 .left) (at-write-table .write-table .ensures)
 
 pub table-with-spec : {M : Type 1} → statement M
 table-with-spec =

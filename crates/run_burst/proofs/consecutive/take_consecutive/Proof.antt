@@ -30,11 +30,16 @@ same-length : tie.Need-same-length
 same-length c = search needs
 
 returns-4 : tie.Need-returns-4
-returns-4 c = (
-  taken (c .before .before .before .before .before .before .before .before .before .before .before .before .args .p .now) (c .before .before .before .before .before .before .before .before .before .before .before .before .args .schedule .now) (c .before .before .before .before .before .before .before .before .before .before .before .before .args .work .now) (c .before .before .before .before .before .before .before .before .before .before .before .before .pre .1) (getD (c .before .before .before .before .before .before .before .before .before .before .before .before .args .schedule .now) (c .before .before .before .before .before .before .before .before .before .before .before .before .args .k) 0) (omega (arith, c .before .before .before .before .if3 .left)) (c .before .before .before .before .before .before .before .before .before .before .before .before .args .known) (c .before .before .before .before .before .before .before .before .if1 .left)
-      (c .before .before .stretch .ensures .0) (c .before .before .stretch .ensures .1),
-  c .before .before .stretch .ensures .2,
-)
+returns-4 c =
+    let at-if3 = c .before .before .before .before in
+    let at-if1 = at-if3 .before .before .before .before in
+    let entry = at-if1 .before .before .before .before in (
+      taken (entry .args .p .now) (entry .args .schedule .now) (entry .args .work .now) (entry .pre .1)
+          (getD (entry .args .schedule .now) (entry .args .k) 0) (omega (arith, at-if3 .if3 .left)) (entry .args .known)
+          (at-if1 .if1 .left)
+          (c .before .before .stretch .ensures .0) (c .before .before .stretch .ensures .1),
+      c .before .before .stretch .ensures .2,
+    )
 
 pub take-consecutive-spec : {M : Type 1} → statement M
 take-consecutive-spec =

@@ -40,12 +40,12 @@ same-length-2 c = search needs
 returns : tie.Need-returns
 unfolding endAfter knownAfter
 returns c =
-    let at-told = c .before in
-    let at-named-entry = at-told .before .before .before .before .before .before in
+    let at-case = c .before in
+    let at-named-entry = at-case .before .before .before .before .before .before in
     let args = at-named-entry .before .before .before .before .before .before .before .args in
     turn-is (args .p .now) (args .outcomes .now) (args .trace .now) (args .work .now) (args .room) (args .t .now)
     (args .g) (args .n) (args .step) (args .offer) (args .known) (at-named-entry .named-entry .ensures)
-    Full (at-told .enum-told .given .1) refl (c .nothing-known .ensures)
+    Full (at-case .enum-told .given .1) refl (c .nothing-known .ensures)
 
 same-length-3 : tie.Need-same-length-3
 same-length-3 c = search needs
@@ -56,12 +56,12 @@ same-length-4 c = search needs
 returns-2 : tie.Need-returns-2
 unfolding endAfter knownAfter
 returns-2 c =
-    let at-told = c .before .before in
-    let at-named-entry = at-told .before .before .before .before .before .before in
+    let at-case = c .before .before in
+    let at-named-entry = at-case .before .before .before .before .before .before in
     let args = at-named-entry .before .before .before .before .before .before .before .args in
     turn-is (args .p .now) (args .outcomes .now) (args .trace .now) (args .work .now) (args .room) (args .t .now)
     (args .g) (args .n) (args .step) (args .offer) (args .known) (at-named-entry .named-entry .ensures)
-    Taken (at-told .enum-told2 .given .1) refl (c .known-after-entry .ensures)
+    Taken (at-case .enum-told2 .given .1) refl (c .known-after-entry .ensures)
 
 same-length-5 : tie.Need-same-length-5
 same-length-5 c = search needs
@@ -72,12 +72,12 @@ same-length-6 c = search needs
 returns-3 : tie.Need-returns-3
 unfolding endAfter knownAfter
 returns-3 c =
-    let at-told = c .before .before .before in
-    let at-named-entry = at-told .before .before .before .before .before .before in
+    let at-case = c .before .before .before in
+    let at-named-entry = at-case .before .before .before .before .before .before in
     let args = at-named-entry .before .before .before .before .before .before .before .args in
     turn-is (args .p .now) (args .outcomes .now) (args .trace .now) (args .work .now) (args .room) (args .t .now)
     (args .g) (args .n) (args .step) (args .offer) (args .known) (at-named-entry .named-entry .ensures)
-    Unable (at-told .enum-told3 .given .1) (c .before .ending .ensures) (c .with-idle .ensures)
+    Unable (at-case .enum-told3 .given .1) (c .before .ending .ensures) (c .with-idle .ensures)
 
 pub take-turn-spec : {M : Type 1} → statement M
 take-turn-spec =

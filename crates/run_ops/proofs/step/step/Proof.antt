@@ -61,10 +61,16 @@ same-length-2 c = search needs
 returns-2 : tie.Need-returns-2
 unfolding headOf
 returns-2 c =
-    step-acts (c .before .before .before .before .before .before .before .before .before .before .before .before .before .before .args .p .now) (c .before .before .before .before .before .before .before .before .before .before .before .before .before .before .args .w .now) (c .before .before .before .before .before .before .before .before .before .before .before .before .before .before .args .start) (c .before .before .before .before .before .before .before .read-head .ensures)
-    (ap (λ (h : Head). h .status) (c .before .before .before .before .before .before .before .read-head .ensures) ∙ sym (c .before .before .before .before .before .before .before .before .before .before .get .ensures) ∙ c .before .before .before .before .before .before .before .before .before .if1 .left) (c .before .before .before .before .before .before .before .before .before .before .before .before .before .before .pre)
-    (c .before .before .before .before .before .read-instruction .ensures .0)
-    (c .before .before .before .before .before .read-instruction .ensures .1) (c .before .before .act .ensures)
+    let at-read-instruction = c .before .before .before .before .before in
+    let at-read-head = at-read-instruction .before .before in
+    let at-if1 = at-read-head .before .before in
+    let at-get = at-if1 .before in
+    let entry = at-get .before .before .before .before in
+    step-acts (entry .args .p .now) (entry .args .w .now) (entry .args .start) (at-read-head .read-head .ensures)
+    (ap (λ (h : Head). h .status) (at-read-head .read-head .ensures) ∙ sym
+    (at-get .get .ensures) ∙ at-if1 .if1 .left) (entry .pre)
+    (at-read-instruction .read-instruction .ensures .0)
+    (at-read-instruction .read-instruction .ensures .1) (c .before .before .act .ensures)
 
 pub step-spec : {M : Type 1} → statement M
 step-spec =

@@ -74,8 +74,17 @@ add-move-values c = search needs
 
 move-values-requires : tie.Need-move-values-requires
 move-values-requires c κs =
-    let fits = arguments-fit (c .before .before .before .before .before .before .before .before .before .before .before .before .before .before .args .h .pending) (c .before .before .before .before .before .before .before .before .before .params-of .result) (c .before .before .before .before .before .before .before .if2 .left) in
-    (omega (arith, c .before .before .before .before .before .before .before .before .before .before .before .before .before .before .pre .0, c .before .before .before .before .before .before .before .before .before .before .before .before .before .before .pre .1, c .before .before .before .before .before .before .before .before .before .before .before .before .before .before .pre .2), omega (arith, fits .0), omega (arith, c .before .before .before .before .before .before .before .before .before .before .before .before .before .before .pre .0, fits .1, c .before .before .before .before .before .before .before .before .before .before .if1 .left), c .before .before .before .before .before .before .before .before .before .before .before .before .before .before .pre .0)
+    let at-if2 = c .before .before .before .before .before .before .before in
+    let at-params-of = at-if2 .before .before in
+    let at-if1 = at-params-of .before in
+    let entry = at-if1 .before .before .before .before in
+    let fits = arguments-fit (entry .args .h .pending) (at-params-of .params-of .result) (at-if2 .if2 .left) in (
+      omega (arith, entry .pre .0, entry .pre .1, entry .pre .2),
+      omega (arith, fits .0),
+      omega
+          (arith, entry .pre .0, fits .1, at-if1 .if1 .left),
+      entry .pre .0,
+    )
 
 less-requires : tie.Need-less-requires
 less-requires c κs = search needs
@@ -84,21 +93,49 @@ step-requires : tie.Need-step-requires
 step-requires c κs = search needs
 
 put-back-requires : tie.Need-put-back-requires
-put-back-requires c κs = (c .before .before .before .before .before .move-values .kept .0 ∙ c .before .before .before .before .before .before .before .before .before .before .before .before .before .before .before .before .before .before .before .before .pre .0, left-frames (c .before .before .before .before .before .before .before .before .before .before .before .before .before .before .before .before .before .before .before .before .args .h) (c .before .before .before .before .before .before .before .before .before .before .before .before .before .before .before .params-of .result) (c .before .before .before .before .before .before .before .before .before .before .before .before .before .before .before .before .before .before .before .before .pre .1) (c .before .less .ensures) (c .step .ensures))
+put-back-requires c κs =
+    let at-move-values = c .before .before .before .before .before in
+    let at-params-of = at-move-values .before .before .before .before .before .before .before .before .before .before in
+    let entry = at-params-of .before .before .before .before .before in (
+      at-move-values .move-values .kept .0 ∙ entry .pre .0,
+      left-frames (entry .args .h)
+          (at-params-of .params-of .result) (entry .pre .1) (c .before .less .ensures) (c .step .ensures),
+    )
 
 begin-requires : tie.Need-begin-requires
-begin-requires c κs = (c .before .before .before .before .before .before .before .before .before .before .before .before .before .before .before .before .before .before .before .before .before .before .before .before .pre .3, c .before .before .before .before .before .before .before .before .before .before .before .before .before .before .before .before .before .before .before .before .before .before .before .before .pre .4, c .before .before .before .put-back .kept .0 ∙ c .before .before .before .before .before .before .before .before .before .move-values .kept .0 ∙ c .before .before .before .before .before .before .before .before .before .before .before .before .before .before .before .before .before .before .before .before .before .before .before .before .pre .0, omega (arith, c .before .before .before .before .before .before .before .before .before .before .before .before .before .before .before .before .before .before .before .before .if1 .left))
+begin-requires c κs =
+    let at-move-values = c .before .before .before .before .before .before .before .before .before in
+    let earlier = at-move-values .before .before .before .before .before .before .before .before .before .before in
+    let at-if1 = earlier .before in
+    let entry = at-if1 .before .before .before .before in (
+      entry .pre .3,
+      entry .pre .4,
+      c .before .before .before .put-back .kept .0
+          ∙ at-move-values .move-values .kept .0 ∙ entry .pre .0,
+      omega (arith, at-if1 .if1 .left),
+    )
 
 same-length-2 : tie.Need-same-length-2
 same-length-2 c = search needs
 
 returns-4 : tie.Need-returns-4
 returns-4 c =
+    let at-put-back = c .before .before .before .before .before .before in
+    let at-step = at-put-back .before in
+    let at-less = at-step .before in
+    let at-move-values = at-less .before .before .before .before in
+    let at-if3 = at-move-values .before .before in
+    let at-lacks = at-if3 .before in
+    let at-params-of = at-lacks .before .before .before .before .before .before .before in
+    let at-if1 = at-params-of .before in
+    let entry = at-if1 .before .before .before .before in
     was-done
-    (calls (c .before .before .before .before .before .before .before .before .before .before .before .before .before .before .before .before .before .before .before .before .before .before .before .before .before .before .before .args .p .now) (c .before .before .before .before .before .before .before .before .before .before .before .before .before .before .before .before .before .before .before .before .before .before .before .before .before .before .before .args .w .now) (c .before .before .before .before .before .before .before .before .before .before .before .before .before .before .before .before .before .before .before .before .before .before .before .before .before .before .before .args .h) (c .before .before .before .before .before .before .before .before .before .before .before .before .before .before .before .before .before .before .before .before .before .before .before .before .before .before .before .args .a) (c .before .before .before .before .before .before .before .before .before .before .before .before .before .before .before .before .before .before .before .before .before .before .params-of .ensures) (c .before .before .before .before .before .before .before .before .before .before .before .before .before .before .before .before .before .before .before .before .before .before .before .if1 .left) (c .before .before .before .before .before .before .before .before .before .before .before .before .before .before .before .lacks .ensures) (c .before .before .before .before .before .before .before .before .before .before .before .before .before .before .if3 .left) (c .before .before .before .before .before .before .before .before .before .before .before .before .move-values .ensures)
-    (c .before .before .before .before .before .before .before .before .less .ensures)
-    (c .before .before .before .before .before .before .before .step .ensures)
-    (c .before .before .before .before .before .before .put-back .ensures) (c .before .before .begin .ensures))
+    (calls (entry .args .p .now) (entry .args .w .now) (entry .args .h) (entry .args .a)
+    (at-params-of .params-of .ensures) (at-if1 .if1 .left) (at-lacks .lacks .ensures) (at-if3 .if3 .left)
+    (at-move-values .move-values .ensures)
+    (at-less .less .ensures)
+    (at-step .step .ensures)
+    (at-put-back .put-back .ensures) (c .before .before .begin .ensures))
 
 pub call-spec : {M : Type 1} → statement M
 call-spec =

@@ -45,16 +45,32 @@ close-requires-2 c κs = search needs
 
 hand-to-requires : tie.Need-hand-to-requires
 hand-to-requires c κs =
-    (c .before .before .before .close2 .kept .0 ∙ c .before .before .before .before .before .before .before .before .before .before .before .before .before .before .before .before .pre .0, closed-count (c .before .before .before .before .before .before .before .before .before .before .before .before .before .before .before .before .args .w .now) (c .before .before .before .before .before .before .before .before .before .before .before .before .before .before .before .before .args .h) (c .before .before .before .before .before .before .before .before .before .before .before .before .if1 .left) (c .before .before .before .before .before .before .before .before .before .before .before .before .before .before .before .before .pre .1) (c .before .before .before .close2 .ensures) (c .before .before .before .close2 .kept .0 ∙ c .before .before .before .before .before .before .before .before .before .before .before .before .before .before .before .before .pre .0))
+    let at-if1 = c .before .before .before .before .before .before .before .before .before .before .before .before in
+    let entry = at-if1 .before .before .before .before in (
+      c .before .before .before .close2 .kept .0 ∙ entry .pre .0,
+      closed-count (entry .args .w .now) (entry .args .h)
+          (at-if1 .if1 .left) (entry .pre .1) (c .before .before .before .close2 .ensures)
+          (c .before .before .before .close2 .kept .0 ∙ entry .pre .0),
+    )
 
 same-length-3 : tie.Need-same-length-3
 same-length-3 c = search needs
 
 returns-4 : tie.Need-returns-4
 returns-4 c =
+    let at-close2 = c .before .before .before .before .before .before in
+    let at-if3 = at-close2 .before .before in
+    let at-value = at-if3 .before .before in
+    let at-top = at-value .before in
+    let at-if2 = at-top .before .before in
+    let at-is-void = at-if2 .before in
+    let at-if1 = at-is-void .before in
+    let entry = at-if1 .before .before .before .before in
     was-done
-    (returns-value (c .before .before .before .before .before .before .before .before .before .before .before .before .before .before .before .before .before .before .before .args .p .now) (c .before .before .before .before .before .before .before .before .before .before .before .before .before .before .before .before .before .before .before .args .w .now) (c .before .before .before .before .before .before .before .before .before .before .before .before .before .before .before .before .before .before .before .args .h) (c .before .before .before .before .before .before .before .before .before .before .before .before .before .before .before .if1 .left) (c .before .before .before .before .before .before .before .before .before .before .before .before .before .before .is-void .ensures) (c .before .before .before .before .before .before .before .before .before .before .before .before .before .if2 .left)
-    (c .before .before .before .before .before .before .before .before .before .before .value .ensures ∙ ap (valueAt (c .before .before .before .before .before .before .before .before .before .before .before .before .before .before .before .before .before .before .before .args .w .now)) (c .before .before .before .before .before .before .before .before .before .before .before .top .ensures)) (c .before .before .before .before .before .before .before .before .if3 .left) (c .before .before .before .before .before .before .close2 .ensures) (c .before .before .hand-to .ensures))
+    (returns-value (entry .args .p .now) (entry .args .w .now) (entry .args .h) (at-if1 .if1 .left)
+    (at-is-void .is-void .ensures) (at-if2 .if2 .left)
+    (at-value .value .ensures ∙ ap (valueAt (entry .args .w .now)) (at-top .top .ensures)) (at-if3 .if3 .left)
+    (at-close2 .close2 .ensures) (c .before .before .hand-to .ensures))
 
 pub ret-spec : {M : Type 1} → statement M
 ret-spec =

@@ -66,7 +66,15 @@ same-length-3 : tie.Need-same-length-3
 same-length-3 c = search needs
 
 returns-3 : tie.Need-returns-3
-returns-3 c = goes-in (true-goes-on (c .before .before .before .before .before .before .before .before .before .before .before .before .before .pre .0) (c .before .before .before .before .before .before .before .before .before .read-top .result) (not-false (c .before .before .before .before .before .before .before .before .before .read-top .result .there) (c .before .before .before .before .before .before .before .if1 .left)) (c .before .before .before .before .before .before .before .before .before .read-top .ensures) (c .before .before .before .before .before .before .before .before .before .before .before .before .before .args .p .now) (c .before .before .before .before .before .before .before .before .before .before .before .before .before .args .a) (c .before .before .before .before .before .before .before .before .before .before .before .before .before .pre .1) (c .before .before .before .before .before .if2 .left)) (λ x e. inr e) (c .before .before .discard-to2 .ensures)
+returns-3 c =
+    let at-if2 = c .before .before .before .before .before in
+    let at-if1 = at-if2 .before .before in
+    let at-read-top = at-if1 .before .before in
+    let entry = at-read-top .before .before .before .before in
+    goes-in (true-goes-on (entry .pre .0) (at-read-top .read-top .result)
+    (not-false (at-read-top .read-top .result .there) (at-if1 .if1 .left)) (at-read-top .read-top .ensures)
+    (entry .args .p .now) (entry .args .a) (entry .pre .1) (at-if2 .if2 .left)) (λ x e. inr e)
+    (c .before .before .discard-to2 .ensures)
 
 pub jump-on-false-spec : {M : Type 1} → statement M
 jump-on-false-spec =

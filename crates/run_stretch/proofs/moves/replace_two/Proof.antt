@@ -29,18 +29,23 @@ same-length : tie.Need-same-length
 same-length c = search needs
 
 returns : tie.Need-returns
-returns c = covers
-    (c .before .before .before .before .before .before .before .before .before .before .before .before .pre .0)
-    (c .before .before .before .before .before .before .before .before .before .before .before .before .pre .1)
-    (c .before .before .before .before .before .before .before .before .before .before .before .before .pre .2) (record {
+returns c =
+    let at-write2 = c .before .before .before .before in
+    let at-write = at-write2 .before .before .before .before in
+    let at-free = at-write .before .before in
+    let entry = at-free .before .before in
+    covers
+    (entry .pre .0)
+    (entry .pre .1)
+    (entry .pre .2) (record {
       tag =
-          c .before .before .before .before .before .before .before .before .before .before .before .before .args .tag;
+          entry .args .tag;
       number
-          = c .before .before .before .before .before .before .before .before .before .before .before .before .args .number;
+          = entry .args .number;
     })
-    (c .before .before .before .before .before .before .before .before .before .before .free .ensures)
-    (c .before .before .before .before .before .before .before .before .write .ensures)
-    (c .before .before .before .before .write2 .ensures)
+    (at-free .free .ensures)
+    (at-write .write .ensures)
+    (at-write2 .write2 .ensures)
 
 pub replace-two-spec : {M : Type 1} → statement M
 replace-two-spec =

@@ -66,8 +66,14 @@ same-length c = search needs
 returns : tie.Need-returns
 unfolding word
 returns c =
-    taken-from (c .before .before .before .before .before .before .before .before .before .before .before .before .before .before .args .p .now) (c .before .before .before .before .before .before .before .put-top .ensures)
-    (calls-step (c .before .before .before .before .before .before .before .before .before .before .before .before .before .before .args .p .now) _ (c .before .before .before .before .before .before .before .before .before .before .before .before .before .before .args .start) (sym (c .before .before .before .before .before .before .before .before .before .before .before .before .before .before .pre .7) ∙ ap headOf (sym (c .before .before .before .before .before .before .before .put-top .ensures))) (c .before .before .before .before .before .before .before .before .before .before .before .before .before .before .pre .3) (c .before .before .before .before .before .before .before .before .before .before .before .before .before .before .pre .4) (op-kept (c .before .before .before .before .before .before .before .before .before .before .before .before .before .before .pre .5) (c .before .before .before .before .before .before .before .before .before .before .before .before .before .before .pre .6) (c .before .before .before .before .before .before .before .before .before .before .before .before .before .before .pre .4)) refl (c .before .before .before .before .if1 .taken) (c .before .before .call .ensures))
+    let at-if1 = c .before .before .before .before in
+    let at-put-top = at-if1 .before .before .before in
+    let entry = at-put-top .before .before .before .before .before .before .before in
+    taken-from (entry .args .p .now) (at-put-top .put-top .ensures)
+    (calls-step (entry .args .p .now) _ (entry .args .start)
+    (sym (entry .pre .7) ∙ ap headOf (sym (at-put-top .put-top .ensures))) (entry .pre .3) (entry .pre .4)
+    (op-kept (entry .pre .5) (entry .pre .6) (entry .pre .4)) refl (at-if1 .if1 .taken)
+    (c .before .before .call .ensures))
 
 ret-requires : tie.Need-ret-requires
 ret-requires c κs = (
@@ -84,8 +90,14 @@ same-length-2 c = search needs
 returns-2 : tie.Need-returns-2
 unfolding word
 returns-2 c =
-    taken-from (c .before .before .before .before .before .before .before .before .before .before .before .before .before .before .before .args .p .now) (c .before .before .before .before .before .before .before .before .put-top .ensures)
-    (returns-step (c .before .before .before .before .before .before .before .before .before .before .before .before .before .before .before .args .p .now) _ (c .before .before .before .before .before .before .before .before .before .before .before .before .before .before .before .args .start) (sym (c .before .before .before .before .before .before .before .before .before .before .before .before .before .before .before .pre .7) ∙ ap headOf (sym (c .before .before .before .before .before .before .before .before .put-top .ensures))) (c .before .before .before .before .before .before .before .before .before .before .before .before .before .before .before .pre .3) (c .before .before .before .before .before .before .before .before .before .before .before .before .before .before .before .pre .4) (op-kept (c .before .before .before .before .before .before .before .before .before .before .before .before .before .before .before .pre .5) (c .before .before .before .before .before .before .before .before .before .before .before .before .before .before .before .pre .6) (c .before .before .before .before .before .before .before .before .before .before .before .before .before .before .before .pre .4)) refl (c .before .before .before .before .if2 .taken) (c .before .before .ret .ensures))
+    let at-if2 = c .before .before .before .before in
+    let at-put-top = at-if2 .before .before .before .before in
+    let entry = at-put-top .before .before .before .before .before .before .before in
+    taken-from (entry .args .p .now) (at-put-top .put-top .ensures)
+    (returns-step (entry .args .p .now) _ (entry .args .start)
+    (sym (entry .pre .7) ∙ ap headOf (sym (at-put-top .put-top .ensures))) (entry .pre .3) (entry .pre .4)
+    (op-kept (entry .pre .5) (entry .pre .6) (entry .pre .4)) refl (at-if2 .if2 .taken)
+    (c .before .before .ret .ensures))
 
 same-length-3 : tie.Need-same-length-3
 same-length-3 c = search needs

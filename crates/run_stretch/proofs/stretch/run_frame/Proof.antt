@@ -1,10 +1,10 @@
--- `run_frame` goes from step to step: those behind it are plain.
+-- `run_frame` goes from step to step: those before it are plain.
 use Prim.Native.Nat.{_≤_, _-_}
 use mathlib.Core.Path.{_≡_, refl, sym, _∙_, subst}
 use mathlib.Core.Bool.{true≢false}
 use lib.ListN.{length}
 use Rattle.table.proofs.Owners.{Inside}
-use Rattle.run_stretch.specs.StretchCode.{laid, Steady, Ran, begins}
+use Rattle.run_stretch.specs.StretchCode.{laid, HeadFits, PlainSteps, begins}
 use Rattle.run_stretch.proofs.Runs.{ran-same, ran-step, frame-ends, halted-place}
 use borrow.Author.Needs.{needs}
 use Rattle.run_stretch.proofs.stretch.run_frame.Statement.{statement}
@@ -12,8 +12,8 @@ use Rattle.run_stretch.proofs.stretch.run_frame.Tie as tie
 
 abbrev Inv-loop : tie.InvT-loop
 Inv-loop p start w₀ h offset schedule from n k₀ s₀ w k s =
-    (from ≤ k) × (k ≤ length schedule) × Ran p schedule n from (laid w₀ h s₀) k (laid w h s) × Steady h w s × (length w
-    ≡ length w₀)
+    (from ≤ k) × (k ≤ length schedule) × PlainSteps p schedule n from (laid w₀ h s₀) k (laid w h s)
+    × HeadFits h w s × (length w ≡ length w₀)
     × Inside p (h .method) (s .place)
 
 abbrev μ-loop : tie.MeasureT-loop
@@ -56,18 +56,24 @@ same-length-2 c = search needs
 
 returns-2 : tie.Need-returns-2 Inv-loop μ-loop
 returns-2 c =
+    let at-if1 = c .before .before .before .before .before in
+    let at-loop-test = at-if1 .before .before in
+    let at-loop = at-loop-test .before in
+    let entry = at-loop .before .before .before .before in
     frame-ends
-    (c .before .before .before .before .before .before .before .before .before .before .before .before .args .h)
+    (entry .args .h)
     (c .before .before .before .step-on .last .1 .1 .0) (c .before .before .before .step-on .result) (ran-same
-    (c .before .before .before .before .before .before .before .before .loop .inv .2)
+    (at-loop .loop .inv .2)
     (c .before .before .before .step-on .ensures .halting (c .if2 .taken)))
     (c .before .before .before .step-on .ensures .steady) (search needs)
     (λ z. record {
-      ahead = c .before .before .before .before .before .before .before .loop-test .taken;
-      names = c .before .before .before .before .before .if1 .left;
+      ahead = at-loop-test .loop-test .taken;
+      names = at-if1 .if1 .left;
       inside =
-          subst (Inside (c .before .before .before .before .before .before .before .before .before .before .before .before .args .p .now) (c .before .before .before .before .before .before .before .before .before .before .before .before .args .h .method)) (sym (halted-place (c .before .before .before .before .before .before .before .before .loop .inv .3) (c .before .before .before .step-on .ensures .steady) (c .before .before .before .step-on .ensures .halting (c .if2 .taken))))
-          (c .before .before .before .before .before .before .before .before .loop .inv .5);
+          subst (Inside (entry .args .p .now) (entry .args .h .method))
+          (sym (halted-place (at-loop .loop .inv .3) (c .before .before .before .step-on .ensures .steady)
+          (c .before .before .before .step-on .ensures .halting (c .if2 .taken))))
+          (at-loop .loop .inv .5);
     })
 
 add-k : tie.Need-add-k Inv-loop μ-loop

@@ -4,15 +4,15 @@ use mathlib.Core.Path.{_≡_, refl, _∙_}
 use native.Mathlib.Omega.{arith}
 use borrow.Author.Tests.{not-false}
 use lib.ListN.{length}
-use Rattle.run_stretch.specs.StretchCode.{Ran, begins}
+use Rattle.run_stretch.specs.StretchCode.{PlainSteps, begins}
 use Rattle.run_stretch.proofs.Runs.{ran-then}
 use borrow.Author.Needs.{needs}
 use Rattle.run_stretch.proofs.stretch.run_frames.Statement.{statement}
 use Rattle.run_stretch.proofs.stretch.run_frames.Tie as tie
 
 abbrev Inv-loop : tie.InvT-loop
-Inv-loop p start w₀ schedule from n k₀ w k = (k ≤ length schedule) × Ran p schedule n from w₀ k w × (length w ≡ length
-    w₀)
+Inv-loop p start w₀ schedule from n k₀ w k = (k ≤ length schedule) × PlainSteps p schedule n from w₀ k w
+    × (length w ≡ length w₀)
 
 abbrev μ-loop : tie.MeasureT-loop
 μ-loop p start w₀ schedule from n k₀ w k = length schedule - k

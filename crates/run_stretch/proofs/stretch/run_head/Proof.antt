@@ -28,9 +28,12 @@ same-length c = search needs
 
 returns : tie.Need-returns
 returns c =
-    let ran = c .before .before .before .before .before .before .before .before .run-frame .result in (
-      ran-top (c .before .before .before .before .before .before .before .before .run-frame .last .1 .1 .0) (ran .place) (ran .pending) (c .before .before .before .before .before .before .before .before .before .before .before .before .before .pre .1) (c .before .before .before .before .before .before .before .before .run-frame .ensures .0) (c .before .before .put-top .ensures),
-      c .before .before .before .before .before .before .before .before .run-frame .ensures .2,
+    let at-run-frame = c .before .before .before .before .before .before .before .before in
+    let entry = at-run-frame .before .before .before .before .before in
+    let ran = at-run-frame .run-frame .result in (
+      ran-top (at-run-frame .run-frame .last .1 .1 .0) (ran .place) (ran .pending) (entry .pre .1)
+          (at-run-frame .run-frame .ensures .0) (c .before .before .put-top .ensures),
+      at-run-frame .run-frame .ensures .2,
       λ z. absurd (true≢false (sym z)),
     )
 
@@ -51,18 +54,34 @@ change-frame-requires c κs =
     )
 
 add-t21 : tie.Need-add-t21
-add-t21 c = search (needs, c .before .before .before .before .before .before .before .before .before .before .run-frame .ensures .3 (not-false (c .before .before .before .before .before .before .before .before .before .before .run-frame .result .halted) (c .before .before .before .before .before .before .if1 .left)) .ahead, c .before .before .before .before .before .before .before .before .before .before .before .before .before .before .before .good .1 .1 .1 .1 .1)
+add-t21 c =
+    let at-if1 = c .before .before .before .before .before .before in
+    let at-run-frame = at-if1 .before .before .before .before in
+    let entry = at-run-frame .before .before .before .before .before in
+    search (
+      needs,
+      at-run-frame .run-frame .ensures .3
+          (not-false (at-run-frame .run-frame .result .halted) (at-if1 .if1 .left)) .ahead,
+      entry .good .1 .1 .1 .1 .1,
+    )
 
 same-length-2 : tie.Need-same-length-2
 same-length-2 c = search needs
 
 returns-2 : tie.Need-returns-2
 returns-2 c =
-    let ran = c .before .before .before .before .before .before .before .before .before .before .run-frame .result in
-    let s = c .before .before .before .before .before .before .before .before .before .before .run-frame .ensures .1 in
+    let at-change-frame = c .before .before .before .before in
+    let at-if1 = at-change-frame .before .before in
+    let at-run-frame = at-if1 .before .before .before .before in
+    let entry = at-run-frame .before .before .before .before .before in
+    let ran = at-run-frame .run-frame .result in
+    let s = at-run-frame .run-frame .ensures .1 in
     let one =
-    ran-changed (c .before .before .before .before .before .before .before .before .before .before .run-frame .last .1 .1 .0) (ran .place) (ran .pending) (c .before .before .before .before .before .before .before .before .before .before .before .before .before .before .before .pre .1) (c .before .before .before .before .before .before .before .before .before .before .run-frame .ensures .0) s (c .before .before .before .before .before .before .before .before .before .before .run-frame .ensures .3 (not-false (ran .halted) (c .before .before .before .before .before .before .if1 .left))) (c .before .before .before .before .change-frame .ensures)
-    (c .before .before .before .before .change-frame .kept .1 .1 .0 ∙ s .long) (c .before .if2 .taken) in
+    ran-changed (at-run-frame .run-frame .last .1 .1 .0) (ran .place) (ran .pending) (entry .pre .1)
+    (at-run-frame .run-frame .ensures .0) s
+    (at-run-frame .run-frame .ensures .3 (not-false (ran .halted) (at-if1 .if1 .left)))
+    (at-change-frame .change-frame .ensures)
+    (at-change-frame .change-frame .kept .1 .1 .0 ∙ s .long) (c .before .if2 .taken) in
     (one .0, one .1, λ z. one .2)
 
 same-length-3 : tie.Need-same-length-3
@@ -70,9 +89,12 @@ same-length-3 c = search needs
 
 returns-3 : tie.Need-returns-3
 returns-3 c =
-    let ran = c .before .before .before .before .before .before .before .before .before .run-frame .result in (
-      ran-left (c .before .before .before .before .before .before .before .before .before .run-frame .last .1 .1 .0) (ran .place) (ran .pending) (c .before .before .before .before .before .before .before .before .before .before .before .before .before .before .pre .1) (c .before .before .before .before .before .before .before .before .before .run-frame .ensures .0) (c .before .before .before .change-frame .ensures) (c .if2 .left),
-      c .before .before .before .before .before .before .before .before .before .run-frame .ensures .2,
+    let at-run-frame = c .before .before .before .before .before .before .before .before .before in
+    let entry = at-run-frame .before .before .before .before .before in
+    let ran = at-run-frame .run-frame .result in (
+      ran-left (at-run-frame .run-frame .last .1 .1 .0) (ran .place) (ran .pending) (entry .pre .1)
+          (at-run-frame .run-frame .ensures .0) (c .before .before .before .change-frame .ensures) (c .if2 .left),
+      at-run-frame .run-frame .ensures .2,
       λ z. absurd (true≢false (sym z)),
     )
 

@@ -40,28 +40,37 @@ same-length-2 : tie.Need-same-length-2
 same-length-2 c = search needs
 
 returns-3 : tie.Need-returns-3
-returns-3 c = (begins, c .before .before .before .before .before .before .before .before .before .before .before .before .before .before .before .before .pre .2, λ z. absurd (true≢false (sym z)))
+returns-3 c =
+    let earlier = c .before .before .before .before .before .before .before .before .before .before in
+    let entry = earlier .before .before .before .before .before .before in
+    (begins, entry .pre .2, λ z. absurd (true≢false (sym z)))
 
 run-head-requires : tie.Need-run-head-requires
 run-head-requires c κs =
-    let head = c .before .before .before .before .before .before .before .before .before .before .head-of .result in
-    let frames = frames-fit (getD (c .before .before .before .before .before .before .before .before .before .before .before .before .before .before .before .before .before .args .w .now) 2 0) (c .before .before .before .before .before .before .before .before .before .before .before .before .if1 .left) in
-    let count = frames-read (c .before .before .before .before .before .before .before .before .before .before .before .before .before .before .before .before .before .args .w .now) (c .before .before .before .before .before .before .before .before .before .before .head-of .ensures) in
+    let at-span-of = c .before .before .before .before .before .before in
+    let at-if2 = at-span-of .before in
+    let at-head-of = at-if2 .before .before .before in
+    let at-if1 = at-head-of .before .before in
+    let entry = at-if1 .before .before .before .before .before in
+    let head = at-head-of .head-of .result in
+    let frames = frames-fit (getD (entry .args .w .now) 2 0) (at-if1 .if1 .left) in
+    let count = frames-read (entry .args .w .now) (at-head-of .head-of .ensures) in
     let fits = head-fits (head .status) (head .pending)
-    (c .before .before .before .before .before .before .before .if2 .left) in
-    let within = place-fits (head .place) (c .before .before .before .before .before .before .span-of .result .first)
-    (c .before .before .before .before .before .before .span-of .result .end) (c .before .if3 .left) in
-    let inside = c .before .before .before .before .before .before .span-of .ensures .1 (head .place) (within .0)
+    (at-if2 .if2 .left) in
+    let within = place-fits (head .place) (at-span-of .span-of .result .first)
+    (at-span-of .span-of .result .end) (c .before .if3 .left) in
+    let inside = at-span-of .span-of .ensures .1 (head .place) (within .0)
     (within .1) in (
-      steady-first (c .before .before .before .before .before .before .before .before .before .before .before .before .before .before .before .before .before .args .w .now) (c .before .before .before .before .before .before .before .before .before .before .head-of .ensures) (c .before .before .before .before .before .before .before .before .before .before .before .before .before .before .before .before .before .pre .3) (omega (arith, count, frames .0)) (omega (arith, count, frames .1)) (fits .1),
-      c .before .before .before .before .before .before .before .before .before .before .head-of .ensures,
+      steady-first (entry .args .w .now) (at-head-of .head-of .ensures) (entry .pre .3)
+          (omega (arith, count, frames .0)) (omega (arith, count, frames .1)) (fits .1),
+      at-head-of .head-of .ensures,
       fits .0,
       inside .0,
-      c .before .before .before .before .before .before .span-of .ensures .0,
-      c .before .before .before .before .before .before .before .before .before .before .before .before .before .before .before .before .before .pre .0,
-      c .before .before .before .before .before .before .before .before .before .before .before .before .before .before .before .before .before .pre .1,
+      at-span-of .span-of .ensures .0,
+      entry .pre .0,
+      entry .pre .1,
       inside .1,
-      c .before .before .before .before .before .before .before .before .before .before .before .before .before .before .before .before .before .pre .2,
+      entry .pre .2,
     )
 
 same-length-3 : tie.Need-same-length-3

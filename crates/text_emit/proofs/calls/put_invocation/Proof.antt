@@ -49,10 +49,15 @@ same-length-2 c = search needs
 
 returns-4 : tie.Need-returns-4
 returns-4 c =
-    let m = c .before .before .before .before .before .before .before .before .before .method-indexed .result in
-    invoke-void _ _ _ (m .found) (m .index) (m .at) (m .params) _ _ _ (c .before .before .before .before .before .before .before .before .before .before .before .before .before .before .before .args .e) _ _ [] (not-false (m .found) (c .before .before .before .before .before .before .before .if3 .left))
-    (c .before .before .before .before .before .before .before .before .before .method-indexed .ensures)
-    (c .before .before .return-type .ensures) (c .before .before .before .before .before .put2 .ensures)
+    let at-put2 = c .before .before .before .before .before in
+    let at-if3 = at-put2 .before .before in
+    let at-method-indexed = at-if3 .before .before in
+    let entry = at-method-indexed .before .before .before .before .before .before in
+    let m = at-method-indexed .method-indexed .result in
+    invoke-void _ _ _ (m .found) (m .index) (m .at) (m .params) _ _ _ (entry .args .e) _ _ []
+    (not-false (m .found) (at-if3 .if3 .left))
+    (at-method-indexed .method-indexed .ensures)
+    (c .before .before .return-type .ensures) (at-put2 .put2 .ensures)
     (c .if4 .taken)
 
 put-requires-3 : tie.Need-put-requires-3
@@ -63,10 +68,16 @@ same-length-3 c = search needs
 
 returns-5 : tie.Need-returns-5
 returns-5 c =
-    let m = c .before .before .before .before .before .before .before .before .before .before .before .before .before .method-indexed .result in
+    let at-if4 = c .before .before .before .before in
+    let at-return-type = at-if4 .before .before in
+    let at-put2 = at-return-type .before .before .before in
+    let at-if3 = at-put2 .before .before in
+    let at-method-indexed = at-if3 .before .before in
+    let m = at-method-indexed .method-indexed .result in
     invoke-value _ _ _ (m .found) (m .index) (m .at) (m .params) _ _ _ _ _ _ _ (not-false (m .found)
-    (c .before .before .before .before .before .before .before .before .before .before .before .if3 .left))
-    (c .before .before .before .before .before .before .before .before .before .before .before .before .before .method-indexed .ensures) (c .before .before .before .before .before .before .return-type .ensures) (c .before .before .before .before .before .before .before .before .before .put2 .ensures) (c .before .before .before .before .if4 .left) (c .before .before .put3 .ensures)
+    (at-if3 .if3 .left))
+    (at-method-indexed .method-indexed .ensures) (at-return-type .return-type .ensures) (at-put2 .put2 .ensures)
+    (at-if4 .if4 .left) (c .before .before .put3 .ensures)
 
 pub put-invocation-spec : {M : Type 1} → statement M
 put-invocation-spec =

@@ -38,7 +38,12 @@ same-length-2 c = search needs
 
 returns-4 : tie.Need-returns-4
 returns-4 c =
-    part-emits _ _ _ argumentsRule (argumentsBy placeOf) exprsNumbers (arguments-fit placeOf) _ _ _ (c .before .before .before .before .emit-arguments .result) (not-false (c .before .before .before .before .before .before .before .before .before .before .before .before .before .before .before .before .args .e .ok) (c .before .before .before .before .before .before .before .before .before .before .before .if1 .left)) (c .before .before .before .before .emit-arguments .ensures .0)
+    let at-emit-arguments = c .before .before .before .before in
+    let at-if1 = at-emit-arguments .before .before .before .before .before .before .before in
+    let entry = at-if1 .before .before .before .before .before in
+    part-emits _ _ _ argumentsRule (argumentsBy placeOf) exprsNumbers (arguments-fit placeOf) _ _ _
+    (at-emit-arguments .emit-arguments .result) (not-false (entry .args .e .ok) (at-if1 .if1 .left))
+    (at-emit-arguments .emit-arguments .ensures .0)
 
 pub arguments-spec : {M : Type 1} → statement M
 arguments-spec =

@@ -38,7 +38,12 @@ same-length-2 c = search needs
 
 returns-4 : tie.Need-returns-4
 returns-4 c =
-    part-emits _ _ _ exprFrom (codeBy placeOf) exprNumbers (numbers-fit placeOf) _ _ _ (c .before .before .before .before .emit-expression .result) (not-false (c .before .before .before .before .before .before .before .before .before .before .before .before .before .before .before .before .args .e .ok) (c .before .before .before .before .before .before .before .before .before .before .before .if1 .left)) (c .before .before .before .before .emit-expression .ensures .0)
+    let at-emit-expression = c .before .before .before .before in
+    let at-if1 = at-emit-expression .before .before .before .before .before .before .before in
+    let entry = at-if1 .before .before .before .before .before in
+    part-emits _ _ _ exprFrom (codeBy placeOf) exprNumbers (numbers-fit placeOf) _ _ _
+    (at-emit-expression .emit-expression .result) (not-false (entry .args .e .ok) (at-if1 .if1 .left))
+    (at-emit-expression .emit-expression .ensures .0)
 
 pub expression-spec : {M : Type 1} → statement M
 expression-spec =

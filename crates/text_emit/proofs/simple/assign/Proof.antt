@@ -33,10 +33,17 @@ same-length-2 c = search needs
 
 returns : tie.Need-returns
 returns c =
-    assign-emits _ _ _ _ _ _ _ _ _ _ _ _ _ _ _ (c .before .before .before .before .before .before .before .before .before .before .before .before .before .before .before .next-token .ensures) (c .before .before .before .before .before .before .before .before .before .before .before .before .before .before .pass .ensures) (c .before .before .before .before .before .before .before .before .before .before .before .before .before .pass2 .ensures)
-    (c .before .before .before .before .before .before .before .before .before .before .expression .ensures)
-    (c .before .before .before .before .before .pass3 .ensures)
-    (c .before .before .before .before .slot-of .ensures) (c .before .before .put-value .ensures)
+    let at-slot-of = c .before .before .before .before in
+    let at-pass3 = at-slot-of .before in
+    let at-expression = at-pass3 .before .before .before .before .before in
+    let at-pass2 = at-expression .before .before .before in
+    let at-pass = at-pass2 .before in
+    let at-next-token = at-pass .before in
+    assign-emits _ _ _ _ _ _ _ _ _ _ _ _ _ _ _ (at-next-token .next-token .ensures) (at-pass .pass .ensures)
+    (at-pass2 .pass2 .ensures)
+    (at-expression .expression .ensures)
+    (at-pass3 .pass3 .ensures)
+    (at-slot-of .slot-of .ensures) (c .before .before .put-value .ensures)
 
 pub assign-spec : {M : Type 1} → statement M
 assign-spec =

@@ -30,9 +30,15 @@ same-length-2 c = search needs
 
 returns : tie.Need-returns
 returns c =
-    fork-emits _ _ _ _ _ _ _ _ _ _ _ _ _ (c .before .before .before .before .before .before .before .before .before .before .before .before .before .before .next-token .ensures) (c .before .before .before .before .before .before .before .before .before .before .before .before .before .pass .ensures) (c .before .before .before .before .before .before .before .before .before .before .before .before .pass2 .ensures)
-    (c .before .before .before .before .before .before .before .before .before .arguments .ensures)
-    (c .before .before .before .before .pass3 .ensures) (c .before .before .put .ensures)
+    let at-pass3 = c .before .before .before .before in
+    let at-arguments = at-pass3 .before .before .before .before .before in
+    let at-pass2 = at-arguments .before .before .before in
+    let at-pass = at-pass2 .before in
+    let at-next-token = at-pass .before in
+    fork-emits _ _ _ _ _ _ _ _ _ _ _ _ _ (at-next-token .next-token .ensures) (at-pass .pass .ensures)
+    (at-pass2 .pass2 .ensures)
+    (at-arguments .arguments .ensures)
+    (at-pass3 .pass3 .ensures) (c .before .before .put .ensures)
 
 pub fork-spec : {M : Type 1} → statement M
 fork-spec =

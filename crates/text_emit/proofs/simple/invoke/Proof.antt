@@ -20,7 +20,10 @@ pass-requires-3 : tie.Need-pass-requires-3
 pass-requires-3 c κs = search needs
 
 put-invocation-requires : tie.Need-put-invocation-requires
-put-invocation-requires c κs = c .before .before .before .before .before .before .before .before .before .before .before .before .before .before .before .before .pre .1
+put-invocation-requires c κs =
+    let earlier = c .before .before .before .before .before .before .before .before .before .before in
+    let entry = earlier .before .before .before .before .before .before in
+    entry .pre .1
 
 same-length : tie.Need-same-length
 same-length c = search needs
@@ -30,9 +33,15 @@ same-length-2 c = search needs
 
 returns : tie.Need-returns
 returns c =
-    invoke-emits _ _ _ _ _ _ _ _ _ _ _ _ _ (c .before .before .before .before .before .before .before .before .before .before .before .before .before .before .next-token .ensures) (c .before .before .before .before .before .before .before .before .before .before .before .before .before .pass .ensures) (c .before .before .before .before .before .before .before .before .before .before .before .before .pass2 .ensures)
-    (c .before .before .before .before .before .before .before .before .before .arguments .ensures)
-    (c .before .before .before .before .pass3 .ensures) (c .before .before .put-invocation .ensures)
+    let at-pass3 = c .before .before .before .before in
+    let at-arguments = at-pass3 .before .before .before .before .before in
+    let at-pass2 = at-arguments .before .before .before in
+    let at-pass = at-pass2 .before in
+    let at-next-token = at-pass .before in
+    invoke-emits _ _ _ _ _ _ _ _ _ _ _ _ _ (at-next-token .next-token .ensures) (at-pass .pass .ensures)
+    (at-pass2 .pass2 .ensures)
+    (at-arguments .arguments .ensures)
+    (at-pass3 .pass3 .ensures) (c .before .before .put-invocation .ensures)
 
 pub invoke-spec : {M : Type 1} → statement M
 invoke-spec =

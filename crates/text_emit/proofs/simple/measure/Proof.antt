@@ -27,10 +27,16 @@ same-length c = search needs
 
 returns : tie.Need-returns
 returns c =
-    measure-emits _ _ _ _ _ _ _ _ (c .before .before .before .before .before .before .before .before .before .before .before .before .before .before .measured .result .start) (c .before .before .before .before .before .before .before .before .before .before .before .before .before .before .measured .result .end) (c .before .before .before .before .before .before .before .before .before .before .before .before .before .before .measured .result .at) _ _ _ _ _ _
-    (c .before .before .before .before .before .before .before .before .before .before .before .before .before .before .measured .ensures .0) (c .before .before .before .before .before .before .before .before .before .before .before .before .slot-of .ensures) (c .before .before .before .before .before .before .before .before .before .before .before .before .before .pass .ensures)
-    (c .before .before .before .before .before .before .before .before .before .before .put .ensures)
-    (c .before .before .before .before .before .before .put2 .ensures) (c .before .before .put3 .ensures)
+    let at-put2 = c .before .before .before .before .before .before in
+    let at-put = at-put2 .before .before .before .before in
+    let at-slot-of = at-put .before .before in
+    let at-pass = at-slot-of .before in
+    let at-measured = at-pass .before in
+    measure-emits _ _ _ _ _ _ _ _ (at-measured .measured .result .start) (at-measured .measured .result .end)
+    (at-measured .measured .result .at) _ _ _ _ _ _
+    (at-measured .measured .ensures .0) (at-slot-of .slot-of .ensures) (at-pass .pass .ensures)
+    (at-put .put .ensures)
+    (at-put2 .put2 .ensures) (c .before .before .put3 .ensures)
 
 pub measure-spec : {M : Type 1} → statement M
 measure-spec =

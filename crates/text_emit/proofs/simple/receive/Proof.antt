@@ -30,9 +30,15 @@ same-length-2 c = search needs
 
 returns : tie.Need-returns
 returns c =
-    receive-emits _ _ _ _ _ _ _ _ _ _ _ _ _ _ (c .before .before .before .before .before .before .before .before .before .before .before .before .before .before .before .before .before .pass .ensures) (c .before .before .before .before .before .before .before .before .before .before .before .before .before .before .expression .ensures) (c .before .before .before .before .before .before .before .before .before .pass2 .ensures)
-    (c .before .before .before .before .before .before .before .before .pass3 .ensures)
-    (c .before .before .before .before .before .before .put .ensures) (c .before .before .put2 .ensures)
+    let at-put = c .before .before .before .before .before .before in
+    let at-pass3 = at-put .before .before in
+    let at-pass2 = at-pass3 .before in
+    let at-expression = at-pass2 .before .before .before .before .before in
+    let at-pass = at-expression .before .before .before in
+    receive-emits _ _ _ _ _ _ _ _ _ _ _ _ _ _ (at-pass .pass .ensures) (at-expression .expression .ensures)
+    (at-pass2 .pass2 .ensures)
+    (at-pass3 .pass3 .ensures)
+    (at-put .put .ensures) (c .before .before .put2 .ensures)
 
 pub receive-spec : {M : Type 1} → statement M
 receive-spec =

@@ -27,16 +27,26 @@ put-requires : tie.Need-put-requires
 put-requires c κs = search needs
 
 same-length : tie.Need-same-length
-same-length c = c .before .before .before .before .before .before .before .before .before .before .expression2 .kept .1 .1 .1 .1 .0 ∙ c .before .before .before .before .before .before .before .before .before .before .before .before .before .before .before .before .before .before .expression .kept .1 .1 .1 .1 .0
+same-length c =
+    let at-expression2 = c .before .before .before .before .before .before .before .before .before .before in
+    let at-expression = at-expression2 .before .before .before .before .before .before .before .before in
+    at-expression2 .expression2 .kept .1 .1 .1 .1 .0 ∙ at-expression .expression .kept .1 .1 .1 .1 .0
 
 same-length-2 : tie.Need-same-length-2
 same-length-2 c = search needs
 
 returns : tie.Need-returns
 returns c =
-    send-emits _ _ _ _ _ _ _ _ _ _ _ _ _ _ _ (c .before .before .before .before .before .before .before .before .before .before .before .before .before .before .before .before .before .before .before .before .before .pass .ensures) (c .before .before .before .before .before .before .before .before .before .before .before .before .before .before .before .before .before .before .expression .ensures) (c .before .before .before .before .before .before .before .before .before .before .before .before .before .pass2 .ensures)
-    (c .before .before .before .before .before .before .before .before .before .before .expression2 .ensures)
-    (c .before .before .before .before .before .pass3 .ensures) (c .before .before .before .before .pass4 .ensures)
+    let at-pass4 = c .before .before .before .before in
+    let at-pass3 = at-pass4 .before in
+    let at-expression2 = at-pass3 .before .before .before .before .before in
+    let at-pass2 = at-expression2 .before .before .before in
+    let at-expression = at-pass2 .before .before .before .before .before in
+    let at-pass = at-expression .before .before .before in
+    send-emits _ _ _ _ _ _ _ _ _ _ _ _ _ _ _ (at-pass .pass .ensures) (at-expression .expression .ensures)
+    (at-pass2 .pass2 .ensures)
+    (at-expression2 .expression2 .ensures)
+    (at-pass3 .pass3 .ensures) (at-pass4 .pass4 .ensures)
     (c .before .before .put .ensures)
 
 pub send-spec : {M : Type 1} → statement M

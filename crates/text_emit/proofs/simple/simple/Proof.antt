@@ -39,7 +39,12 @@ same-length-3 c = search needs
 
 returns-3 : tie.Need-returns-3
 returns-3 c =
-    simple-fork _ _ _ _ _ _ _ _ (c .before .before .before .before .before .before .before .before .before .before .before .before .before .before .next-token .ensures) _ (c .before .before .before .before .before .before .before .before .before .before .before .before .before .pass .ensures) (c .before .before .before .before .before .before .before .if3 .taken) (c .before .before .before .before .fork .ensures)
+    let at-fork = c .before .before .before .before in
+    let at-if3 = at-fork .before .before .before in
+    let at-pass = at-if3 .before .before .before .before .before .before in
+    let at-next-token = at-pass .before in
+    simple-fork _ _ _ _ _ _ _ _ (at-next-token .next-token .ensures) _ (at-pass .pass .ensures) (at-if3 .if3 .taken)
+    (at-fork .fork .ensures)
 
 send-requires : tie.Need-send-requires
 send-requires c κs = search needs
@@ -52,7 +57,12 @@ same-length-5 c = search needs
 
 returns-4 : tie.Need-returns-4
 returns-4 c =
-    simple-send _ _ _ _ _ _ _ _ (c .before .before .before .before .before .before .before .before .before .before .before .before .before .before .before .before .next-token .ensures) _ (c .before .before .before .before .before .before .before .before .before .before .before .before .before .before .before .pass .ensures) (c .before .before .before .before .before .before .before .if4 .taken) (c .before .before .before .before .send .ensures)
+    let at-send = c .before .before .before .before in
+    let at-if4 = at-send .before .before .before in
+    let at-pass = at-if4 .before .before .before .before .before .before .before .before in
+    let at-next-token = at-pass .before in
+    simple-send _ _ _ _ _ _ _ _ (at-next-token .next-token .ensures) _ (at-pass .pass .ensures) (at-if4 .if4 .taken)
+    (at-send .send .ensures)
 
 receive-requires : tie.Need-receive-requires
 receive-requires c κs = search needs
@@ -65,7 +75,12 @@ same-length-7 c = search needs
 
 returns-5 : tie.Need-returns-5
 returns-5 c =
-    simple-receive _ _ _ _ _ _ _ _ (c .before .before .before .before .before .before .before .before .before .before .before .before .before .before .before .before .before .before .next-token .ensures) _ (c .before .before .before .before .before .before .before .before .before .before .before .before .before .before .before .before .before .pass .ensures) (c .before .before .before .before .before .before .before .if5 .taken) (c .before .before .before .before .receive .ensures)
+    let at-receive = c .before .before .before .before in
+    let at-if5 = at-receive .before .before .before in
+    let at-pass = at-if5 .before .before .before .before .before .before .before .before .before .before in
+    let at-next-token = at-pass .before in
+    simple-receive _ _ _ _ _ _ _ _ (at-next-token .next-token .ensures) _ (at-pass .pass .ensures)
+    (at-if5 .if5 .taken) (at-receive .receive .ensures)
 
 give-requires : tie.Need-give-requires
 give-requires c κs = search needs
@@ -78,7 +93,13 @@ same-length-9 c = search needs
 
 returns-6 : tie.Need-returns-6
 returns-6 c =
-    simple-give _ _ _ _ _ _ _ _ (c .before .before .before .before .before .before .before .before .before .before .before .before .before .before .before .before .before .before .before .before .next-token .ensures) _ (c .before .before .before .before .before .before .before .before .before .before .before .before .before .before .before .before .before .before .before .pass .ensures) (c .before .before .before .before .before .before .before .if6 .taken) (c .before .before .before .before .give .ensures)
+    let at-give = c .before .before .before .before in
+    let at-if6 = at-give .before .before .before in
+    let earlier = at-if6 .before .before .before .before .before .before .before .before .before .before in
+    let at-pass = earlier .before .before in
+    let at-next-token = at-pass .before in
+    simple-give _ _ _ _ _ _ _ _ (at-next-token .next-token .ensures) _ (at-pass .pass .ensures) (at-if6 .if6 .taken)
+    (at-give .give .ensures)
 
 named-requires : tie.Need-named-requires
 named-requires c κs = search needs
@@ -91,9 +112,18 @@ same-length-11 c = search needs
 
 returns-7 : tie.Need-returns-7
 returns-7 c =
-    simple-named _ _ _ _ _ _ _ _ (c .before .before .before .before .before .before .before .before .before .before .before .before .before .before .before .before .before .before .before .before .next-token .ensures) (c .before .before .before .before .before .before .before .before .before .before .before .before .before .before .before .before .before .if1 .left) (c .before .before .before .before .before .before .before .before .before .before .before .before .before .before .before .if2 .left) (c .before .before .before .before .before .before .before .before .before .before .before .before .before .if3 .left) (c .before .before .before .before .before .before .before .before .before .before .before .if4 .left) (c .before .before .before .before .before .before .before .before .before .if5 .left)
-    (c .before .before .before .before .before .before .before .if6 .left)
-    (c .before .before .before .before .named .ensures)
+    let at-named = c .before .before .before .before in
+    let at-if6 = at-named .before .before .before in
+    let at-if5 = at-if6 .before .before in
+    let at-if4 = at-if5 .before .before in
+    let at-if3 = at-if4 .before .before in
+    let at-if2 = at-if3 .before .before in
+    let at-if1 = at-if2 .before .before in
+    let at-next-token = at-if1 .before .before .before in
+    simple-named _ _ _ _ _ _ _ _ (at-next-token .next-token .ensures) (at-if1 .if1 .left) (at-if2 .if2 .left)
+    (at-if3 .if3 .left) (at-if4 .if4 .left) (at-if5 .if5 .left)
+    (at-if6 .if6 .left)
+    (at-named .named .ensures)
 
 pub simple-spec : {M : Type 1} → statement M
 simple-spec =

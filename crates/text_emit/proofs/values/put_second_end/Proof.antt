@@ -24,7 +24,11 @@ same-length c = search needs
 
 returns : tie.Need-returns
 returns c =
-    second-end _ _ _ _ _ _ _ _ _ _ _ (c .before .before .before .before .before .before .before .before .before .before .before .before .before .before .put .ensures) (c .before .before .before .before .before .before .before .before .before .before .put2 .ensures) (c .before .before .before .before .before .before .put3 .ensures) (c .before .before .put4 .ensures)
+    let at-put3 = c .before .before .before .before .before .before in
+    let at-put2 = at-put3 .before .before .before .before in
+    let at-put = at-put2 .before .before .before .before in
+    second-end _ _ _ _ _ _ _ _ _ _ _ (at-put .put .ensures) (at-put2 .put2 .ensures) (at-put3 .put3 .ensures)
+    (c .before .before .put4 .ensures)
 
 pub put-second-end-spec : {M : Type 1} → statement M
 put-second-end-spec =

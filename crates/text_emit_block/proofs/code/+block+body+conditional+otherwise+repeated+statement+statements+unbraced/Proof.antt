@@ -228,8 +228,11 @@ block-statements-requires : (t : ℕ) → block-lts.Need-statements-requires (
   statements-below t,
   statements.Post,
 ) (block-at t) block.Post
-block-statements-requires t c κs = let g = c .before .before .before .before .before .before .before .before .before .before .before .before .before .before .before .before .before .before .before .before .before .args in
-    let is : 7 * g .left + 6 ≡ t = c .before .before .before .before .before .before .before .before .before .before .before .before .before .before .before .before .before .before .before .before .before .pre .0 in (omega arith, c .before .before .before .before .before .before .before .before .before .before .before .before .before .before .before .before .before .before .before .before .before .pre .1)
+block-statements-requires t c κs =
+    let earlier = c .before .before .before .before .before .before .before .before .before .before in
+    let entry = earlier .before .before .before .before .before .before .before .before .before .before .before in
+    let g = entry .args in
+    let is : 7 * g .left + 6 ≡ t = entry .pre .0 in (omega arith, entry .pre .1)
 
 block-same-length : (t : ℕ) → block-lts.Need-same-length (
   words-reads.Asked,
@@ -271,12 +274,21 @@ block-returns-2 : (t : ℕ) → block-lts.Need-returns-2 (
   statements-below t,
   statements.Post,
 ) (block-at t) block.Post
-block-returns-2 t c = λ on ms m. let g = c .before .before .before .before .before .before .before .before .before .before .before .before .before .before .before .before .before .before .before .before .before .before .before .before .before .before .args in
-    let long : length (g .scope .now) ≡ 64 = c .before .before .before .before .before .before .before .before .before .before .before .before .before .before .before .before .before .before .before .before .words-arg2 .given .0 in
+block-returns-2 t c =
+    let at-statements = c .before .before .before .before in
+    let at-clears = at-statements .before .before .before .before .before .before .before in
+    let at-if1 = at-clears .before .before in
+    let at-declarations = at-if1 .before .before in
+    let at-pass = at-declarations .before .before .before in
+    let at-words-arg2 = at-pass .before .before in
+    let entry = at-words-arg2 .before .before .before .before .before .before in
+    λ on ms m. let g = entry .args in
+    let long : length (g .scope .now) ≡ 64 = at-words-arg2 .words-arg2 .given .0 in
     block-ends (g .text .now) (g .n) (g .left) (g .e) _ (g .scope .now) (g .row .now) (g .code .now) _ _ _ _ _ _ on long
-    (c .before .before .before .before .before .before .before .before .before .before .before .before .before .before .before .before .before .before .pass .ensures) (c .before .before .before .before .before .before .before .before .before .before .before .before .before .before .before .declarations .ensures) _ _ _ _ _ _ (not-false (c .before .before .before .before .before .before .before .before .before .before .before .before .before .before .before .declarations .result .ok) (c .before .before .before .before .before .before .before .before .before .before .before .before .before .if1 .left))
-    (c .before .before .before .before .before .before .before .before .before .before .before .clears .ensures)
-    (c .before .before .before .before .statements .ensures) ms m
+    (at-pass .pass .ensures) (at-declarations .declarations .ensures) _ _ _ _ _ _
+    (not-false (at-declarations .declarations .result .ok) (at-if1 .if1 .left))
+    (at-clears .clears .ensures)
+    (at-statements .statements .ensures) ms m
 
 body-returns : (t : ℕ) → body-lts.Need-returns (
   next-kind-reads.Asked,
@@ -369,14 +381,21 @@ body-returns-3 : (t : ℕ) → body-lts.Need-returns-3 (
   unbraced-below t,
   unbraced.Post,
 ) (body-at t) body.Post
-body-returns-3 t c = let g = c .before .before .before .before .before .before .before .before .before .before .before .before .before .before .before .before .before .before .args in
+body-returns-3 t c =
+    let at-block = c .before .before .before .before in
+    let at-if3 = at-block .before .before .before .before .before in
+    let at-next-kind = at-if3 .before in
+    let at-if2 = at-next-kind .before in
+    let at-if1 = at-if2 .before in
+    let entry = at-if1 .before .before .before .before .before .before in
+    let g = entry .args in
     body-block (g .text .now) (g .n) (g .e) (g .scope .now) (g .row .now) (g .code .now) _ _ _ _ (g .left)
     (not-false (g .e .ok)
-    (c .before .before .before .before .before .before .before .before .before .before .before .before .if1 .left))
-    (c .before .before .before .before .before .before .before .before .before .before .before .if2 .left) (sym
-    (c .before .before .before .before .before .before .before .before .before .before .next-kind .ensures) ∙
-    c .before .before .before .before .before .before .before .before .before .if3 .taken)
-    (c .before .before .before .before .block .ensures)
+    (at-if1 .if1 .left))
+    (at-if2 .if2 .left) (sym
+    (at-next-kind .next-kind .ensures) ∙
+    at-if3 .if3 .taken)
+    (at-block .block .ensures)
 
 body-sub-unbraced : (t : ℕ) → body-lts.Need-sub-unbraced (
   next-kind-reads.Asked,
@@ -435,14 +454,21 @@ body-returns-4 : (t : ℕ) → body-lts.Need-returns-4 (
   unbraced-below t,
   unbraced.Post,
 ) (body-at t) body.Post
-body-returns-4 t c = let g = c .before .before .before .before .before .before .before .before .before .before .before .before .before .before .before .before .before .before .args in
+body-returns-4 t c =
+    let at-unbraced = c .before .before .before .before in
+    let at-if3 = at-unbraced .before .before .before .before .before in
+    let at-next-kind = at-if3 .before in
+    let at-if2 = at-next-kind .before in
+    let at-if1 = at-if2 .before in
+    let entry = at-if1 .before .before .before .before .before .before in
+    let g = entry .args in
     body-other (g .text .now) (g .n) (g .e) (g .scope .now) (g .row .now) (g .code .now) _ _ _ _ (g .left)
     (not-false (g .e .ok)
-    (c .before .before .before .before .before .before .before .before .before .before .before .before .if1 .left))
-    (c .before .before .before .before .before .before .before .before .before .before .before .if2 .left)
-    (λ e. c .before .before .before .before .before .before .before .before .before .if3 .left
-    (c .before .before .before .before .before .before .before .before .before .before .next-kind .ensures ∙ e))
-    (c .before .before .before .before .unbraced .ensures)
+    (at-if1 .if1 .left))
+    (at-if2 .if2 .left)
+    (λ e. at-if3 .if3 .left
+    (at-next-kind .next-kind .ensures ∙ e))
+    (at-unbraced .unbraced .ensures)
 
 conditional-condition-requires : (t : ℕ) → conditional-lts.Need-condition-requires (
   condition-reads.Asked,
@@ -496,9 +522,12 @@ conditional-body-requires : (t : ℕ) → conditional-lts.Need-body-requires (
   patch-reads.Asked,
   patch-reads.Learnt,
 ) (conditional-at t) conditional.Post
-conditional-body-requires t c κs = let g = c .before .before .before .before .before .before .before .before .before .before .before .before .before .before .before .before .before .before .before .before .args in
-    let is : 7 * g .left + 2 ≡ t = c .before .before .before .before .before .before .before .before .before .before .before .before .before .before .before .before .before .before .before .before .pre .0 in
-    let long = c .before .before .before .before .before .before .before .before .before .before .before .before .before .before .before .before .before .before .before .before .pre .1 .0 in (omega arith, (omega (arith, c .before .before .before .before .before .before .before .before .before .before .before .pending .given), c .before .before .before .before .before .before .before .before .before .before .before .before .before .before .before .before .before .before .before .before .pre .1 .1))
+conditional-body-requires t c κs =
+    let at-pending = c .before .before .before .before .before .before .before .before .before .before .before in
+    let entry = at-pending .before .before .before .before .before .before .before .before .before in
+    let g = entry .args in
+    let is : 7 * g .left + 2 ≡ t = entry .pre .0 in
+    let long = entry .pre .1 .0 in (omega arith, (omega (arith, at-pending .pending .given), entry .pre .1 .1))
 
 conditional-same-length : (t : ℕ) → conditional-lts.Need-same-length (
   condition-reads.Asked,
@@ -552,9 +581,15 @@ conditional-returns : (t : ℕ) → conditional-lts.Need-returns (
   patch-reads.Asked,
   patch-reads.Learnt,
 ) (conditional-at t) conditional.Post
-conditional-returns t c = λ on ms m. let g = c .before .before .before .before .before .before .before .before .before .before .before .before .before .before .before .before .before .before .before .before .before .before .before .before .before .before .before .args in
+conditional-returns t c =
+    let at-body = c .before .before .before .before .before .before in
+    let at-put = at-body .before .before .before .before .before .before .before in
+    let at-condition = at-put .before .before .before .before .before .before in
+    let entry = at-condition .before .before .before .before .before .before .before .before in
+    λ on ms m. let g = entry .args in
     if-stuck (g .text .now) (g .n) (g .left) ms m (g .e) _ _ _ (g .scope .now) (g .row .now) (g .code .now) _ _ _ _ _ on
-    (c .before .before .before .before .before .before .before .before .before .before .before .before .before .before .before .before .before .before .before .condition .ensures) (c .before .before .before .before .before .before .before .before .before .before .before .before .before .put .ensures) (c .before .before .before .before .before .before .body .ensures) (not-true (c .before .before .before .before .before .before .body .result .ok) (c .if1 .taken))
+    (at-condition .condition .ensures) (at-put .put .ensures) (at-body .body .ensures)
+    (not-true (at-body .body .result .ok) (c .if1 .taken))
 
 conditional-next-kind-requires : (t : ℕ) → conditional-lts.Need-next-kind-requires (
   condition-reads.Asked,
@@ -608,9 +643,16 @@ conditional-otherwise-requires : (t : ℕ) → conditional-lts.Need-otherwise-re
   patch-reads.Asked,
   patch-reads.Learnt,
 ) (conditional-at t) conditional.Post
-conditional-otherwise-requires t c κs = let g = c .before .before .before .before .before .before .before .before .before .before .before .before .before .before .before .before .before .before .before .before .before .before .before .before .before .before .before .before .before .before .before .before .before .before .args in
-    let is : 7 * g .left + 2 ≡ t = c .before .before .before .before .before .before .before .before .before .before .before .before .before .before .before .before .before .before .before .before .before .before .before .before .before .before .before .before .before .before .before .before .before .before .pre .0 in
-    let long = c .before .before .before .before .before .before .before .before .before .before .before .before .before .before .before .before .before .before .before .before .before .before .before .before .before .before .before .before .before .before .before .before .before .before .pre .1 .0 in (omega arith, (omega (arith, c .before .before .before .before .before .before .before .before .before .before .before .before .before .before .before .before .before .before .before .before .before .before .before .before .before .pending .given, c .before .before .before .before .before .before .before .before .before .before .before .before .pending2 .given), c .before .before .before .before .before .before .before .before .before .before .before .before .before .before .before .before .before .before .before .before .before .before .before .before .before .before .before .before .before .before .before .before .before .before .pre .1 .1))
+conditional-otherwise-requires t c κs =
+    let earlier = c .before .before .before .before .before .before .before .before .before .before in
+    let at-pending2 = earlier .before .before in
+    let earlier-2 = at-pending2 .before .before .before .before .before .before .before .before .before .before in
+    let at-pending = earlier-2 .before .before .before in
+    let entry = at-pending .before .before .before .before .before .before .before .before .before in
+    let g = entry .args in
+    let is : 7 * g .left + 2 ≡ t = entry .pre .0 in
+    let long = entry .pre .1 .0 in
+    (omega arith, (omega (arith, at-pending .pending .given, at-pending2 .pending2 .given), entry .pre .1 .1))
 
 conditional-same-length-3 : (t : ℕ) → conditional-lts.Need-same-length-3 (
   condition-reads.Asked,
@@ -628,7 +670,12 @@ conditional-same-length-3 : (t : ℕ) → conditional-lts.Need-same-length-3 (
   patch-reads.Asked,
   patch-reads.Learnt,
 ) (conditional-at t) conditional.Post
-conditional-same-length-3 t c = c .before .before .before .pending3 .given ∙ c .before .before .before .before .before .before .before .before .before .before .before .before .before .before .before .before .before .pending2 .given ∙ c .before .before .before .before .before .before .before .before .before .before .before .before .before .before .before .before .before .before .before .before .before .before .before .before .before .before .before .before .before .before .pending .given
+conditional-same-length-3 t c =
+    let earlier = c .before .before .before .before .before .before .before .before .before .before in
+    let at-pending2 = earlier .before .before .before .before .before .before .before in
+    let earlier-2 = at-pending2 .before .before .before .before .before .before .before .before .before .before in
+    let at-pending = earlier-2 .before .before .before in
+    c .before .before .before .pending3 .given ∙ at-pending2 .pending2 .given ∙ at-pending .pending .given
 
 conditional-same-length-4 : (t : ℕ) → conditional-lts.Need-same-length-4 (
   condition-reads.Asked,
@@ -646,7 +693,12 @@ conditional-same-length-4 : (t : ℕ) → conditional-lts.Need-same-length-4 (
   patch-reads.Asked,
   patch-reads.Learnt,
 ) (conditional-at t) conditional.Post
-conditional-same-length-4 t c = c .before .code4 .given ∙ c .before .before .before .before .before .before .before .before .before .before .before .before .before .before .before .code3 .given ∙ c .before .before .before .before .before .before .before .before .before .before .before .before .before .before .before .before .before .before .before .before .before .before .before .before .code2 .given ∙ c .before .before .before .before .before .before .before .before .before .before .before .before .before .before .before .before .before .before .before .before .before .before .before .before .before .before .before .before .code .given
+conditional-same-length-4 t c =
+    let earlier = c .before .before .before .before .before .before .before .before .before .before in
+    let at-code3 = earlier .before .before .before .before .before in
+    let at-code2 = at-code3 .before .before .before .before .before .before .before .before .before in
+    let at-code = at-code2 .before .before .before .before in
+    c .before .code4 .given ∙ at-code3 .code3 .given ∙ at-code2 .code2 .given ∙ at-code .code .given
 
 conditional-returns-2 : (t : ℕ) → conditional-lts.Need-returns-2 (
   condition-reads.Asked,
@@ -664,13 +716,24 @@ conditional-returns-2 : (t : ℕ) → conditional-lts.Need-returns-2 (
   patch-reads.Asked,
   patch-reads.Learnt,
 ) (conditional-at t) conditional.Post
-conditional-returns-2 t c = λ on ms m. let g = c .before .before .before .before .before .before .before .before .before .before .before .before .before .before .before .before .before .before .before .before .before .before .before .before .before .before .before .before .before .before .before .before .before .before .before .before .before .before .before .args in
+conditional-returns-2 t c =
+    let at-otherwise = c .before .before .before .before in
+    let at-pass = at-otherwise .before .before .before .before .before in
+    let at-if2 = at-pass .before in
+    let at-next-kind = at-if2 .before in
+    let at-if1 = at-next-kind .before in
+    let at-body = at-if1 .before .before .before .before .before .before in
+    let at-put = at-body .before .before .before .before .before .before .before in
+    let at-condition = at-put .before .before .before .before .before .before in
+    let entry = at-condition .before .before .before .before .before .before .before .before in
+    λ on ms m. let g = entry .args in
     if-else (g .text .now) (g .n) (g .left) ms m (g .e) _ _ _ (g .scope .now) (g .row .now) (g .code .now) _ _ _ _ _ on
-    (c .before .before .before .before .before .before .before .before .before .before .before .before .before .before .before .before .before .before .before .before .before .before .before .before .before .before .before .before .before .before .before .condition .ensures) (c .before .before .before .before .before .before .before .before .before .before .before .before .before .before .before .before .before .before .before .before .before .before .before .before .before .put .ensures) (c .before .before .before .before .before .before .before .before .before .before .before .before .before .before .before .before .before .before .body .ensures) _ _ _ _ _ (not-false (c .before .before .before .before .before .before .before .before .before .before .before .before .before .before .before .before .before .before .body .result .ok) (c .before .before .before .before .before .before .before .before .before .before .before .before .if1 .left))
-    (sym (c .before .before .before .before .before .before .before .before .before .before .before .next-kind .ensures)
-    ∙ c .before .before .before .before .before .before .before .before .before .before .if2 .taken)
-    (c .before .before .before .before .before .before .before .before .before .pass .ensures)
-    (c .before .before .before .before .otherwise .ensures)
+    (at-condition .condition .ensures) (at-put .put .ensures) (at-body .body .ensures) _ _ _ _ _
+    (not-false (at-body .body .result .ok) (at-if1 .if1 .left))
+    (sym (at-next-kind .next-kind .ensures)
+    ∙ at-if2 .if2 .taken)
+    (at-pass .pass .ensures)
+    (at-otherwise .otherwise .ensures)
 
 conditional-patch-requires : (t : ℕ) → conditional-lts.Need-patch-requires (
   condition-reads.Asked,
@@ -742,10 +805,19 @@ conditional-returns-3 : (t : ℕ) → conditional-lts.Need-returns-3 (
   patch-reads.Asked,
   patch-reads.Learnt,
 ) (conditional-at t) conditional.Post
-conditional-returns-3 t c = λ on ms m. let g = c .before .before .before .before .before .before .before .before .before .before .before .before .before .before .before .before .before .before .before .before .before .before .before .before .before .before .before .before .before .before .before .before .before .args in
+conditional-returns-3 t c =
+    let at-if2 = c .before .before .before .before in
+    let at-next-kind = at-if2 .before in
+    let at-if1 = at-next-kind .before in
+    let at-body = at-if1 .before .before .before .before .before .before in
+    let at-put = at-body .before .before .before .before .before .before .before in
+    let at-condition = at-put .before .before .before .before .before .before in
+    let entry = at-condition .before .before .before .before .before .before .before .before in
+    λ on ms m. let g = entry .args in
     if-ends (g .text .now) (g .n) (g .left) ms m (g .e) _ _ _ (g .scope .now) (g .row .now) (g .code .now) _ _ _ _ _ on
-    (c .before .before .before .before .before .before .before .before .before .before .before .before .before .before .before .before .before .before .before .before .before .before .before .before .before .condition .ensures) (c .before .before .before .before .before .before .before .before .before .before .before .before .before .before .before .before .before .before .before .put .ensures) (c .before .before .before .before .before .before .before .before .before .before .before .before .body .ensures) _ (not-false (c .before .before .before .before .before .before .before .before .before .before .before .before .body .result .ok) (c .before .before .before .before .before .before .if1 .left))
-    (λ e. c .before .before .before .before .if2 .left (c .before .before .before .before .before .next-kind .ensures ∙
+    (at-condition .condition .ensures) (at-put .put .ensures) (at-body .body .ensures) _
+    (not-false (at-body .body .result .ok) (at-if1 .if1 .left))
+    (λ e. at-if2 .if2 .left (at-next-kind .next-kind .ensures ∙
     e)) (c .before .before .patch .ensures)
 
 otherwise-put-requires : (t : ℕ) → otherwise-lts.Need-put-requires (
@@ -776,8 +848,11 @@ otherwise-body-requires : (t : ℕ) → otherwise-lts.Need-body-requires (
   body-below t,
   body.Post,
 ) (otherwise-at t) otherwise.Post
-otherwise-body-requires t c κs = let g = c .before .before .before .before .before .before .before .before .before .before .before .before .before .before .before .before .args in
-    let is : 7 * g .left + 1 ≡ t = c .before .before .before .before .before .before .before .before .before .before .before .before .before .before .before .before .pre .0 in (omega arith, c .before .before .before .before .before .before .before .before .before .before .before .before .before .before .before .before .pre .1)
+otherwise-body-requires t c κs =
+    let earlier = c .before .before .before .before .before .before .before .before .before .before in
+    let entry = earlier .before .before .before .before .before .before in
+    let g = entry .args in
+    let is : 7 * g .left + 1 ≡ t = entry .pre .0 in (omega arith, entry .pre .1)
 
 otherwise-patch-requires-2 : (t : ℕ) → otherwise-lts.Need-patch-requires-2 (
   put-reads.Asked,
@@ -817,10 +892,16 @@ otherwise-returns : (t : ℕ) → otherwise-lts.Need-returns (
   body-below t,
   body.Post,
 ) (otherwise-at t) otherwise.Post
-otherwise-returns t c = λ ms m on. let g = c .before .before .before .before .before .before .before .before .before .before .before .before .before .before .before .before .before .before .before .before .before .before .before .before .before .args in
+otherwise-returns t c =
+    let at-body = c .before .before .before .before .before .before .before .before in
+    let at-patch = at-body .before .before .before .before .before .before .before in
+    let at-put = at-patch .before .before .before .before in
+    let entry = at-put .before .before .before .before .before .before in
+    λ ms m on. let g = entry .args in
     otherwise-ends (g .text .now) (g .n) (g .left) ms m (g .e) _ _ (g .k) (g .scope .now) (g .row .now) (g .code .now) _
     _
-    _ _ _ _ on (c .before .before .before .before .before .before .before .before .before .before .before .before .before .before .before .before .before .before .before .put .ensures) (c .before .before .before .before .before .before .before .before .before .before .before .before .before .before .before .patch .ensures) (c .before .before .before .before .before .before .before .before .body .ensures) (c .before .before .patch2 .ensures)
+    _ _ _ _ on (at-put .put .ensures) (at-patch .patch .ensures) (at-body .body .ensures)
+    (c .before .before .patch2 .ensures)
 
 repeated-condition-requires : (t : ℕ) → repeated-lts.Need-condition-requires (
   condition-reads.Asked,
@@ -856,9 +937,12 @@ repeated-body-requires : (t : ℕ) → repeated-lts.Need-body-requires (
   patch-reads.Asked,
   patch-reads.Learnt,
 ) (repeated-at t) repeated.Post
-repeated-body-requires t c κs = let g = c .before .before .before .before .before .before .before .before .before .before .before .before .before .before .before .before .before .before .before .before .args in
-    let is : 7 * g .left + 1 ≡ t = c .before .before .before .before .before .before .before .before .before .before .before .before .before .before .before .before .before .before .before .before .pre .0 in
-    let long = c .before .before .before .before .before .before .before .before .before .before .before .before .before .before .before .before .before .before .before .before .pre .1 .0 in (omega arith, (omega (arith, c .before .before .before .before .before .before .before .before .before .before .before .pending .given), c .before .before .before .before .before .before .before .before .before .before .before .before .before .before .before .before .before .before .before .before .pre .1 .1))
+repeated-body-requires t c κs =
+    let at-pending = c .before .before .before .before .before .before .before .before .before .before .before in
+    let entry = at-pending .before .before .before .before .before .before .before .before .before in
+    let g = entry .args in
+    let is : 7 * g .left + 1 ≡ t = entry .pre .0 in
+    let long = entry .pre .1 .0 in (omega arith, (omega (arith, at-pending .pending .given), entry .pre .1 .1))
 
 repeated-put-requires-2 : (t : ℕ) → repeated-lts.Need-put-requires-2 (
   condition-reads.Asked,
@@ -894,7 +978,11 @@ repeated-same-length : (t : ℕ) → repeated-lts.Need-same-length (
   patch-reads.Asked,
   patch-reads.Learnt,
 ) (repeated-at t) repeated.Post
-repeated-same-length t c = c .before .before .before .before .before .before .before .before .before .before .before .pending2 .given ∙ c .before .before .before .before .before .before .before .before .before .before .before .before .before .before .before .before .before .before .before .before .before .before .before .before .pending .given
+repeated-same-length t c =
+    let at-pending2 = c .before .before .before .before .before .before .before .before .before .before .before in
+    let earlier = at-pending2 .before .before .before .before .before .before .before .before .before .before in
+    let at-pending = earlier .before .before .before in
+    at-pending2 .pending2 .given ∙ at-pending .pending .given
 
 repeated-same-length-2 : (t : ℕ) → repeated-lts.Need-same-length-2 (
   condition-reads.Asked,
@@ -918,10 +1006,17 @@ repeated-returns : (t : ℕ) → repeated-lts.Need-returns (
   patch-reads.Asked,
   patch-reads.Learnt,
 ) (repeated-at t) repeated.Post
-repeated-returns t c = λ on ms m. let g = c .before .before .before .before .before .before .before .before .before .before .before .before .before .before .before .before .before .before .before .before .before .before .before .before .before .before .before .before .before .before .before .before .before .args in
+repeated-returns t c =
+    let at-put2 = c .before .before .before .before .before .before in
+    let at-body = at-put2 .before .before .before .before .before .before in
+    let at-put = at-body .before .before .before .before .before .before .before in
+    let at-condition = at-put .before .before .before .before .before .before in
+    let entry = at-condition .before .before .before .before .before .before .before .before in
+    λ on ms m. let g = entry .args in
     while-ends (g .text .now) (g .n) (g .left) ms m (g .e) _ _ _ (g .scope .now) (g .row .now) (g .code .now) _ _ _ _ _
     on
-    (c .before .before .before .before .before .before .before .before .before .before .before .before .before .before .before .before .before .before .before .before .before .before .before .before .before .condition .ensures) (c .before .before .before .before .before .before .before .before .before .before .before .before .before .before .before .before .before .before .before .put .ensures) (c .before .before .before .before .before .before .before .before .before .before .before .before .body .ensures) _ _ _ (c .before .before .before .before .before .before .put2 .ensures) (c .before .before .patch .ensures)
+    (at-condition .condition .ensures) (at-put .put .ensures) (at-body .body .ensures) _ _ _
+    (at-put2 .put2 .ensures) (c .before .before .patch .ensures)
 
 statement-returns : (t : ℕ) → statement-lts.Need-returns (
   next-kind-reads.Asked,
@@ -1015,15 +1110,22 @@ statement-returns-3 : (t : ℕ) → statement-lts.Need-returns-3 (
   unbraced-below t,
   unbraced.Post,
 ) (statement-at t) statement′.Post
-statement-returns-3 t c = let g = c .before .before .before .before .before .before .before .before .before .before .before .before .before .before .before .before .before .before .args in
+statement-returns-3 t c =
+    let at-block = c .before .before .before .before in
+    let at-if3 = at-block .before .before .before .before .before in
+    let at-if2 = at-if3 .before in
+    let at-next-kind = at-if2 .before in
+    let at-if1 = at-next-kind .before in
+    let entry = at-if1 .before .before .before .before .before .before in
+    let g = entry .args in
     statement-block (g .text .now) (g .n) (g .e) (g .scope .now) (g .row .now) (g .code .now) _ _ _ _ (g .left)
     (not-false (g .e .ok)
-    (c .before .before .before .before .before .before .before .before .before .before .before .before .if1 .left))
+    (at-if1 .if1 .left))
     (sym
-    (c .before .before .before .before .before .before .before .before .before .before .before .next-kind .ensures)
-    ∙ c .before .before .before .before .before .before .before .before .before .before .if2 .taken)
-    (c .before .before .before .before .before .before .before .before .before .if3 .left)
-    (c .before .before .before .before .block .ensures)
+    (at-next-kind .next-kind .ensures)
+    ∙ at-if2 .if2 .taken)
+    (at-if3 .if3 .left)
+    (at-block .block .ensures)
 
 statement-unbraced-requires : (t : ℕ) → statement-lts.Need-unbraced-requires (
   next-kind-reads.Asked,
@@ -1070,17 +1172,23 @@ statement-returns-4 : (t : ℕ) → statement-lts.Need-returns-4 (
   unbraced-below t,
   unbraced.Post,
 ) (statement-at t) statement′.Post
-statement-returns-4 t c = let g = c .before .before .before .before .before .before .before .before .before .before .before .before .before .before .before .before .before .args in
+statement-returns-4 t c =
+    let at-unbraced = c .before .before .before .before in
+    let at-if2 = at-unbraced .before .before .before .before .before in
+    let at-next-kind = at-if2 .before in
+    let at-if1 = at-next-kind .before in
+    let entry = at-if1 .before .before .before .before .before .before in
+    let g = entry .args in
     statement-other (g .text .now) (g .n) (g .e) (g .scope .now) (g .row .now) (g .code .now) _ _ _ _ (g .left)
     (not-false (g .e .ok)
-    (c .before .before .before .before .before .before .before .before .before .before .before .if1 .left))
-    (λ e. c .before .before .before .before .before .before .before .before .before .if2 .left
-    (c .before .before .before .before .before .before .before .before .before .before .next-kind .ensures ∙ e))
-    (c .before .before .before .before .unbraced .ensures)
+    (at-if1 .if1 .left))
+    (λ e. at-if2 .if2 .left
+    (at-next-kind .next-kind .ensures ∙ e))
+    (at-unbraced .unbraced .ensures)
 
 abbrev statements-Inv-loop : statements-lts.InvT-loop
-statements-Inv-loop text methods scope₀ n row₀ pending₀ code₀ left at₀ used₀ count₀ kind₀ scope row pending code at used count
-    kind =
+statements-Inv-loop text methods scope₀ n row₀ pending₀ code₀ left at₀ used₀ count₀ kind₀ scope row pending code at
+    used count kind =
     (kind ≡ nextKind text at)
     × (((length pending ≡ length pending₀) × (length code ≡ length code₀))
     × ((r : Emit) (scope₁ row₁ code₁ : List ℕ)
@@ -1088,8 +1196,8 @@ statements-Inv-loop text methods scope₀ n row₀ pending₀ code₀ left at₀
     → StatementsFramed left text n (emitAt true at₀ used₀ count₀) scope₀ row₀ code₀ r scope₁ row₁ code₁))
 
 abbrev statements-μ-loop : statements-lts.MeasureT-loop
-statements-μ-loop text methods scope₀ n row₀ pending₀ code₀ left at₀ used₀ count₀ kind₀ scope row pending code at used count
-    kind =
+statements-μ-loop text methods scope₀ n row₀ pending₀ code₀ left at₀ used₀ count₀ kind₀ scope row pending code at used
+    count kind =
     length text - at
 
 statements-returns : (t : ℕ) → statements-lts.Need-returns (
@@ -1140,12 +1248,15 @@ statements-statement-requires : (t : ℕ) → statements-lts.Need-statement-requ
   pass-reads.Asked,
   pass-reads.Learnt,
 ) (statements-at t) statements.Post statements-Inv-loop statements-μ-loop
-statements-statement-requires t c κs = let g =
-    c .before .before .before .before .before .before .before .before .before .before .before .before .before .args in
+statements-statement-requires t c κs =
+    let at-loop = c .before .before .before .before .before in
+    let entry = at-loop .before .before .before .before .before .before .before .before in
+    let g =
+    entry .args in
     let is : 7 * g .left + 5 ≡ t =
-    c .before .before .before .before .before .before .before .before .before .before .before .before .before .pre .0 in
-    let long = c .before .before .before .before .before .before .before .before .before .before .before .before .before .pre .1 .0 in
-    let same = c .before .before .before .before .before .loop .inv .1 .0 .0 in (omega arith, (omega arith, c .before .before .before .before .before .before .before .before .before .before .before .before .before .pre .1 .1))
+    entry .pre .0 in
+    let long = entry .pre .1 .0 in
+    let same = at-loop .loop .inv .1 .0 .0 in (omega arith, (omega arith, entry .pre .1 .1))
 
 statements-advances-requires : (t : ℕ) → statements-lts.Need-advances-requires (
   next-kind-reads.Asked,
@@ -1193,14 +1304,21 @@ statements-returns-2 : (t : ℕ) → statements-lts.Need-returns-2 (
   pass-reads.Asked,
   pass-reads.Learnt,
 ) (statements-at t) statements.Post statements-Inv-loop statements-μ-loop
-statements-returns-2 t c = let g = c .before .before .before .before .before .before .before .before .before .before .before .before .before .before .before .before .before .before .before .before .args in
-    let l = c .before .before .before .before .before .before .before .before .before .before .before .before .loop in
-    let on = not-false (g .e .ok) (c .before .before .before .before .before .before .before .before .before .before .before .before .before .before .if1 .left) in
+statements-returns-2 t c =
+    let at-statement = c .before .before .before .before .before .before in
+    let at-loop-test = at-statement .before .before .before .before .before in
+    let at-loop = at-loop-test .before in
+    let at-if1 = at-loop .before .before in
+    let entry = at-if1 .before .before .before .before .before .before in
+    let g = entry .args in
+    let l = at-loop .loop in
+    let on = not-false (g .e .ok) (at-if1 .if1 .left) in
     statements-framed (g .text .now) (g .n) (g .left) (g .e) (g .scope .now) (g .row .now) (g .code .now) _ _ _ _ on
     (statements-as (g .text .now) (g .n) (g .left) (g .e) (g .scope .now) (g .row .now) (g .code .now) _ _ _ _ on
     (l .inv .1 .1 _ _ _ _ (statements-fail (g .text .now) (g .n) (g .left) (emitAt true (l .at) (l .used) (l .count))
-    (c .before .before .before .before .before .before .statement .result) (l .scope) (l .row) (l .code) _ _ _ refl (λ e. c .before .before .before .before .before .before .before .before .before .before .before .loop-test .taken (l .inv .0 ∙ e))
-    (c .before .before .before .before .before .before .statement .ensures) _ _ _ _ (c .before .advances .result)
+    (at-statement .statement .result) (l .scope) (l .row) (l .code) _ _ _ refl
+    (λ e. at-loop-test .loop-test .taken (l .inv .0 ∙ e))
+    (at-statement .statement .ensures) _ _ _ _ (c .before .advances .result)
     (c .before .advances .ensures)
     (not-true (c .before .advances .result) (c .if2 .taken)) refl)))
 
@@ -1226,9 +1344,13 @@ statements-loop-less : (t : ℕ) → statements-lts.Need-loop-less (
   pass-reads.Asked,
   pass-reads.Learnt,
 ) (statements-at t) statements.Post statements-Inv-loop statements-μ-loop
-statements-loop-less t c = let g = c .before .before .before .before .before .before .before .before .before .before .before .before .before .before .before .before .before .before .before .before .before .args in
-    let l = c .before .before .before .before .before .before .before .before .before .before .before .before .before .loop in
-    let s = c .before .before .before .before .before .before .before .statement .result in
+statements-loop-less t c =
+    let at-statement = c .before .before .before .before .before .before .before in
+    let at-loop = at-statement .before .before .before .before .before .before in
+    let entry = at-loop .before .before .before .before .before .before .before .before in
+    let g = entry .args in
+    let l = at-loop .loop in
+    let s = at-statement .statement .result in
     let bounds = c .before .before .advances .ensures .on (not-false (c .before .before .advances .result)
     (c .before .if2 .left)) in
     let more : l .at < s .at = bounds .1 .0 in
@@ -1244,28 +1366,35 @@ statements-loop-again : (t : ℕ) → statements-lts.Need-loop-again (
   pass-reads.Asked,
   pass-reads.Learnt,
 ) (statements-at t) statements.Post statements-Inv-loop statements-μ-loop
-statements-loop-again t c = let g = c .before .before .before .before .before .before .before .before .before .before .before .before .before .before .before .before .before .before .before .before .before .args in
-    let l = c .before .before .before .before .before .before .before .before .before .before .before .before .before .loop in
-    let s = c .before .before .before .before .before .before .before .statement .result in
+statements-loop-again t c =
+    let at-code = c .before .before .before .before in
+    let at-pending = at-code .before .before in
+    let at-statement = at-pending .before in
+    let at-loop-test = at-statement .before .before .before .before .before in
+    let at-loop = at-loop-test .before in
+    let entry = at-loop .before .before .before .before .before .before .before .before in
+    let g = entry .args in
+    let l = at-loop .loop in
+    let s = at-statement .statement .result in
     let bounds = c .before .before .advances .ensures .on (not-false (c .before .before .advances .result)
     (c .before .if2 .left)) in (
       c .next-kind2 .ensures,
       (
         (
-          c .before .before .before .before .before .before .pending .given ∙ l .inv .1 .0 .0,
-          c .before .before .before .before .code .given ∙ l .inv .1 .0 .1,
+          at-pending .pending .given ∙ l .inv .1 .0 .0,
+          at-code .code .given ∙ l .inv .1 .0 .1,
         ),
         (λ r scope₁ row₁ code₁ later. l .inv .1 .1 r scope₁ row₁ code₁
             (statements-on (g .text .now) (g .n) (g .left) (emitAt true (l .at) (l .used) (l .count)) s (l .scope)
             (l .row)
-            (l .code) (c .before .before .before .before .before .before .before .statement .last .1 .1 .1 .0)
-            (c .before .before .before .before .before .before .before .statement .last .1 .1 .1 .1 .1 .0)
-            (c .before .before .before .before .before .before .before .statement .last .1 .1 .1 .1 .1 .1 .1 .0) refl
-            (λ e. c .before .before .before .before .before .before .before .before .before .before .before .before .loop-test .taken (l .inv .0 ∙ e)) (c .before .before .before .before .before .before .before .statement .ensures) r scope₁ row₁ code₁
+            (l .code) (at-statement .statement .last .1 .1 .1 .0)
+            (at-statement .statement .last .1 .1 .1 .1 .1 .0)
+            (at-statement .statement .last .1 .1 .1 .1 .1 .1 .1 .0) refl
+            (λ e. at-loop-test .loop-test .taken (l .inv .0 ∙ e)) (at-statement .statement .ensures) r scope₁ row₁ code₁
             (statements-as (g .text .now) (g .n) (g .left) s
-            (c .before .before .before .before .before .before .before .statement .last .1 .1 .1 .0)
-            (c .before .before .before .before .before .before .before .statement .last .1 .1 .1 .1 .1 .0)
-            (c .before .before .before .before .before .before .before .statement .last .1 .1 .1 .1 .1 .1 .1 .0) r scope₁
+            (at-statement .statement .last .1 .1 .1 .0)
+            (at-statement .statement .last .1 .1 .1 .1 .1 .0)
+            (at-statement .statement .last .1 .1 .1 .1 .1 .1 .1 .0) r scope₁
             row₁ code₁ (bounds .0) later))),
       ),
     )
@@ -1316,9 +1445,12 @@ statements-returns-3 : (t : ℕ) → statements-lts.Need-returns-3 (
   pass-reads.Asked,
   pass-reads.Learnt,
 ) (statements-at t) statements.Post statements-Inv-loop statements-μ-loop
-statements-returns-3 t c = let g = c .before .before .before .before .before .before .before .before .before .before .args in
+statements-returns-3 t c =
+    let at-if1 = c .before .before .before .before in
+    let entry = at-if1 .before .before .before .before .before .before in
+    let g = entry .args in
     let l = c .before .before .loop in
-    let on = not-false (g .e .ok) (c .before .before .before .before .if1 .left) in
+    let on = not-false (g .e .ok) (at-if1 .if1 .left) in
     statements-framed (g .text .now) (g .n) (g .left) (g .e) (g .scope .now) (g .row .now) (g .code .now) _ _ _ _ on
     (statements-as (g .text .now) (g .n) (g .left) (g .e) (g .scope .now) (g .row .now) (g .code .now) _ _ _ _ on
     (l .inv .1 .1 _ _ _ _ (statements-end (g .text .now) (g .n) (g .left) (emitAt true (l .at) (l .used) (l .count)) _
@@ -1412,12 +1544,18 @@ unbraced-returns : (t : ℕ) → unbraced-lts.Need-returns (
   simple-reads.Asked,
   simple-reads.Learnt,
 ) (unbraced-at t) unbraced.Post
-unbraced-returns t c = λ on. let g = c .before .before .before .before .before .before .before .before .before .before .before .before .before .before .before .before .args in
+unbraced-returns t c =
+    let at-conditional = c .before .before .before .before in
+    let at-pass = at-conditional .before .before .before .before .before in
+    let at-if1 = at-pass .before in
+    let at-next-kind = at-if1 .before in
+    let entry = at-next-kind .before .before .before .before .before in
+    λ on. let g = entry .args in
     unbraced-if (g .text .now) (g .n) (g .e) (g .scope .now) (g .row .now) (g .code .now) _ _ _ _ (g .left) on _
-    (sym (c .before .before .before .before .before .before .before .before .before .before .before .next-kind .ensures)
-    ∙ c .before .before .before .before .before .before .before .before .before .before .if1 .taken)
-    (c .before .before .before .before .before .before .before .before .before .pass .ensures)
-    (c .before .before .before .before .conditional .ensures)
+    (sym (at-next-kind .next-kind .ensures)
+    ∙ at-if1 .if1 .taken)
+    (at-pass .pass .ensures)
+    (at-conditional .conditional .ensures)
 
 unbraced-pass-requires-2 : (t : ℕ) → unbraced-lts.Need-pass-requires-2 (
   next-kind-reads.Asked,
@@ -1494,9 +1632,16 @@ unbraced-returns-2 : (t : ℕ) → unbraced-lts.Need-returns-2 (
   simple-reads.Asked,
   simple-reads.Learnt,
 ) (unbraced-at t) unbraced.Post
-unbraced-returns-2 t c = λ on. let g = c .before .before .before .before .before .before .before .before .before .before .before .before .before .before .before .before .before .args in
+unbraced-returns-2 t c =
+    let at-repeated = c .before .before .before .before in
+    let at-pass2 = at-repeated .before .before .before .before .before in
+    let at-if2 = at-pass2 .before in
+    let at-next-kind = at-if2 .before .before in
+    let entry = at-next-kind .before .before .before .before .before in
+    λ on. let g = entry .args in
     unbraced-while (g .text .now) (g .n) (g .e) (g .scope .now) (g .row .now) (g .code .now) _ _ _ _ (g .left) on _
-    (sym (c .before .before .before .before .before .before .before .before .before .before .before .before .next-kind .ensures) ∙ c .before .before .before .before .before .before .before .before .before .before .if2 .taken) (c .before .before .before .before .before .before .before .before .before .pass2 .ensures) (c .before .before .before .before .repeated .ensures)
+    (sym (at-next-kind .next-kind .ensures) ∙ at-if2 .if2 .taken) (at-pass2 .pass2 .ensures)
+    (at-repeated .repeated .ensures)
 
 unbraced-simple-requires : (t : ℕ) → unbraced-lts.Need-simple-requires (
   next-kind-reads.Asked,
@@ -1510,7 +1655,9 @@ unbraced-simple-requires : (t : ℕ) → unbraced-lts.Need-simple-requires (
   simple-reads.Asked,
   simple-reads.Learnt,
 ) (unbraced-at t) unbraced.Post
-unbraced-simple-requires t c κs = c .before .before .before .before .before .before .before .before .before .before .pre .1
+unbraced-simple-requires t c κs =
+    let entry = c .before .before .before .before .before .before .before .before .before .before in
+    entry .pre .1
 
 unbraced-same-length-5 : (t : ℕ) → unbraced-lts.Need-same-length-5 (
   next-kind-reads.Asked,
@@ -1552,13 +1699,19 @@ unbraced-returns-3 : (t : ℕ) → unbraced-lts.Need-returns-3 (
   simple-reads.Asked,
   simple-reads.Learnt,
 ) (unbraced-at t) unbraced.Post
-unbraced-returns-3 t c = λ on. let g = c .before .before .before .before .before .before .before .before .before .before .before .before .before .before .before .args in
+unbraced-returns-3 t c =
+    let at-simple = c .before .before .before .before in
+    let at-if2 = at-simple .before .before .before .before in
+    let at-if1 = at-if2 .before in
+    let at-next-kind = at-if1 .before in
+    let entry = at-next-kind .before .before .before .before .before in
+    λ on. let g = entry .args in
     unbraced-simple (g .text .now) (g .n) (g .e) (g .scope .now) (g .row .now) (g .code .now) _ _ (g .left) on
-    (λ e. c .before .before .before .before .before .before .before .before .before .if1 .left
-    (c .before .before .before .before .before .before .before .before .before .before .next-kind .ensures ∙ e))
-    (λ e. c .before .before .before .before .before .before .before .before .if2 .left
-    (c .before .before .before .before .before .before .before .before .before .before .next-kind .ensures ∙ e))
-    (c .before .before .before .before .simple .ensures)
+    (λ e. at-if1 .if1 .left
+    (at-next-kind .next-kind .ensures ∙ e))
+    (λ e. at-if2 .if2 .left
+    (at-next-kind .next-kind .ensures ∙ e))
+    (at-simple .simple .ensures)
 
 pub +block+body+conditional+otherwise+repeated+statement+statements+unbraced-spec :
     {M : Type 1} → statement M

@@ -5,14 +5,14 @@ use mathlib.Core.Path.{_≡_, refl}
 use lib.ListN.{length}
 use borrow.Author.Needs.{needs}
 use Rattle.text_emit_expr.specs.EndsCode.{Standing}
-use Rattle.text_emit_expr.proofs.ExpressionLaws.{begun, begun-stands, Reached, reached-here, reached-on, togo, togo-less, expression-emitted}
+use Rattle.text_emit_expr.proofs.ExpressionLaws.{begun, begun-stands, LeadsFrom, reached-here, reached-on, togo, togo-less, expression-emitted}
 use Rattle.text_emit_expr.proofs.expression.emit_expression.Statement.{statement}
 use Rattle.text_emit_expr.proofs.expression.emit_expression.Tie as tie
 
 abbrev Inv-loop : tie.InvT-loop
 Inv-loop text from scope n pending₀ code₀ count s₀ pending code s =
     Standing text pending s
-    × Reached text scope n pending₀ code₀ (begun from count) pending code s
+    × LeadsFrom text scope n pending₀ code₀ (begun from count) pending code s
     × (length pending ≡ length pending₀) × (length code ≡ length code₀) × (from ≤ s .at)
 
 abbrev μ-loop : tie.MeasureT-loop

@@ -33,11 +33,15 @@ same-length-2 c = search needs
 
 returns-3 : tie.Need-returns-3
 returns-3 c =
-    let brace = c .before .before .before .before .before .before .before .before .before .before .before .before .before .before .next-token in
-    let d = c .before .before .before .before .before .before .before .before .before .before .before .declarations in
-    let left = c .before .before .before .before .before .before .before .before .before .if2 .left in
+    let at-statements = c .before .before .before .before in
+    let at-if2 = at-statements .before .before .before .before .before in
+    let at-declarations = at-if2 .before .before in
+    let at-next-token = at-declarations .before .before .before in
+    let brace = at-next-token .next-token in
+    let d = at-declarations .declarations in
+    let left = at-if2 .if2 .left in
     λ p. body-written _ _ _ _ _ _ _ _ (brace .result) _ _ _ _ (brace .ensures) (d .ensures) _ _ _ _
-    (not-false (d .result .ok) left) (c .before .before .before .before .statements .ensures)
+    (not-false (d .result .ok) left) (at-statements .statements .ensures)
 
 pub body-spec : {M : Type 1} → statement M
 body-spec =

@@ -30,9 +30,12 @@ same-length-2 c = search needs
 
 returns-2 : tie.Need-returns-2
 returns-2 c =
-    let h = c .before .before .before .before .before .before .before .before .before .before .before .before .before .before .before .before .header in
-    let fine = c .before .before .before .before .before .before .before .before .before .before .before .before .before .before .if1 .left in
-    let b = c .before .before .before .before .before .before .before .before .before .body in
+    let at-body = c .before .before .before .before .before .before .before .before .before in
+    let at-if1 = at-body .before .before .before .before .before in
+    let at-header = at-if1 .before .before in
+    let h = at-header .header in
+    let fine = at-if1 .if1 .left in
+    let b = at-body .body in
     let e = c .before .before .close in
     λ ns us reading p q fit wide. method-emits _ _ _ _ _ _ _ _ _ _ _ (h .ensures) (mainFirst ns) fit
     (record { inText = ns; after = us; reading = reading; ordered = refl }) (not-false (h .result .ok) fine) (b .result)

@@ -18,8 +18,9 @@ find-word-requires c κs = search needs
 
 returns : tie.Need-returns
 returns c =
-    let args = c .before .before .before .before .args in
-    lent-word (args .text .now) (args .start) (args .end) (c .before .before .before .before .pre .1) _ _ _ _ (c .find-word .ensures)
+    let entry = c .before .before .before .before in
+    let args = entry .args in
+    lent-word (args .text .now) (args .start) (args .end) (entry .pre .1) _ _ _ _ (c .find-word .ensures)
 
 pub find-indexed-spec : {M : Type 1} → statement M
 find-indexed-spec = tie.close (tie.spec sub-word part-word-start part-word-end find-word-requires returns)

@@ -13,12 +13,14 @@ count-arguments-requires c κs = search needs
 
 returns : tie.Need-returns
 returns c =
-    let args = c .before .before .before .before .before .before .args in
+    let entry = c .before .before .before .before .before .before in
+    let args = entry .args in
     let text = args .text .now in
     let x = slice (args .start) (args .end) text in
     let found = c .before .before .before .find-indexed in
     let m = found .result in
-    call-at text x (args .after) _ (c .before .before .count-arguments .ensures) (m .found) (m .at) (m .params) (found .ensures .1)
+    call-at text x (args .after) _ (c .before .before .count-arguments .ensures) (m .found) (m .at) (m .params)
+    (found .ensures .1)
 
 pub is-call-spec : {M : Type 1} → statement M
 is-call-spec = tie.close (tie.spec find-indexed-requires count-arguments-requires returns)

@@ -13,12 +13,14 @@ count-arguments-requires c κs = search needs
 
 returns : tie.Need-returns
 returns c =
-    let args = c .before .before .before .before .before .before .args in
+    let entry = c .before .before .before .before .before .before in
+    let args = entry .args in
     let text = args .text .now in
     let x = slice (args .start) (args .end) text in
     let found = c .before .before .before .find-indexed in
     let m = found .result in
-    invoke-at text x (args .after) _ (c .before .before .count-arguments .ensures) (m .found) (m .at) (m .params) (found .ensures .1)
+    invoke-at text x (args .after) _ (c .before .before .count-arguments .ensures) (m .found) (m .at) (m .params)
+    (found .ensures .1)
     (c .before .if1 .taken)
 
 gate-number-requires : tie.Need-gate-number-requires
@@ -29,12 +31,15 @@ gate-takes-requires c κs = search needs
 
 returns-2 : tie.Need-returns-2
 returns-2 c =
-    let args = c .before .before .before .before .before .before .before .args in
+    let at-find-indexed = c .before .before .before .before in
+    let entry = at-find-indexed .before .before .before in
+    let args = entry .args in
     let text = args .text .now in
     let x = slice (args .start) (args .end) text in
-    let found = c .before .before .before .before .find-indexed in
+    let found = at-find-indexed .find-indexed in
     let m = found .result in
-    gate-at text x (args .after) _ (c .before .before .before .count-arguments .ensures) (m .found) (m .at) (m .params) (found .ensures .1)
+    gate-at text x (args .after) _ (c .before .before .before .count-arguments .ensures) (m .found) (m .at)
+    (m .params) (found .ensures .1)
     (c .before .before .if1 .left) _ (c .before .gate-number .ensures) (c .gate-takes .ensures)
 
 pub is-invocation-spec : {M : Type 1} → statement M

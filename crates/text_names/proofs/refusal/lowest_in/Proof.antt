@@ -11,13 +11,13 @@ use Rattle.text_names.proofs.refusal.lowest_in.Statement.{statement}
 use Rattle.text_names.proofs.refusal.lowest_in.Tie as tie
 
 abbrev Inv-loop : tie.InvT-loop
-Inv-loop text methods words₀ all class at₀ mode₀ braces₀ from₀ index₀ n₀ found₀ low₀ kind₀ words at mode braces from index n
-    found low kind =
+Inv-loop text methods words₀ all class at₀ mode₀ braces₀ from₀ index₀ n₀ found₀ low₀ kind₀ words at mode braces from
+    index n found low kind =
     ScanSoFar (inClass all class) all text words at mode braces from index n found low kind
 
 abbrev μ-loop : tie.MeasureT-loop
-μ-loop text methods words₀ all class at₀ mode₀ braces₀ from₀ index₀ n₀ found₀ low₀ kind₀ words at mode braces from index n
-    found low kind =
+μ-loop text methods words₀ all class at₀ mode₀ braces₀ from₀ index₀ n₀ found₀ low₀ kind₀ words at mode braces from
+    index n found low kind =
     length text - at
 
 next-kind-requires : tie.Need-next-kind-requires Inv-loop μ-loop

@@ -90,7 +90,7 @@ abbrev unbraced-below : ℕ → In 2 unbraced-kinds.ps
 unbraced-below t =
     and 2 unbraced-kinds.ps (falls 2 unbraced-kinds.ps _<_ μ-unbraced t) unbraced.Pre
 
--- what the functions that each one calls ask and tell
+-- what the functions that each one calls ask and promise
 abbrev block-claims : ℕ → block-lts.Claims
 block-claims t = (
   expect-reads.Asked,

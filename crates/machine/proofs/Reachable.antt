@@ -13,7 +13,7 @@ use Rattle.machine.proofs.Typing.{ConfigTyped}
 
 -- The table was accepted, and the configuration keeps its types: arguments are 16-bit words and outcomes bytes; `kinds`
 -- says what each channel carries.
-pub record Reached (p outcomes : List ℕ) (s : State) : Type 0 where
+pub record Reachable (p outcomes : List ℕ) (s : State) : Type 0 where
   pub kept : Kept p
   pub narrow : (i : ℕ) → argAt p i < 65536
   pub bytes : All (λ o. o ≤ 2) outcomes
@@ -35,7 +35,7 @@ pub record AtWork (p : List ℕ) (c : Config) (f : Frame) (fs : List Frame) : Ty
   pub stack : Stack p c f fs
   pub small : argAt p (f .place) < 65536
 
-abbrev pub busy-at : {p outcomes : List ℕ} {s : State} → Reached p outcomes s → {f : Frame} {fs : List Frame}
+abbrev pub busy-at : {p outcomes : List ℕ} {s : State} → Reachable p outcomes s → {f : Frame} {fs : List Frame}
     → All (FrameSound p (s .config)) (f ∷ fs)
     → length fs < 8 → AtWork p (s .config) f fs
 busy-at r {f} sound deep = record { stack = stacked (r .kept) sound deep; small = r .narrow (f .place) }
