@@ -101,8 +101,8 @@ none-wanted code n i l e =
     omega arith
 
 -- the marks are made in a list of zeros
-pub in-method : (code own ts us : List ℕ) (n : Counts) → IsMethod code own n → 4096 ≤ length ts
-    → ((i : ℕ) → i < 4096 → getD ts i 0 ≡ 0) → us ≡ markedIn code (n .long) ts → InMethod code own us n
+pub in-method : (code own ts us : List ℕ) (n : Counts) → IsMethod code own n → n .long ≤ length ts
+    → ((i : ℕ) → i < n .long → getD ts i 0 ≡ 0) → us ≡ markedIn code (n .long) ts → InMethod code own us n
 in-method code own ts us n h l z e =
     let long = ap length e ∙ marked-long code (n .long) ts in
     let short = h .short in
@@ -113,7 +113,7 @@ in-method code own ts us n h l z e =
       few = h .few;
       marks = omega arith;
       marked = λ i k. ap (λ vs. ltb 0 (getD vs i 0)) e
-          ∙ marked-onto code ts i (omega arith) (z i (omega arith)) (n .long);
+          ∙ marked-onto code ts i (omega arith) (z i k) (n .long);
     }
 
 -- One instruction

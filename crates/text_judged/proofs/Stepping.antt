@@ -94,7 +94,7 @@ part-numbered code words k h = record {
 }
 
 pub method-words : (text code own words : List ℕ) (n : Counts) → MethodHere text code own (n .long)
-    → length words ≡ 8192 → IsMethod (take (2 * n .long - 0) (drop 0 words)) own n
+    → 2 * n .long ≤ length words → IsMethod (take (2 * n .long - 0) (drop 0 words)) own n
 unfolding rowWords
 method-words text code own words n h e = record {
   words = length-take (2 * n .long - 0) (drop 0 words) ∙ omega (arith, length-drop 0 words, h .short);

@@ -92,6 +92,11 @@ pub record CallsIn (text code : List ℕ) (long : ℕ) : Type 0 where
   pub there : (i : ℕ) → i < long → calls (opIn code i) ≡ true
       → There (mainFirst program) (nameAt text (argIn code i))
 
+-- room for a mark at each instruction, and none is made yet
+pub record Unmarked (targets : List ℕ) (long : ℕ) : Type 0 where
+  pub enough : long ≤ length targets
+  pub zeros : (i : ℕ) → i < long → getD targets i 0 ≡ 0
+
 -- all that a method is judged by
 pub record Prepared (text code words own targets : List ℕ) (n : Counts) : Type 0 where
   pub method : InMethod words own targets n

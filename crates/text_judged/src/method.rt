@@ -10,7 +10,7 @@ ghost use Rattle.text_methods.specs.IndexCode.{Indexed};
 ghost use Rattle.text_judge.specs.RowsCode.{judged};
 ghost use Rattle.text_judge.specs.JudgeCode.{subjectIn};
 ghost use Rattle.text_judge.specs.ResumeCode.{IsMethod, InMethod};
-ghost use Rattle.text_judged.specs.JudgedCode.{MethodHere, keptHere, calledRow, Numbered, CallsIn, Prepared, UpTo};
+ghost use Rattle.text_judged.specs.JudgedCode.{MethodHere, keptHere, calledRow, Numbered, CallsIn, Unmarked, Prepared, UpTo};
 use crate::callee::callee_row;
 use crate::words::number_calls;
 use text_judge::code::Judgement;
@@ -91,18 +91,54 @@ fn judge_words(
     code: &[usize],
     words: &[u16],
     own: &[u16],
+    targets: &mut [u8],
     n: Counts,
 ) -> bool
     requires { ⌜ IsMethod (now words) (now own) n × CallsIn (now text) (now code) (n .long)
         × Numbered (now code) (now words) (n .long) × (2 * n .long ≤ length (now code)) × (n .methods ≡ 4096)
-        × (n .known ≡ 0) × Indexed (now text) (now methods) ⌝ }
+        × (n .known ≡ 0) × Indexed (now text) (now methods) × Unmarked (now targets) (n .long) ⌝ }
     ensures { λ r. ⌜ ((ns : Program) (us : List Token) → programOf (tokensOf (now (text .entry))) ≡ read ns us
         → r ≡ judged (subjectIn (now (words .entry)) (now (own .entry)) n
         (calledRow (now (text .entry)) (mainFirst ns) (now (code .entry))))) ⌝ }
 {
-    let mut targets = [0u8; 4096];
-    mark_targets(words, n.long, &mut targets);
-    judge_all(text, methods, code, words, own, &targets, n)
+    mark_targets(words, n.long, targets);
+    judge_all(text, methods, code, words, own, targets, n)
+}
+
+// With lent room for the code as words and for the marks.
+fn kept_with(
+    text: &[u8],
+    methods: &[usize],
+    code: &[usize],
+    long: usize,
+    own: &[u16],
+    words: &mut [u16],
+    targets: &mut [u8],
+) -> bool
+    requires { ⌜ MethodHere (now text) (now code) (now own) long × Indexed (now text) (now methods)
+        × (2 * long ≤ length (now words)) × Unmarked (now targets) long ⌝ }
+    ensures { λ r. ⌜ ((h : MethodHere (now (text .entry)) (now (code .entry)) (now (own .entry)) long)
+        → r ≡ keptHere h) ⌝ }
+{
+    let n = Counts {
+        long: long,
+        methods: 4096,
+        known: 0,
+    };
+    number_calls(code, long, words);
+    let part = &words[0..2 * long];
+    judge_words(text, methods, code, part, own, targets, n)
+}
+
+// Filling arrays for the longest method would take longer than judging a short one, which most are.
+fn short_kept(text: &[u8], methods: &[usize], code: &[usize], long: usize, own: &[u16]) -> bool
+    requires { ⌜ MethodHere (now text) (now code) (now own) long × Indexed (now text) (now methods) × (long ≤ 128) ⌝ }
+    ensures { λ r. ⌜ ((h : MethodHere (now (text .entry)) (now (code .entry)) (now (own .entry)) long)
+        → r ≡ keptHere h) ⌝ }
+{
+    let mut words = [0u16; 256];
+    let mut targets = [0u8; 128];
+    kept_with(text, methods, code, long, own, &mut words, &mut targets)
 }
 
 // Whether questions 4 and 5 say yes to the code of a method, which stands in `code` with the places of the called
@@ -112,13 +148,10 @@ pub fn method_kept(text: &[u8], methods: &[usize], code: &[usize], long: usize, 
     ensures { λ r. ⌜ ((h : MethodHere (now (text .entry)) (now (code .entry)) (now (own .entry)) long)
         → r ≡ keptHere h) ⌝ }
 {
-    let n = Counts {
-        long: long,
-        methods: 4096,
-        known: 0,
-    };
+    if long <= 128 {
+        return short_kept(text, methods, code, long, own);
+    }
     let mut words = [0u16; 8192];
-    number_calls(code, long, &mut words);
-    let part = &words[0..2 * long];
-    judge_words(text, methods, code, part, own, n)
+    let mut targets = [0u8; 4096];
+    kept_with(text, methods, code, long, own, &mut words, &mut targets)
 }

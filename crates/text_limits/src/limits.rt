@@ -8,19 +8,8 @@ ghost use Rattle.text_limits.specs.LimitsCode.{WellNamed, MethodThere};
 ghost use Rattle.text_limits.specs.MeasuresCode.{Judgement, LimitsSay};
 use crate::method::Verdict;
 use crate::method::judge_method;
+use text_judge::rows::put_row;
 use text_methods::index::method_count;
-
-// A row copied among the rows, from word `at` on.
-fn put_row(rows: &mut [u16], at: usize, row: &[u16])
-    requires { ⌜ (length (now row) ≡ 18) × (at + 18 ≤ length (now rows)) ⌝ }
-    ensures { λ r. ⌜ now (rows .exit) ≡ copied (now (rows .entry)) at (now (row .entry)) 18 ⌝ }
-{
-    let mut i = 0;
-    while i < 18 {
-        rows[at + i] = row[i];
-        i += 1;
-    }
-}
 
 // The length and the row of method k, kept for when the table is written.
 fn keep(lengths: &mut [u16], rows: &mut [u16], k: usize, long: usize, row: &[u16])

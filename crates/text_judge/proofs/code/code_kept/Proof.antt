@@ -25,8 +25,9 @@ judge-requires c κs =
     let mark-targets = at-mark-targets .mark-targets in
     let at-pre = at-mark-targets .before .before .before .before .before in
     let pre = at-pre .pre in
-    let method =
-    in-method _ _ _ _ _ (pre .0) (search needs) (λ i l. getD-replicate 4096 i 0 0 l) (mark-targets .ensures) in
+    let short = pre .0 .short in
+    let method = in-method _ _ _ _ _ (pre .0) (omega arith)
+    (λ i l. getD-replicate 4096 i 0 0 (omega (arith, short))) (mark-targets .ensures) in
     (method, pre .1, omega (arith, begin .ensures .0), begin .ensures .1)
 
 returns : tie.Need-returns

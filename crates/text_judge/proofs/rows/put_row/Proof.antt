@@ -9,28 +9,28 @@ use Rattle.text_judge.proofs.rows.put_row.Statement.{statement}
 use Rattle.text_judge.proofs.rows.put_row.Tie as tie
 
 abbrev Inv-loop : tie.InvT-loop
-Inv-loop table₀ at row i₀ table i = (i ≤ 18) × (table ≡ copied table₀ at row i)
+Inv-loop words₀ at row i₀ words i = (i ≤ 18) × (words ≡ copied words₀ at row i)
 
 abbrev μ-loop : tie.MeasureT-loop
-μ-loop table₀ at row i₀ table i = 18 - i
+μ-loop words₀ at row i₀ words i = 18 - i
 
 loop-holds : tie.Need-loop-holds Inv-loop μ-loop
 loop-holds c = (omega arith, copied-none _ _ _)
 
-mul-table : tie.Need-mul-table Inv-loop μ-loop
-mul-table c = search needs
+mul-words : tie.Need-mul-words Inv-loop μ-loop
+mul-words c = search needs
 
-shared-slice-read-table : tie.Need-shared-slice-read-table Inv-loop μ-loop
-shared-slice-read-table c = search needs
+shared-slice-read-words : tie.Need-shared-slice-read-words Inv-loop μ-loop
+shared-slice-read-words c = search needs
 
-add-table : tie.Need-add-table Inv-loop μ-loop
-add-table c = search needs
+add-words : tie.Need-add-words Inv-loop μ-loop
+add-words c = search needs
 
-mul-table-2 : tie.Need-mul-table-2 Inv-loop μ-loop
-mul-table-2 c = search needs
+mul-words-2 : tie.Need-mul-words-2 Inv-loop μ-loop
+mul-words-2 c = search needs
 
-slice-write-table : tie.Need-slice-write-table Inv-loop μ-loop
-slice-write-table c =
+slice-write-words : tie.Need-slice-write-words Inv-loop μ-loop
+slice-write-words c =
     let at-loop = c .before .before in
     let loop = at-loop .loop in
     let at-pre = at-loop .before in
@@ -69,11 +69,11 @@ put-row-spec =
     Inv-loop
     μ-loop
     loop-holds
-    mul-table
-    shared-slice-read-table
-    add-table
-    mul-table-2
-    slice-write-table
+    mul-words
+    shared-slice-read-words
+    add-words
+    mul-words-2
+    slice-write-words
     add-i
     loop-less
     loop-again

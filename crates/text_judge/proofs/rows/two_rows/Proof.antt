@@ -7,8 +7,17 @@ use borrow.Author.Needs.{needs}
 use Rattle.text_judge.proofs.rows.two_rows.Statement.{statement}
 use Rattle.text_judge.proofs.rows.two_rows.Tie as tie
 
-cast-n : tie.Need-cast-n
-cast-n c = search needs
+array-write-table : tie.Need-array-write-table
+array-write-table c = search needs
+
+array-write-table-2 : tie.Need-array-write-table-2
+array-write-table-2 c = search needs
+
+cast-table : tie.Need-cast-table
+cast-table c = search needs
+
+array-write-table-3 : tie.Need-array-write-table-3
+array-write-table-3 c = search needs
 
 slice-aggregate-put-row : tie.Need-slice-aggregate-put-row
 slice-aggregate-put-row c = search needs
@@ -24,22 +33,20 @@ put-row-requires-2 c κs = search needs
 
 returns : tie.Need-returns
 returns c =
-    let at-put-row2 = c .before in
-    let put-row2 = at-put-row2 .put-row2 in
-    let at-put-row = at-put-row2 .before .before .before in
-    let put-row = at-put-row .put-row in
-    let at-pre = at-put-row .before .before .before .before in
-    let pre = at-pre .pre in
-    let args = at-pre .args in
-    put-row2 .ensures
-    ∙ ap (λ t. copied t 6 (now (args .own)) 18) (put-row .ensures)
-    ∙ two-built _ _ _ (pre .0) (pre .1)
+    let at-put-row = c .before .before .before .before in
+    let entry = at-put-row .before .before .before .before in
+    c .before .put-row2 .ensures
+    ∙ ap (λ t. copied t 6 (now (entry .args .own)) 18) (at-put-row .put-row .ensures)
+    ∙ two-built _ _ _ (entry .pre .0) (entry .pre .1)
 
 pub two-rows-spec : {M : Type 1} → statement M
 two-rows-spec =
     tie.close
     (tie.spec
-    cast-n
+    array-write-table
+    array-write-table-2
+    cast-table
+    array-write-table-3
     slice-aggregate-put-row
     put-row-requires
     slice-aggregate-put-row-2
