@@ -48,7 +48,7 @@ abbrev pub restOf : List ℕ → ℕ → List ℕ → List ℕ
 restOf trace lines beyond = holderWords (linesTo trace lines) ++ beyond
 
 -- the state before the entry at which a burst has stopped, or at the schedule's end
-pub record Going (p schedule outcomes : List ℕ) (room : ℕ) (beyond t0 work trace : List ℕ) (t : List (List ℕ))
+pub record BurstState (p schedule outcomes : List ℕ) (room : ℕ) (beyond t0 work trace : List ℕ) (t : List (List ℕ))
     (lines used : ℕ) (b : Burst) :
     Type 0 where
   pub given : Inputs p schedule outcomes t0 (restOf trace lines beyond) room
@@ -122,7 +122,7 @@ module _ {p schedule outcomes : List ℕ} {room : ℕ} {t0 : List ℕ} where
   module _ {beyond work trace : List ℕ} {t : List (List ℕ)} {lines used k : ℕ} {known : Knowledge}
       (x : Before p schedule outcomes room beyond t0 work trace t lines used k known) {b : Burst} {work′ : List ℕ}
       (stops : stopsAt b work′ ≡ burstOp p t schedule work k known (length schedule - k)) where
-    pub going-burst : Going p schedule outcomes room beyond t0 work′ trace t lines used b
+    pub going-burst : BurstState p schedule outcomes room beyond t0 work′ trace t lines used b
     going-burst = record {
       given = x .given;
       stands =
@@ -135,7 +135,7 @@ module _ {p schedule outcomes : List ℕ} {room : ℕ} {t0 : List ℕ} where
         subst (λ (y : Stop). k ≤ y .burst .at) (sym stops) (burst-past p t schedule work k known (length schedule - k))
 
   module _ {work trace : List ℕ} {t : List (List ℕ)} {lines used : ℕ} {b : Burst} {beyond : List ℕ}
-      (g : Going p schedule outcomes room beyond t0 work trace t lines used b) where
+      (g : BurstState p schedule outcomes room beyond t0 work trace t lines used b) where
     abbrev there : Ready (g .given) (b .at) work trace t lines used (b .known)
     there = g .stands .ready
 

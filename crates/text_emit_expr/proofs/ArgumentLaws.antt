@@ -34,7 +34,7 @@ use Rattle.text_emit_expr.proofs.CodeLaws.{numbers-fit, arguments-fit, 
 use Rattle.text_emit_expr.proofs.RestLaws.{prefixed-twice, prefixed-then, prefixed-expect}
 use Rattle.text_emit_expr.proofs.EndedRest.{not-left, expect-read}
 use Rattle.text_emit_expr.proofs.EndsLaws.{and-false, Refused, refused-ends, ends-lower, ends-put, put-more}
-use Rattle.text_emit_expr.proofs.PartLaws.{same-tree, same-left, Came, came, then-came}
+use Rattle.text_emit_expr.proofs.PartLaws.{same-tree, same-left, ReadsBoth, both-read, then-both}
 
 -- What is left
 
@@ -144,7 +144,7 @@ module _ (text scope : List ℕ) (n at : ℕ) (code : List ℕ) (count : ℕ) (c
   pub argument-ends : (a : Answer) → After scopes sc text code₁ r a
       → Ends text (suc at) count code (parametersRest scopes sc (tokensAt text at)) a
   argument-ends a after d us q =
-      of (then-came (exprFrom scopes (tokensAt text at))
+      of (then-both (exprFrom scopes (tokensAt text at))
       (λ e us. prefixed (codeBy placeOf sc e) (argumentRest scopes sc us)) d us
       (sym (first-argument scopes sc (tokensAt text at)) ∙ q))
     where
@@ -171,10 +171,10 @@ module _ (text scope : List ℕ) (n at : ℕ) (code : List ℕ) (count : ℕ) (c
           (ap (λ (x : Bool). leb (count + length c) 4096 && x) (sym (numbers-fit placeOf sc e)) ∙ sym (m .judged) ∙ b))
           d us g
 
-      of : Came (exprFrom scopes (tokensAt text at))
+      of : ReadsBoth (exprFrom scopes (tokensAt text at))
           (λ e us. prefixed (codeBy placeOf sc e) (argumentRest scopes sc us)) d us
           → Outcome text (suc at) count code d us a
-      of (came e vs p g) = by e vs (emission le scopes sc pl e vs p) g (r .ok) refl
+      of (both-read e vs p g) = by e vs (emission le scopes sc pl e vs p) g (r .ok) refl
 
 -- every answer from after the argument r is one from the first argument's beginning
 abbrev pub Continued : List ℕ → List ℕ → ℕ → ℕ → List ℕ → ℕ → List ℕ → EmitAt → Type 0

@@ -28,7 +28,7 @@ use Rattle.text_emit_expr.specs.declared.state.StateAt.{StateAt}
 use Rattle.text_emit_expr.proofs.StackLaws.{frames-none, frames-top, frames-unclosed, top-entry}
 use Rattle.text_emit_expr.proofs.EndedRest.{not-left, operator-rest, whole-ended, other-waits, put-waits, bracket-closes, recv-closes, call-closes, call-goes-on, bracket-open, recv-open, call-open}
 use Rattle.text_emit_expr.proofs.StateLaws.{restFrom, same-leads, pop-leads, gone-stands, pop-stands}
-use Rattle.text_emit_expr.proofs.FlushLaws.{Topped, topped, fits-other, leads-then}
+use Rattle.text_emit_expr.proofs.FlushLaws.{HasTop, has-top, fits-other, leads-then}
 use Rattle.text_emit_expr.proofs.StepLaws.{phase-whole, phase-ended, Whenever, push-steps, same-steps}
 
 -- Operators by the kinds of their tokens
@@ -284,8 +284,8 @@ module _ (text scope : List ℕ) (n : ℕ) (p code : List ℕ) (s : StateAt) (t 
   close-pop code' s' two e which m =
       let pass : Passed text (s .at) (t .end) = passed-by 20 e (λ g. omega arith) in
       let on : s .at < t .end = pass .onward in
-      let some : Topped p s =
-      topped p s (λ z. absurd (⊎-elim (λ q. omega (arith, q, z)) (λ q. omega (arith, q, z)) which)) in
+      let some : HasTop p s =
+      has-top p s (λ z. absurd (⊎-elim (λ q. omega (arith, q, z)) (λ q. omega (arith, q, z)) which)) in
       record {
         stands = λ st. pop-stands text p s st code code' s' 1 (t .end) m (some .some) (some .closed) (omega arith)
             (pass .within);
@@ -349,7 +349,7 @@ module _ (text scope : List ℕ) (n : ℕ) (p code : List ℕ) (s : StateAt) (t 
   comma-steps two e a =
       let pass : Passed text (s .at) (t .end) = passed-by 25 e (λ g. omega arith) in
       let on : s .at < t .end = pass .onward in
-      let some : Topped p s = topped p s (λ z. omega (arith, a, z)) in
+      let some : HasTop p s = has-top p s (λ z. omega (arith, a, z)) in
       let frames : k ≡ waiting 12 argument ∷ below =
       top-frames (some .closed) (some .some)
       ∙ ap (λ (o : ℕ). waiting o argument ∷ below) (sym (some .op) ∙ a) in
@@ -364,8 +364,8 @@ module _ (text scope : List ℕ) (n : ℕ) (p code : List ℕ) (s : StateAt) (t 
   -- PUT of the assignment that is open innermost, before an operator
   module _ (code' : List ℕ) (s' : StateAt) (two : s .phase ≡ 2) (four : topOf p s ≡ 4)
       (m : Pop p code s 1 (s .at) code' s') where
-    put-topped : Topped p s
-    put-topped = topped p s (λ z. omega (arith, four, z))
+    put-topped : HasTop p s
+    put-topped = has-top p s (λ z. omega (arith, four, z))
 
     pub put-stands : Stands text scope n p code s p code' s'
     put-stands st =
@@ -493,10 +493,10 @@ comma-not k o i e q y z = clash (sym (ap (λ (m : ℕ). eqb m 25 && eqb o 12) z
 
 pub topped-some : (p : List ℕ) (s : StateAt) → (topOf p s ≡ 12) ⊎ (topOf p s ≡ 16) → 0 < s .entries
 topped-some p s w =
-    topped p s (λ z. absurd (⊎-elim (λ q. omega (arith, q, z)) (λ q. omega (arith, q, z)) w)) .some
+    has-top p s (λ z. absurd (⊎-elim (λ q. omega (arith, q, z)) (λ q. omega (arith, q, z)) w)) .some
 
 pub put-some : (p : List ℕ) (s : StateAt) → topOf p s ≡ 4 → 0 < s .entries
-put-some p s e = topped p s (λ z. omega (arith, e, z)) .some
+put-some p s e = has-top p s (λ z. omega (arith, e, z)) .some
 
 pub flush-of : (p code : List ℕ) (s z : StateAt) {puts : Bool} {code₁ : List ℕ} {e : StateAt} → z ≡ gone s 2 (s .at)
     → Flush p code z puts code₁ e → Flush p code (gone s 2 (s .at)) puts code₁ e

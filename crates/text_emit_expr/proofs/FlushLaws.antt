@@ -23,13 +23,13 @@ use Rattle.text_emit_expr.proofs.EndedRest.{operator-waits, put-waits, 
 use Rattle.text_emit_expr.proofs.StateLaws.{pop-leads, pop-stands}
 
 -- an entry is on top, with no bracket open above it
-pub record Topped (p : List ℕ) (s : StateAt) : Type 0 where
+pub record HasTop (p : List ℕ) (s : StateAt) : Type 0 where
   pub closed : s .unclosed ≡ 0
   pub some : 0 < s .entries
   pub op : topOf p s ≡ getD p (3 * (s .entries - 1)) 0
 
-pub topped : (p : List ℕ) (s : StateAt) → (topOf p s ≡ 0 → ⊥) → Topped p s
-topped p s f =
+pub has-top : (p : List ℕ) (s : StateAt) → (topOf p s ≡ 0 → ⊥) → HasTop p s
+has-top p s f =
     let closed : s .unclosed ≡ 0 =
     ⊎-elim (λ e. absurd (f (sym (top-bracket p s (ltb-true 0 (s .unclosed) e)))))
     (λ e. (let h : s .unclosed ≤ 0 = ltb-false 0 (s .unclosed) e in omega arith)) (decide (ltb 0 (s .unclosed))) in
@@ -61,20 +61,20 @@ pub leads-then : (scopes : Scopes) (sc : Scope) (text p code : List ℕ) (s : St
 leads-then scopes sc text p code s p₁ code₁ s₁ p₂ code₂ s₂ f g r h = f r (g r h)
 
 -- what is written so far
-pub record Going (p code : List ℕ) (s : StateAt) (puts : Bool) (code' : List ℕ) (t : StateAt) : Type 0 where
+pub record FlushSoFar (p code : List ℕ) (s : StateAt) (puts : Bool) (code' : List ℕ) (t : StateAt) : Type 0 where
   pub stands : (text : List ℕ) → Standing text p s → Standing text p t
   pub leads : (scopes : Scopes) (sc : Scope) (text : List ℕ)
       → (puts ≡ true → operatorAt (tokensAt text (s .at)) ≡ none) → Leads scopes sc text p code s p code' t
   pub at : t .at ≡ s .at
 
 module _ (p code : List ℕ) (s : StateAt) (puts : Bool) where
-  pub going-begun : Going p code s puts code s
+  pub going-begun : FlushSoFar p code s puts code s
   going-begun = record { stands = λ text h. h; leads = λ scopes sc text n r h. h; at = refl }
 
-  module _ (code₁ : List ℕ) (t : StateAt) (g : Going p code s puts code₁ t) (two : t .phase ≡ 2)
+  module _ (code₁ : List ℕ) (t : StateAt) (g : FlushSoFar p code s puts code₁ t) (two : t .phase ≡ 2)
       (more : goes (topOf p t) puts ≡ true) where
-    going-topped : Topped p t
-    going-topped = topped p t (λ e. passes (sym (ap (λ (o : ℕ). goes o puts) e) ∙ more))
+    going-topped : HasTop p t
+    going-topped = has-top p t (λ e. passes (sym (ap (λ (o : ℕ). goes o puts) e) ∙ more))
 
     pub going-some : 0 < t .entries
     going-some = going-topped .some
@@ -103,7 +103,7 @@ module _ (p code : List ℕ) (s : StateAt) (puts : Bool) where
     op-fits (inl le) = fits-other o a (λ e. omega arith)
     op-fits (inr (e, q)) = fits-other o a (λ f. omega arith)
 
-    pub going-on : (code₂ : List ℕ) (u : StateAt) → Pop p code₁ t 2 (t .at) code₂ u → Going p code s puts code₂ u
+    pub going-on : (code₂ : List ℕ) (u : StateAt) → Pop p code₁ t 2 (t .at) code₂ u → FlushSoFar p code s puts code₂ u
     unfolding restOf
     going-on code₂ u w = record {
       stands = λ text h.
@@ -133,10 +133,10 @@ module _ (p code : List ℕ) (s : StateAt) (puts : Bool) where
     going-phase code₂ u (popped h e w) f = (ap (λ (x : StateAt). x .phase) e, ap (λ (x : StateAt). x .entries) e)
     going-phase code₂ u (no-place h e) f = absurd (f (ap (λ (x : StateAt). x .phase) e))
 
-  pub flush-full : (code₁ : List ℕ) (t : StateAt) → Going p code s puts code₁ t → t .phase ≡ 4
+  pub flush-full : (code₁ : List ℕ) (t : StateAt) → FlushSoFar p code s puts code₁ t → t .phase ≡ 4
       → Flush p code s puts code₁ t
   flush-full code₁ t g e = record { stands = g .stands; leads = g .leads; phase = inl e; at = g .at }
 
-  pub flush-done : (code₁ : List ℕ) (t : StateAt) → Going p code s puts code₁ t → t .phase ≡ 2
+  pub flush-done : (code₁ : List ℕ) (t : StateAt) → FlushSoFar p code s puts code₁ t → t .phase ≡ 2
       → goes (topOf p t) puts ≡ false → Flush p code s puts code₁ t
   flush-done code₁ t g e f = record { stands = g .stands; leads = g .leads; phase = inr (e, f); at = g .at }

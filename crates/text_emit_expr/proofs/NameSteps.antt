@@ -28,7 +28,7 @@ use Rattle.text_emit_expr.proofs.EndedRest.{not-left, expect-read}
 use Rattle.text_emit_expr.proofs.EndsLaws.{Refused, refused-ends, full-refused, ends-lower, ends-put}
 use Rattle.text_emit_expr.proofs.StateLaws.{gave-up-no, emit-stands}
 use Rattle.text_emit_expr.proofs.FlushLaws.{fits-other}
-use Rattle.text_emit_expr.proofs.PartLaws.{Came, came, then-came}
+use Rattle.text_emit_expr.proofs.PartLaws.{ReadsBoth, both-read, then-both}
 use Rattle.text_emit_expr.proofs.StepLaws.{lowest-least, emit-steps, push-steps, give-up-steps, stuck-steps}
 use Rattle.text_emit_expr.proofs.OperandLaws.{x, kind-of, pass-of, here, whole-at, name-spelt, name-place}
 
@@ -197,16 +197,16 @@ module _ (text scope : List ℕ) (n : ℕ) (p code : List ℕ) (s : StateAt) (t 
     measured-left scopes sc pl le c vs q =
         let left = at-here scopes sc ∙ measure-rest scopes sc j us (name-kind 9 e) in
         left ∙ of (passed 9 e (λ g. omega arith))
-        (then-came (measuredName (rest us))
+        (then-both (measuredName (rest us))
         (λ q us. prefixed (GET (slotOf sc q) ∷ MEAS ∷ []) (wholeRest scopes sc j us)) c vs (sym left ∙ q))
       where
         of : Passed text (s .at) (t .end)
-            → Came (measuredName (rest us))
+            → ReadsBoth (measuredName (rest us))
             (λ q us. prefixed (GET (slotOf sc q) ∷ MEAS ∷ []) (wholeRest scopes sc j us)) c vs
             → andThen (measuredName (rest us))
             (λ q us. prefixed (GET (slotOf sc q) ∷ MEAS ∷ []) (wholeRest scopes sc j us))
             ≡ prefixed both (wholeRest scopes sc j (tokensAt text at))
-        of pass (came q ws a b) =
+        of pass (both-read q ws a b) =
             let r = up q ws (ap measuredName (sym (pass .after)) ∙ a) in
             ap (λ m. andThen m (λ q us. prefixed (GET (slotOf sc q) ∷ MEAS ∷ []) (wholeRest scopes sc j us))) a
             ∙ ap (λ (i : ℕ). prefixed (GET i ∷ MEAS ∷ []) (wholeRest scopes sc j ws))

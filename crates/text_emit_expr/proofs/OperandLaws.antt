@@ -29,7 +29,7 @@ use Rattle.text_emit_expr.proofs.EndedRest.{not-left}
 use Rattle.text_emit_expr.proofs.EndsLaws.{Refused, large-refused}
 use Rattle.text_emit_expr.proofs.StateLaws.{restFrom}
 use Rattle.text_emit_expr.proofs.FlushLaws.{fits-other}
-use Rattle.text_emit_expr.proofs.PartLaws.{token-is, Came, came, then-came}
+use Rattle.text_emit_expr.proofs.PartLaws.{token-is, ReadsBoth, both-read, then-both}
 use Rattle.text_emit_expr.proofs.StepLaws.{phase-operand, emit-steps, give-up-steps, stuck-steps, bracket-steps}
 
 -- numbers up to 32767 are kept apart
@@ -157,15 +157,15 @@ module _ (text scope : List ℕ) (n : ℕ) (p code : List ℕ) (s : StateAt) (t 
           (let left = here scopes sc
               ∙ new-rest scopes sc k ts (is-new (first ts) ∙ ap (λ (j : ℕ). eqb j 8) (kind-of 8 e)) in
               left ∙ of scopes sc pass
-              (then-came (allocation (rest ts)) (λ e us. prefixed (codeOf scopes sc e) (endedRest scopes sc k us)) d us
+              (then-both (allocation (rest ts)) (λ e us. prefixed (codeOf scopes sc e) (endedRest scopes sc k us)) d us
               (sym left ∙ q))),
         ))
       where
         of : {d : List Instruction} {us : List Token} (scopes : Scopes) (sc : Scope) → Passed text (s .at) (t .end)
-            → Came (allocation (rest ts)) (λ e us. prefixed (codeOf scopes sc e) (endedRest scopes sc k us)) d us
+            → ReadsBoth (allocation (rest ts)) (λ e us. prefixed (codeOf scopes sc e) (endedRest scopes sc k us)) d us
             → andThen (allocation (rest ts)) (λ e us. prefixed (codeOf scopes sc e) (endedRest scopes sc k us))
             ≡ prefixed (instruction op argument ∷ []) (restOf scopes sc 2 k (tokensAt text at))
-        of scopes sc pass (came y vs a b) =
+        of scopes sc pass (both-read y vs a b) =
             let r = up y vs (ap allocation (sym (pass .after)) ∙ a) in
             ap (λ m. andThen m (λ e us. prefixed (codeOf scopes sc e) (endedRest scopes sc k us))) a
             ∙ ap (λ c. prefixed c (endedRest scopes sc k vs)) (r .1 sc)

@@ -45,14 +45,15 @@ unfolding leftOr
 same-left a b us vs e = ap (leftOr us) e
 
 -- a reading and then another come to something: both do
-pub data Came {A B : Type 0} (m : Reading A) (f : A → List Token → Reading B) (b : B) (vs : List Token) : Type 0 where
-  came : (a : A) (us : List Token) → m ≡ read a us → f a us ≡ read b vs → Came m f b vs
+pub data ReadsBoth {A B : Type 0} (m : Reading A) (f : A → List Token → Reading B) (b : B) (vs : List Token) : Type 0
+  where
+    both-read : (a : A) (us : List Token) → m ≡ read a us → f a us ≡ read b vs → ReadsBoth m f b vs
 
-pub then-came : {A B : Type 0} (m : Reading A) (f : A → List Token → Reading B) (b : B) (vs : List Token)
-    → andThen m f ≡ read b vs → Came m f b vs
+pub then-both : {A B : Type 0} (m : Reading A) (f : A → List Token → Reading B) (b : B) (vs : List Token)
+    → andThen m f ≡ read b vs → ReadsBoth m f b vs
 unfolding andThen
-then-came (read a us) f b vs e = came a us refl e
-then-came (leaves i) f b vs e = absurd (not-left refl e)
+then-both (read a us) f b vs e = both-read a us refl e
+then-both (leaves i) f b vs e = absurd (not-left refl e)
 
 -- The next token, which must stand
 
@@ -174,14 +175,15 @@ module _ (text : List ℕ) (i : ℕ) where
 
 -- new T ( )
 
--- what is said of a reading that has come to something
-pub data Said (text : List ℕ) (low : ℕ) {A : Type 0} (P : A → Type 0) (at : ℕ) (a : A) (us : List Token) : Type 0 where
-  said : us ≡ tokensAt text at → low ≤ at → P a → Said text low P at a us
+-- what holds of a reading that has come to something
+pub data PartAt (text : List ℕ) (low : ℕ) {A : Type 0} (P : A → Type 0) (at : ℕ) (a : A) (us : List Token) : Type 0
+  where
+    part-at : us ≡ tokensAt text at → low ≤ at → P a → PartAt text low P at a us
 
 pub says-read : (text : List ℕ) (low : ℕ) {A : Type 0} (P : A → Type 0) (ok : Bool) (at : ℕ) (m : Reading A) (a : A)
-    (us : List Token) → m ≡ read a us → Says text low P ok at m → Said text low P at a us
+    (us : List Token) → m ≡ read a us → Says text low P ok at m → PartAt text low P at a us
 says-read text low P ok at (read b vs) a us e (reads o u l w p) =
-    said (sym (same-left b a vs us e) ∙ u) l (subst P (same-tree b a vs us e) p)
+    part-at (sym (same-left b a vs us e) ∙ u) l (subst P (same-tree b a vs us e) p)
 says-read text low P ok at (leaves j) a us e (leaves-at o q) = absurd (not-left refl e)
 
 module _ (text : List ℕ) (i : ℕ) (t : TokenAt) (n : NextToken text i t) where
@@ -217,19 +219,19 @@ module _ (text : List ℕ) (i : ℕ) (t : TokenAt) (n : NextToken text i t) wher
   carried-up-to k f ok code place at e not-end is-so says b x us h =
       let pass : Passed text i (t .end) = stands k e not-end in
       let m : Reading Carried = bracketed (tokensAt text (t .end)) (λ c. c) in
-      outer pass (then-came (bracketed (tokensAt text (t .end)) f) allocated x us
+      outer pass (then-both (bracketed (tokensAt text (t .end)) f) allocated x us
       (ap (λ us. andThen (bracketed us f) allocated) (sym (pass .after)) ∙ sym is-so ∙ h))
     where
       inner : Passed text i (t .end) → (y : Expr) (vs : List Token) → allocated y vs ≡ read x us
-          → Came (bracketed (tokensAt text (t .end)) (λ c. c)) (λ c ws. read (f c) ws) y vs
+          → ReadsBoth (bracketed (tokensAt text (t .end)) (λ c. c)) (λ c ws. read (f c) ws) y vs
           → (c : Carried) × (UpTo text i at us × (x ≡ f c) × (code ≡ carriedCode c))
-      inner pass y vs g (came c ws p q) =
+      inner pass y vs g (both-read c ws p q) =
           of (says-read text (suc (t .end)) (λ c. code ≡ carriedCode c) ok place
           (bracketed (tokensAt text (t .end)) (λ c. c)) c ws p says)
         where
-          of : Said text (suc (t .end)) (λ c. code ≡ carriedCode c) place c ws
+          of : PartAt text (suc (t .end)) (λ c. code ≡ carriedCode c) place c ws
               → (c : Carried) × (UpTo text i at us × (x ≡ f c) × (code ≡ carriedCode c))
-          of (said l le w) =
+          of (part-at l le w) =
               let same : allocated (f c) (tokensAt text place) ≡ read x us =
               ap (allocated (f c)) (sym l) ∙ ap (λ z. allocated z ws) (same-tree (f c) y ws vs q)
               ∙ ap (allocated y) (same-left (f c) y ws vs q) ∙ g in
@@ -239,11 +241,11 @@ module _ (text : List ℕ) (i : ℕ) (t : TokenAt) (n : NextToken text i t) wher
               let first-token : i < t .end = pass .onward in
               (c, (record { left = up .left; onward = omega arith; inside = up .inside }, r .1, w))
 
-      outer : Passed text i (t .end) → Came (bracketed (tokensAt text (t .end)) f) allocated x us
+      outer : Passed text i (t .end) → ReadsBoth (bracketed (tokensAt text (t .end)) f) allocated x us
           → (c : Carried) × (UpTo text i at us × (x ≡ f c) × (code ≡ carriedCode c))
-      outer pass (came y vs p g) =
+      outer pass (both-read y vs p g) =
           inner pass y vs g
-          (then-came (bracketed (tokensAt text (t .end)) (λ c. c)) (λ c ws. read (f c) ws) y vs
+          (then-both (bracketed (tokensAt text (t .end)) (λ c. c)) (λ c ws. read (f c) ws) y vs
           (sym (bracketed-of f (tokensAt text (t .end))) ∙ p))
 
   pub channel-up-to : (ok : Bool) (code place at : ℕ) → t .kind ≡ 4
@@ -275,7 +277,7 @@ module _ (text : List ℕ) (i : ℕ) (t : TokenAt) (n : NextToken text i t) wher
       (us : List Token) → Passed text i (t .end) → andThen (bracketed (rest ts) f) allocated ≡ read e us
       → Says text low P ok place (bracketed (tokensAt text (t .end)) (λ c. c)) → ok ≡ true
   bracketed-ok P low f ok place e us pass h says =
-      outer (then-came (bracketed (tokensAt text (t .end)) f) allocated e us
+      outer (then-both (bracketed (tokensAt text (t .end)) f) allocated e us
       (ap (λ us. andThen (bracketed us f) allocated) (sym (pass .after)) ∙ h))
     where
       ok-of : (m : Reading Carried) (c : Carried) (vs : List Token) → m ≡ read c vs → Says text low P ok place m
@@ -283,13 +285,13 @@ module _ (text : List ℕ) (i : ℕ) (t : TokenAt) (n : NextToken text i t) wher
       ok-of (read b ws) c vs q (reads o u l w p) = o
       ok-of (leaves j) c vs q (leaves-at o p) = absurd (not-left refl q)
 
-      outer : Came (bracketed (tokensAt text (t .end)) f) allocated e us → ok ≡ true
-      outer (came y vs p g) =
-          inner (then-came (bracketed (tokensAt text (t .end)) (λ c. c)) (λ c ws. read (f c) ws) y vs
+      outer : ReadsBoth (bracketed (tokensAt text (t .end)) f) allocated e us → ok ≡ true
+      outer (both-read y vs p g) =
+          inner (then-both (bracketed (tokensAt text (t .end)) (λ c. c)) (λ c ws. read (f c) ws) y vs
           (sym (bracketed-of f (tokensAt text (t .end))) ∙ p))
         where
-          inner : Came (bracketed (tokensAt text (t .end)) (λ c. c)) (λ c ws. read (f c) ws) y vs → ok ≡ true
-          inner (came c ws q r) = ok-of (bracketed (tokensAt text (t .end)) (λ c. c)) c ws q says
+          inner : ReadsBoth (bracketed (tokensAt text (t .end)) (λ c. c)) (λ c ws. read (f c) ws) y vs → ok ≡ true
+          inner (both-read c ws q r) = ok-of (bracketed (tokensAt text (t .end)) (λ c. c)) c ws q says
 
   pub bad-up-to : (ok : Bool) (code place op argument at : ℕ) → (t .kind ≡ 3 → ⊥) → ok ≡ false
       → Says text (suc (t .end)) (λ c. code ≡ carriedCode c) ok place (bracketed (tokensAt text (t .end)) (λ c. c))

@@ -1,5 +1,5 @@
 -- `run_entries` goes from one burst to the next: what stands before each is `Before`, and where it has stopped,
--- `Going`.
+-- `BurstState`.
 use Prim.Native.Nat.{ℕ, _+_, _-_, _≤_}
 use mathlib.Core.Path.{_≡_, refl, sym, _∙_, ap}
 use mathlib.Core.List.{List, [], _++_}

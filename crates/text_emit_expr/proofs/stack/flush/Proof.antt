@@ -4,14 +4,14 @@ use Prim.Native.Nat.{ℕ, _-_, _≤_, _<_}
 use mathlib.Core.Path.{_≡_, refl, sym, ap, _∙_}
 use lib.ListN.{length}
 use Rattle.text_emit_expr.specs.EndsCode.{topOf, goes}
-use Rattle.text_emit_expr.proofs.FlushLaws.{Going, going-begun, going-some, going-on, going-phase, flush-full, flush-done}
+use Rattle.text_emit_expr.proofs.FlushLaws.{FlushSoFar, going-begun, going-some, going-on, going-phase, flush-full, flush-done}
 use borrow.Author.Needs.{needs}
 use Rattle.text_emit_expr.proofs.stack.flush.Statement.{statement}
 use Rattle.text_emit_expr.proofs.stack.flush.Tie as tie
 
 abbrev Inv-loop : tie.InvT-loop
 Inv-loop pending code₀ puts t₀ first more₀ code t more =
-    Going pending code₀ t₀ puts code t × (t .phase ≡ 2) × (t .entries ≤ 4096)
+    FlushSoFar pending code₀ t₀ puts code t × (t .phase ≡ 2) × (t .entries ≤ 4096)
     × (more ≡ goes (topOf pending t) puts) × (length code ≡ length code₀)
 
 abbrev μ-loop : tie.MeasureT-loop
