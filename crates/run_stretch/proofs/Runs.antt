@@ -18,10 +18,16 @@ use Rattle.run_ops.proofs.Returns.{step-acts}
 use Rattle.run_parts.specs.PartsCode.{partAt, partOf, withPart}
 use Rattle.run_parts.proofs.Lifted.{lifted-words, part-lent}
 use Rattle.run_parts.proofs.Apart.{part-long}
-use Rattle.run_stretch.specs.declared.cursor.Cursor.{Cursor}
-use Rattle.run_stretch.specs.StretchCode.{headWith, laid, cursor, HeadFits, CursorStep, Does, Halts, PlainSteps, begins, goes-on}
-use Rattle.run_stretch.proofs.Laid.{head-laid, laid-first, steady-at}
-use Rattle.run_stretch.proofs.Shapes.{goes-as}
+use Rattle.run_cursor.specs.declared.cursor.Cursor.{Cursor}
+use Rattle.run_cursor.specs.CursorCode.{headWith, laid, cursor, HeadFits, CursorStep}
+use Rattle.run_frames.specs.FramesCode.{Does}
+use Rattle.run_stretch.specs.StretchCode.{Halts, PlainSteps, begins, goes-on}
+use Rattle.run_cursor.proofs.Laid.{head-laid, laid-first, steady-at}
+use Rattle.run_cursor.proofs.Shapes.{goes-as}
+
+-- the op by its number
+pub by-op : (p w : List ℕ) (h : Head) (a : ℕ) {op n : ℕ} → op ≡ n → actOp p w h op a ≡ actOp p w h n a
+by-op p w h a e = ap (λ (o : ℕ). actOp p w h o a) e
 
 -- the step of a process that runs is its op's
 pub steps-on : (p : List ℕ) (start : ℕ) {h : Head} {w : List ℕ} {c : Cursor} {w′ : List ℕ} {r : Cursor} {op a : ℕ} →

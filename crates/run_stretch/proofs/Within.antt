@@ -137,12 +137,3 @@ module _ {p : List ℕ} (k : Kept p) {m : ℕ} (l : m < getD p 0 0) where
     where
       length-there : getD p (2 + 2 * m + 1) 0 ≡ getD p (3 + 2 * m) 0
       length-there = ap (λ (j : ℕ). getD p j 0) {x = 2 + 2 * m + 1} {y = 3 + 2 * m} (omega arith)
-
--- a method of the table: its two words and the first two of its row
-module _ {p : List ℕ} (k : Kept p) {m : ℕ} (l : m < methods p) where
-  pub pair-there : 3 + 2 * m < length p
-  pair-there = omega (arith, l, k .sizes .words)
-
-  pub row-words : 2 + 2 * getD p 0 0 + 18 * m + 1 < length p
-  unfolding methods word
-  row-words = omega (arith, l, k .sizes .words)

@@ -3,8 +3,9 @@ use mathlib.Core.Path.{refl, sym, _∙_, ap}
 use Rattle.run_store.specs.StoreCode.{headOf}
 use native.Mathlib.Omega.{arith}
 use Rattle.table.specs.Table.{word}
+use Rattle.run_frames.proofs.Calls.{was-left}
 use Rattle.run_stretch.proofs.Within.{words-there, op-kept, at-place, method-of-call}
-use Rattle.run_stretch.proofs.Changes.{calls-step, returns-step, taken-from, was-left}
+use Rattle.run_stretch.proofs.Changes.{calls-step, returns-step, taken-from}
 use borrow.Author.Needs.{needs}
 use Rattle.run_stretch.proofs.stretch.change_frame.Statement.{statement}
 use Rattle.run_stretch.proofs.stretch.change_frame.Tie as tie

@@ -4,7 +4,8 @@ use mathlib.Core.Path.{_≡_, refl, sym, _∙_, subst}
 use mathlib.Core.Bool.{true≢false}
 use lib.ListN.{length}
 use Rattle.table.proofs.Owners.{Inside}
-use Rattle.run_stretch.specs.StretchCode.{laid, HeadFits, PlainSteps, begins}
+use Rattle.run_cursor.specs.CursorCode.{laid, HeadFits}
+use Rattle.run_stretch.specs.StretchCode.{PlainSteps, begins}
 use Rattle.run_stretch.proofs.Runs.{ran-same, ran-step, frame-ends, halted-place}
 use borrow.Author.Needs.{needs}
 use Rattle.run_stretch.proofs.stretch.run_frame.Statement.{statement}

@@ -4,7 +4,7 @@ use mathlib.Core.Bool.{true≢false}
 use native.Mathlib.Omega.{arith}
 use lib.ListN.{getD}
 use Rattle.run_stretch.specs.StretchCode.{begins}
-use Rattle.run_stretch.proofs.Laid.{steady-first}
+use Rattle.run_cursor.proofs.Laid.{steady-first}
 use Rattle.run_stretch.proofs.Runs.{frames-fit, head-fits, frames-read, place-fits}
 use borrow.Author.Needs.{needs}
 use Rattle.run_stretch.proofs.stretch.run_top.Statement.{statement}

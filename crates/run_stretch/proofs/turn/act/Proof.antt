@@ -5,9 +5,10 @@ use mathlib.Core.Logic.{⊎-elim}
 use Rattle.run_values.specs.ValuesCode.{afterStep, intVal, pushOn, intOp, boolOp, clearOp}
 use Rattle.run_values.specs.declared.steps.StepResult.the-variants.{WentOn}
 use Rattle.run_ops.specs.OpsCode.{opFunctions, actOp}
-use Rattle.run_stretch.specs.StretchCode.{headWith, laid}
-use Rattle.run_stretch.proofs.Laid.{halts}
-use Rattle.run_stretch.proofs.Shapes.{goes-in, by-op}
+use Rattle.run_cursor.specs.CursorCode.{headWith, laid}
+use Rattle.run_cursor.proofs.Laid.{halts}
+use Rattle.run_cursor.proofs.Shapes.{goes-in}
+use Rattle.run_stretch.proofs.Runs.{by-op}
 use Rattle.run_stretch.proofs.Within.{steps-inside, lands-inside, slot-of-get, slot-of-put, slot-of-clear}
 use borrow.Author.Needs.{needs}
 use Rattle.run_stretch.proofs.turn.act.Statement.{statement}

@@ -1,0 +1,4 @@
+pub mod Laid
+pub mod Shapes
+pub mod Topmost
+pub mod Arms
