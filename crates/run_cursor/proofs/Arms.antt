@@ -11,9 +11,12 @@ use Rattle.run_store.specs.declared.values.Val.{Val}
 use Rattle.run_store.specs.declared.head.Head.{Head}
 use Rattle.run_store.specs.StoreCode.{valueAt, slotAt, topAt}
 use Rattle.table.specs.Table.{offsetOf}
-use Rattle.run_values.specs.ValuesCode.{AfterStep, afterStep, unlessEmpty, pushOn, dropTop, dropTo, targetOf, emptyTwo, twoOp, getOp, jfalseOp}
+use Rattle.run_values.specs.ValuesCode.{AfterStep, afterStep, unlessEmpty, pushOn, dropTop, dropTo, emptyTwo}
+use Rattle.run_moves.specs.MovesCode.{targetOf, getOp, jfalseOp}
+use Rattle.run_numbers.specs.NumbersCode.{twoOp}
 use Rattle.run_values.specs.declared.steps.StepResult.the-variants.{WentOn}
-use Rattle.run_values.proofs.Returns.{full-goes, two-go}
+use Rattle.run_values.proofs.Returns.{full-goes}
+use Rattle.run_numbers.proofs.Returns.{two-go}
 use Rattle.run_cursor.specs.declared.cursor.Cursor.{Cursor}
 use Rattle.run_cursor.specs.declared.cursor.Top.{Top}
 use Rattle.run_cursor.specs.declared.cursor.Two.{Two}

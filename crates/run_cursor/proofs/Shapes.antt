@@ -8,7 +8,8 @@ use Rattle.run_store.specs.declared.values.Val.{Val}
 use Rattle.run_store.specs.declared.head.Head.{Head}
 use Rattle.run_store.specs.StoreCode.{putValue, putTop, slotAt, topAt, movedTo, stepped, pushed, popped}
 use Rattle.table.specs.Table.{offsetOf}
-use Rattle.run_values.specs.ValuesCode.{AfterStep, afterStep, emptyVal, pushOn, onTop, dropTop, dropTo, overTwo, inSlot, targetOf, jumpOp}
+use Rattle.run_values.specs.ValuesCode.{AfterStep, afterStep, emptyVal, pushOn, onTop, dropTop, dropTo, overTwo, inSlot}
+use Rattle.run_moves.specs.MovesCode.{targetOf, jumpOp}
 use Rattle.run_values.specs.declared.steps.StepResult.the-variants.{WentOn}
 use Rattle.run_cursor.specs.declared.cursor.Cursor.{Cursor}
 use Rattle.run_cursor.specs.CursorCode.{headWith, laid, cursor, HeadFits, CursorStep, Only}

@@ -2,7 +2,7 @@
 ghost use mathlib.Core.Path.{_≡_};
 ghost use Prim.Native.Nat.{_+_, _<_};
 ghost use Rattle.table.specs.Table.{offsetOf};
-ghost use Rattle.run_values.specs.ValuesCode.{jumpOp, jfalseOp};
+ghost use Rattle.run_moves.specs.MovesCode.{jumpOp, jfalseOp};
 ghost use Rattle.run_cursor.specs.CursorCode.{headWith, laid, HeadFits, CursorStep, Only, OneOf};
 use super::cursor::Cursor;
 use super::cursor::read_top;

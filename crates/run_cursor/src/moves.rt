@@ -1,7 +1,8 @@
 // Values pushed, taken and stored. Each function does what its op does, or halts.
 ghost use mathlib.Core.Path.{_≡_};
 ghost use Prim.Native.Nat.{_+_, _<_, _≤_};
-ghost use Rattle.run_values.specs.ValuesCode.{afterStep, pushOn, onTop, dropTo, overTwo, inSlot, getOp, putOp, dropOp, endOp};
+ghost use Rattle.run_values.specs.ValuesCode.{afterStep, pushOn, onTop, dropTo, overTwo, inSlot};
+ghost use Rattle.run_moves.specs.MovesCode.{getOp, putOp, dropOp, endOp};
 ghost use Rattle.run_cursor.specs.CursorCode.{headWith, laid, HeadFits, CursorStep, Only};
 ghost use Rattle.run_values.specs.declared.steps.StepResult.the-variants.{WentOn};
 use super::cursor::Cursor;

@@ -1,16 +1,16 @@
 // ADD, SUB, EQ, LESS and NOT.
 ghost use mathlib.Core.Path.{_≡_};
 ghost use Prim.Native.Nat.{_+_, _<_, _≤_};
-ghost use Rattle.run_values.specs.ValuesCode.{resultOp, addOp, subOp, eqOp, lessOp, notOp};
+ghost use Rattle.run_numbers.specs.NumbersCode.{resultOp, addOp, subOp, eqOp, lessOp, notOp};
 ghost use Rattle.run_cursor.specs.CursorCode.{headWith, laid, HeadFits, CursorStep, Only};
 use super::cursor::Cursor;
 use super::cursor::read_top;
 use super::cursor::read_two;
 use super::moves::replace;
 use super::moves::replace_two;
+use run_numbers::numbers::bias;
+use run_numbers::numbers::flag;
 use run_store::head::Head;
-use run_values::numbers::bias;
-use run_values::numbers::flag;
 
 // The int whose number, moved up by 2^32, is s, in place of two operands.
 pub fn result(w: &mut [u32], h: Head, c: Cursor, s: u64) -> Cursor

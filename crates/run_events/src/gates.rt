@@ -15,8 +15,8 @@ use run_store::values::empty;
 use run_store::values::put_value;
 use run_store::values::value;
 use run_values::moves::discard;
-use run_values::numbers::number;
-use run_values::numbers::two_empty;
+use run_values::operands::number;
+use run_values::operands::two_empty;
 
 // The number of the value n below the next free one, as a line has it.
 pub fn qubit_no(w: &[u32], h: Head, n: u16) -> QubitNo

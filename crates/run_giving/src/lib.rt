@@ -12,7 +12,7 @@ use run_store::head::put_top;
 use run_store::head::read_head;
 use run_store::values::Val;
 use run_store::values::put;
-use run_values::jumps::discard_to;
+use run_values::moves::discard_to;
 use run_values::moves::replace;
 use table::words::word_at;
 

@@ -30,11 +30,13 @@ use Rattle.layout.proofs.Frames.{tagOf, numberOf}
 use Rattle.run_store.specs.declared.values.Val.{Val}
 use Rattle.run_store.specs.declared.head.Head.{Head}
 use Rattle.run_store.specs.StoreCode.{valueAt, slotAt, topAt, emptyDown}
-use Rattle.run_values.specs.ValuesCode.{AfterStep, afterStep, emptyVal, intVal, boolVal, unlessEmpty, pushOn, onTop, dropTop, dropTo, overTwo, inSlot, signExtended, getOp, putOp, dropOp, endOp, targetOf, jumpOp, jfalseOp, biased, resultOp, emptyTwo, twoOp, addOp, subOp, bit, eqOp, lessOp, notOp, intOp, boolOp, clearOp}
+use Rattle.run_values.specs.ValuesCode.{AfterStep, afterStep, emptyVal, intVal, boolVal, unlessEmpty, pushOn, onTop, dropTop, dropTo, overTwo, inSlot, emptyTwo}
+use Rattle.run_moves.specs.MovesCode.{signExtended, getOp, putOp, dropOp, endOp, targetOf, jumpOp, jfalseOp, intOp, boolOp, clearOp}
+use Rattle.run_numbers.specs.NumbersCode.{biased, resultOp, twoOp, addOp, subOp, bit, eqOp, lessOp, notOp}
 use Rattle.run_values.specs.declared.steps.StepResult.{StepResult}
 use Rattle.run_values.specs.declared.steps.StepResult.the-variants.{WentOn, NotRunning, AtNewQ, AtNewC, AtGate, AtMeas, AtLastRet, AtFork, AtSend, AtRecv, Empty, FrameBeyond8, OutOfRange}
 use Rattle.run_ops.specs.OpsCode.{opened, callOp, closed, handed, retOp, opFunctions, actOp, stepOp}
-use Rattle.run_values.proofs.Ints.{Shifted, sum-shifted, difference-shifted, less-same, words-same}
+use Rattle.run_numbers.proofs.Ints.{Shifted, sum-shifted, difference-shifted, less-same, words-same}
 use Rattle.run_ops.proofs.FramesOpened.{opened-words, closed-words, handed-words}
 use Rattle.run_store.proofs.Vals.{valOf}
 use Rattle.run_values.proofs.Places.{headIn, head-is, slot-read, top-read, push-words, slot-words, drop-words, drop-to-words, move-words, top-words, two-words}

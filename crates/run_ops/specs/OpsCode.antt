@@ -9,7 +9,9 @@ use Rattle.table.specs.Table.{offsetOf, returnOf, paramsOf, opAt, argAt}
 use Rattle.run_store.specs.declared.values.Val.{Val}
 use Rattle.run_store.specs.declared.head.Head.{Head}
 use Rattle.run_store.specs.StoreCode.{valueAt, putValue, headAt, headOf, putTop, topAt, stepped, pushed, lessBy, emptyDown, movedDown, clearedFrom}
-use Rattle.run_values.specs.ValuesCode.{AfterStep, afterStep, unlessEmpty, getOp, putOp, dropOp, endOp, jumpOp, jfalseOp, addOp, subOp, eqOp, lessOp, notOp, intOp, boolOp, clearOp}
+use Rattle.run_values.specs.ValuesCode.{AfterStep, afterStep, unlessEmpty}
+use Rattle.run_moves.specs.MovesCode.{getOp, putOp, dropOp, endOp, jumpOp, jfalseOp, intOp, boolOp, clearOp}
+use Rattle.run_numbers.specs.NumbersCode.{addOp, subOp, eqOp, lessOp, notOp}
 use Rattle.run_values.specs.declared.steps.StepResult.the-variants.{WentOn, NotRunning, AtNewQ, AtNewC, AtGate, AtMeas, AtLastRet, AtFork, AtSend, AtRecv, Empty, FrameBeyond8}
 use Rattle.run_values.specs.declared.steps.StepResult.{StepResult}
 

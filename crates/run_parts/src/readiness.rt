@@ -10,7 +10,7 @@ use run_store::values::Val;
 use run_store::values::empty;
 use run_store::values::get;
 use run_store::values::value;
-use run_values::numbers::two_empty;
+use run_values::operands::two_empty;
 use run_values::steps::StepResult;
 use run_values::steps::is_send;
 use table::words::word_at;

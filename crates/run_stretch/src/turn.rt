@@ -21,8 +21,8 @@ use run_cursor::numbers::eq;
 use run_cursor::numbers::less;
 use run_cursor::numbers::not;
 use run_cursor::numbers::sub;
+use run_moves::moves::extend;
 use run_store::head::Head;
-use run_values::moves::extend;
 
 // The op's function. An op that is not done here halts. All numbers below 32 have an arm, so that no test of the number
 // is compiled.

@@ -1,4 +1,3 @@
 pub mod Cases
 pub mod Returns
-pub mod Ints
 pub mod Places

@@ -1,7 +1,5 @@
-// The ops on values of the top frame, which leave the frames below it alone and write no line: values pushed, taken and
-// stored in slots, numbers, jumps. Each works over the process's part of the work store. A function that can fault
-// answers the fault and changes nothing.
-pub mod jumps;
+// What the ops on values of the top frame have in common: the answer of a step, operands read, and values pushed, taken
+// and stored, over the process's part of the work store.
 pub mod moves;
-pub mod numbers;
+pub mod operands;
 pub mod steps;

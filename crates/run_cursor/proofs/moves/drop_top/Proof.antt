@@ -2,7 +2,8 @@
 use mathlib.Core.Path.{refl, _∙_, ap}
 use Rattle.run_store.specs.declared.values.Val.{Val}
 use borrow.Author.Tests.{not-false}
-use Rattle.run_values.specs.ValuesCode.{afterStep, dropTop, dropOp}
+use Rattle.run_values.specs.ValuesCode.{afterStep, dropTop}
+use Rattle.run_moves.specs.MovesCode.{dropOp}
 use Rattle.run_values.specs.declared.steps.StepResult.the-variants.{WentOn}
 use Rattle.run_cursor.specs.CursorCode.{headWith, laid}
 use Rattle.run_cursor.proofs.Laid.{halts}

@@ -2,7 +2,8 @@
 use mathlib.Core.Path.{refl}
 use Rattle.run_store.specs.declared.values.Val.{Val}
 use borrow.Author.Tests.{not-false}
-use Rattle.run_values.specs.ValuesCode.{afterStep, inSlot, putOp}
+use Rattle.run_values.specs.ValuesCode.{afterStep, inSlot}
+use Rattle.run_moves.specs.MovesCode.{putOp}
 use Rattle.run_values.specs.declared.steps.StepResult.the-variants.{WentOn}
 use Rattle.run_cursor.specs.CursorCode.{headWith, laid}
 use Rattle.run_cursor.proofs.Laid.{halts}

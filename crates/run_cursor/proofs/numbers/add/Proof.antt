@@ -2,7 +2,7 @@
 use Prim.Native.Nat.{ℕ, _+_, _-_}
 use mathlib.Core.Path.{refl, sym, _∙_, ap, ap₂}
 use borrow.Author.Tests.{not-false}
-use Rattle.run_values.specs.ValuesCode.{biased, resultOp, addOp}
+use Rattle.run_numbers.specs.NumbersCode.{biased, resultOp, addOp}
 use Rattle.run_cursor.specs.CursorCode.{headWith, laid}
 use Rattle.run_cursor.proofs.Laid.{halts}
 use Rattle.run_cursor.proofs.Shapes.{goes-as}

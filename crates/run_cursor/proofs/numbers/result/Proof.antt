@@ -1,6 +1,6 @@
 -- `result` halts where the int is out of range.
 use mathlib.Core.Path.{refl, sym}
-use Rattle.run_values.proofs.Returns.{result-in}
+use Rattle.run_numbers.proofs.Returns.{result-in}
 use Rattle.run_cursor.specs.CursorCode.{headWith, laid}
 use Rattle.run_cursor.proofs.Laid.{halts}
 use Rattle.run_cursor.proofs.Shapes.{goes-as}

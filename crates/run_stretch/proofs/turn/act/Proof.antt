@@ -2,7 +2,8 @@
 use Prim.Native.Nat.{ℕ}
 use mathlib.Core.Path.{refl, sym, _∙_, ap}
 use mathlib.Core.Logic.{⊎-elim}
-use Rattle.run_values.specs.ValuesCode.{afterStep, intVal, pushOn, intOp, boolOp, clearOp}
+use Rattle.run_values.specs.ValuesCode.{afterStep, intVal, pushOn}
+use Rattle.run_moves.specs.MovesCode.{intOp, boolOp, clearOp}
 use Rattle.run_values.specs.declared.steps.StepResult.the-variants.{WentOn}
 use Rattle.run_ops.specs.OpsCode.{opFunctions, actOp}
 use Rattle.run_cursor.specs.CursorCode.{headWith, laid}
