@@ -21,13 +21,13 @@ use Rattle.text_expr.specs.PhasesCode.{operand, bare, over, closed, isOperator,
 use Rattle.text_expr.specs.LevelsCode.{assigned, opens, Action, stay, assigns, unassigns, opensLevel, closesLevel, nextArgument, astray, beyond, operandAction, action, phaseAfter, countAfter, levelsAfter}
 use Rattle.text_expr.proofs.Same.{expr-passes}
 use Rattle.text_expr.proofs.Notes.{Continues}
-use Rattle.text_pass.specs.EffectCode.{phaseIn, effectIn}
-use Rattle.text_pass.specs.WindowCode.{countsAfter, bracketsAfter, depthAfter, stopsOn, Window}
+use Rattle.text_effect.specs.EffectCode.{phaseIn, effectIn}
+use Rattle.text_window.specs.WindowCode.{countsAfter, bracketsAfter, depthAfter, stopsOn, Window}
 use Rattle.text_pass.specs.WalkCode.{State, begins, doing, after, Leads, Standing, answerOf}
-use Rattle.text_pass.specs.declared.phase.Phase.{Phase}
-use Rattle.text_pass.specs.declared.phase.Effect.{Effect}
-use Rattle.text_pass.specs.declared.phase.Effect.the-variants.{Stay, Assigns, Unassigns, OpensBracket, OpensCall, Closes, NextArgument, Astray, Beyond}
-use Rattle.text_pass.proofs.WindowLaws.{window-after}
+use Rattle.text_effect.specs.declared.phase.Phase.{Phase}
+use Rattle.text_effect.specs.declared.phase.Effect.{Effect}
+use Rattle.text_effect.specs.declared.phase.Effect.the-variants.{Stay, Assigns, Unassigns, OpensBracket, OpensCall, Closes, NextArgument, Astray, Beyond}
+use Rattle.text_window.proofs.WindowLaws.{window-after}
 use Rattle.text_pass.proofs.WalkLaws.{goes-passed, passFrom, pass-astray, pass-beyond, leads-on, leads-pass, leads-moved, few-open, few-levels, closes-one}
 
 -- The tokens from a place on end with the one that ends the text.

@@ -1,7 +1,5 @@
 pub mod MeasurementLaws
-pub mod EffectLaws
 pub mod RestLaws
-pub mod WindowLaws
 pub mod WalkLaws
 pub mod SeenLaws
 pub mod ExprLaws

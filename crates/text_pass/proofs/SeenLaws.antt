@@ -16,12 +16,12 @@ use Rattle.text_tokens.specs.KindsCode.{kindOf}
 use Rattle.text_tokens.proofs.KindTests.{is-comma}
 use Rattle.text_expr.specs.PhasesCode.{isOperator, operand}
 use Rattle.text_expr.specs.LevelsCode.{Level, Action, stay, closesLevel, nextArgument, astray, opensLevel, assigns, innermost, isOpen, endedAction, newAction, wholeAction, namedAction, action, levelOver}
-use Rattle.text_pass.specs.EffectCode.{nameAt, phaseIn, bracketIn, operatorKind}
-use Rattle.text_pass.specs.WindowCode.{cell, Window, Held, innermostIn, asksLevel}
+use Rattle.text_effect.specs.EffectCode.{nameAt, phaseIn, bracketIn, operatorKind}
+use Rattle.text_window.specs.WindowCode.{cell, Window, Held, innermostIn, asksLevel}
 use Rattle.text_pass.specs.WalkCode.{Ready}
-use Rattle.text_pass.specs.declared.phase.Phase.{Phase}
-use Rattle.text_pass.specs.declared.phase.Phase.the-variants.{Operand, Whole, Bare, Named, Called, Recv1, Measure1, Measure2, Measure3, Measure4, Measure5, New1, New2, New3, New4, New5, New6}
-use Rattle.text_pass.proofs.EffectLaws.{by-kind, operator-kind}
+use Rattle.text_effect.specs.declared.phase.Phase.{Phase}
+use Rattle.text_effect.specs.declared.phase.Phase.the-variants.{Operand, Whole, Bare, Named, Called, Recv1, Measure1, Measure2, Measure3, Measure4, Measure5, New1, New2, New3, New4, New5, New6}
+use Rattle.text_effect.proofs.EffectLaws.{by-kind, operator-kind}
 
 -- both no bracket, or both one
 data Alike : Option Bool → Option Bool → Type 0 where

@@ -21,14 +21,14 @@ use Rattle.text_tokens.specs.declared.next.TokenAt.{TokenAt}
 use Rattle.text_types.specs.SaysCode.{Says}
 use Rattle.text_expr.specs.LevelsCode.{innermost, isOpen, action, known, phaseAfter}
 use Rattle.text_expr.proofs.Notes.{Continues, Right, action-known}
-use Rattle.text_pass.specs.EffectCode.{token, phaseIn, effectIn, bracketIn}
-use Rattle.text_pass.specs.WindowCode.{slotOf, cell, put, countsAfter, bracketsAfter, depthAfter, stopsOn, noteAt, Window, innermostIn}
+use Rattle.text_effect.specs.EffectCode.{token, phaseIn, effectIn, bracketIn}
+use Rattle.text_window.specs.WindowCode.{slotOf, cell, put, countsAfter, bracketsAfter, depthAfter, stopsOn, noteAt, Window, innermostIn}
 use Rattle.text_pass.specs.WalkCode.{State, begins, doing, Leads, there, Standing, Ready, answerOf}
-use Rattle.text_pass.specs.declared.phase.Phase.{Phase}
-use Rattle.text_pass.specs.declared.phase.Phase.the-variants.{Operand}
-use Rattle.text_pass.specs.declared.phase.Effect.{Effect}
-use Rattle.text_pass.specs.declared.phase.Effect.the-variants.{Stay, Assigns, Unassigns, OpensBracket, OpensCall, Closes, NextArgument, Astray, Beyond}
-use Rattle.text_pass.proofs.WindowLaws.{put-cell}
+use Rattle.text_effect.specs.declared.phase.Phase.{Phase}
+use Rattle.text_effect.specs.declared.phase.Phase.the-variants.{Operand}
+use Rattle.text_effect.specs.declared.phase.Effect.{Effect}
+use Rattle.text_effect.specs.declared.phase.Effect.the-variants.{Stay, Assigns, Unassigns, OpensBracket, OpensCall, Closes, NextArgument, Astray, Beyond}
+use Rattle.text_window.proofs.WindowLaws.{put-cell}
 use Rattle.text_pass.proofs.SeenLaws.{seen}
 use Rattle.text_pass.proofs.WalkLaws.{goes-kind, leads-moved, leads-goes}
 use Rattle.text_pass.proofs.ExprLaws.{here, next-after, stands-on, stop-says}

@@ -1,4 +1,2 @@
 pub mod BasisCode
-pub mod EffectCode
-pub mod WindowCode
 pub mod WalkCode

@@ -9,11 +9,11 @@ use Rattle.text_tokens.specs.NextCode.{nextAt}
 use Rattle.text_expr.specs.PhasesCode as P
 use Rattle.text_expr.specs.LevelsCode.{Level, Action, innermost, isOpen, action, phaseAfter, countAfter, levelsAfter}
 use Rattle.text_expr.proofs.Notes.{Continues}
-use Rattle.text_pass.specs.EffectCode.{phaseIn}
-use Rattle.text_pass.specs.WindowCode.{Window, Held, asksLevel}
-use Rattle.text_pass.specs.declared.phase.Phase.{Phase}
-use Rattle.text_pass.specs.declared.phase.Effect.{Effect}
-use Rattle.text_pass.specs.declared.phase.Effect.the-variants.{Stay, Assigns, Unassigns, OpensBracket, OpensCall, Closes, NextArgument, Astray, Beyond}
+use Rattle.text_effect.specs.EffectCode.{phaseIn}
+use Rattle.text_window.specs.WindowCode.{Window, Held, asksLevel}
+use Rattle.text_effect.specs.declared.phase.Phase.{Phase}
+use Rattle.text_effect.specs.declared.phase.Effect.{Effect}
+use Rattle.text_effect.specs.declared.phase.Effect.the-variants.{Stay, Assigns, Unassigns, OpensBracket, OpensCall, Closes, NextArgument, Astray, Beyond}
 use Rattle.text_pass.specs.declared.walk.WalkAt.{WalkAt}
 
 -- a place, the phase there, the assignments that are open within the innermost level, and the levels

@@ -1,7 +1,4 @@
 // An expression of a LanQ text (Paper 1) read in one loop over its tokens, whatever the depth of its brackets.
-pub mod effect;
 pub mod expression;
 pub mod measurement;
-pub mod phase;
 pub mod walk;
-pub mod window;

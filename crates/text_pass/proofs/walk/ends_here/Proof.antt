@@ -2,7 +2,7 @@
 use mathlib.Core.Path.{sym, ap, _∙_}
 use Rattle.text_pass.proofs.EndsLaws.{named-start, named-end}
 use lib.Seq.{slice}
-use Rattle.text_pass.specs.EffectCode.{nameAt}
+use Rattle.text_effect.specs.EffectCode.{nameAt}
 use Rattle.text_pass.proofs.RestLaws.{named-rest}
 use borrow.Author.Needs.{needs}
 use Rattle.text_pass.proofs.walk.ends_here.Statement.{statement}

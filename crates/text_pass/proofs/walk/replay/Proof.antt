@@ -7,7 +7,7 @@ use lib.ListN.{length, length-set}
 use Rattle.text_parse.specs.Grammar.{Scopes}
 use Rattle.text_types.proofs.Answers.{passed-next}
 use Rattle.text_scopes.specs.OpenCode.{Opened}
-use Rattle.text_pass.specs.WindowCode.{slotOf, put, Window}
+use Rattle.text_window.specs.WindowCode.{slotOf, put, Window}
 use Rattle.text_pass.specs.WalkCode.{State, begins, Leads}
 use Rattle.text_pass.proofs.StandLaws.{counts-kept, brackets-kept, Returning, returning-first, returned, not-ended, returning-on}
 use Rattle.text_pass.proofs.walk.replay.Statement.{statement}

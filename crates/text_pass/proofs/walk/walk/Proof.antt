@@ -17,7 +17,7 @@ use Rattle.text_pass.specs.declared.walk.WalkAt.{WalkAt}
 use Rattle.text_pass.proofs.RestLaws.{answer-known}
 use Rattle.text_types.proofs.Answers.{passed-next}
 use Rattle.text_scopes.specs.OpenCode.{Opened}
-use Rattle.text_pass.specs.WindowCode.{slotOf, put}
+use Rattle.text_window.specs.WindowCode.{slotOf, put}
 use Rattle.text_pass.specs.WalkCode.{Standing}
 use Rattle.text_pass.proofs.SeenLaws.{or-false}
 use Rattle.text_pass.proofs.ExprLaws.{stands-on}
