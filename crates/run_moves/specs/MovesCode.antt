@@ -1,5 +1,5 @@
--- What INT, BOOL, CLEAR, GET, PUT, DROP, END and the jumps do to the words of a process's part. These definitions follow
--- the code; that they are document 01's ops is proved in run_ops.
+-- What INT, BOOL, CLEAR, GET, PUT, DROP, END and the jumps do to the words of a process's part. These definitions
+-- follow the code; that they are document 01's ops is proved in run_ops.
 use Prim.Native.Nat.{ℕ, _+_}
 use mathlib.Core.Bool.{cond}
 use mathlib.Core.List.{List}
