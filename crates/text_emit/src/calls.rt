@@ -4,7 +4,7 @@ ghost use Rattle.text_emit.specs.EmitCode.{PutsInvocation};
 use crate::emit::Emit;
 use crate::emit::put;
 use text_methods::index::method_indexed;
-use text_names::fault::gate_number;
+use text_roles::gate::gate_number;
 use text_types::types::return_type;
 
 // The name stands at start up to end.

@@ -1,13 +1,11 @@
--- What the code's answers of methods and gates say of a call.
-use Prim.Native.Nat.{ℕ, zero, suc, _≤_, _<_}
-use native.Mathlib.Omega.{arith}
+-- What the code's answers of methods and gates say of a call; and the lower of two places.
+use Prim.Native.Nat.{ℕ, _≤_, _<_}
 use mathlib.Core.Path.{_≡_, refl, sym, ap, _∙_}
 use mathlib.Core.Bool.{Bool, true, false, cond, _&&_, _||_}
-use mathlib.Core.List.{List, [], _∷_}
+use mathlib.Core.List.{List}
 use mathlib.Core.Option.{Option, none, some}
 use lib.Dec.{eqb, ltb}
-use borrow.Author.Tests.{lt-ltb, le-leb, lt-leb}
-use Rattle.lists.specs.Lists.{same}
+use borrow.Author.Tests.{le-leb, lt-leb}
 use Rattle.lists.proofs.Tests.{never}
 use Rattle.table.specs.Ops.{gateQubits}
 use Rattle.text.specs.Tree.{numbered, gateNames, gateOf}
@@ -18,33 +16,6 @@ use Rattle.text_scan.specs.FaultsCode.{callable, invocable}
 use Rattle.text_methods.specs.RowsCode.{Row, rowsOf, rowOf, Agrees, agrees, no-row}
 use Rattle.text_names.specs.FaultsCode.{lowerOf, placeIf}
 use Rattle.text_names.specs.FaultCode.{rowCount, bare, isCallAt, isInvocationAt}
-
--- gates
-pub gate-here : (k : ℕ) (x w : List ℕ) (ws : List (List ℕ)) → same x w ≡ true → k ≡ numbered k x (w ∷ ws)
-unfolding numbered
-gate-here k x w ws e = rw e refl
-
-pub gate-next : (k : ℕ) (x w : List ℕ) (ws : List (List ℕ)) {r : ℕ} → same x w ≡ false → r ≡ numbered (suc k) x ws
-    → r ≡ numbered k x (w ∷ ws)
-unfolding numbered
-gate-next k x w ws e q = rw e q
-
-pub gate-none : (k : ℕ) (x : List ℕ) → 0 ≡ numbered k x []
-unfolding numbered
-gate-none k x = refl
-
-pub no-gate : (g n : ℕ) → g ≡ 0 → false ≡ cond (ltb 0 g) (eqb n (gateQubits g)) false
-no-gate g n e = ap (λ (k : ℕ). cond (ltb 0 k) (eqb n (gateQubits k)) false) (sym e)
-
-pub small-gate : (g n : ℕ) → (g ≡ 0 → ⊥) → g ≤ 5 → eqb n 1 ≡ cond (ltb 0 g) (eqb n (gateQubits g)) false
-unfolding gateQubits
-small-gate zero n f l = absurd (f refl)
-small-gate (suc g) n f l = rw (lt-ltb 0 (suc g) (omega arith), le-leb (suc g) 5 l) refl
-
-pub large-gate : (g n : ℕ) → (g ≡ 0 → ⊥) → 5 < g → eqb n 2 ≡ cond (ltb 0 g) (eqb n (gateQubits g)) false
-unfolding gateQubits
-large-gate zero n f l = absurd (f refl)
-large-gate (suc g) n f l = rw (lt-ltb 0 (suc g) (omega arith), lt-leb (suc g) 5 l) refl
 
 -- methods
 module _ (text x : List ℕ) (after n : ℕ) (e : n ≡ argumentCount (tokensAt text after)) where

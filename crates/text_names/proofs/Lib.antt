@@ -1,12 +1,6 @@
-pub mod Tests
-pub mod ByRole
-pub mod Levels
-pub mod OpenLaws
 pub mod Lowest
 pub mod Merged
 pub mod Passes
-pub mod Blocks
-pub mod Looking
 pub mod Calls
 pub mod Scanning
 pub mod Refused

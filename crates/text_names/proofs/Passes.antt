@@ -7,8 +7,6 @@ use mathlib.Core.Bool.{Bool, true, false, _&&_, _||_, not}
 use mathlib.Core.List.{List, [], _∷_, _++_}
 use mathlib.Core.Option.{Option, none}
 use lib.Dec.{eqb, eqb→eq, ltb}
-use lib.ListN.{length, getD}
-use lib.Seq.{slice, slice-cons, slice-empty}
 use borrow.Author.Tests.{lt-ltb, le-ltb, ltb-true, ltb-false, eqb-false, le-leb}
 use Rattle.lists.proofs.Tests.{passes}
 use Rattle.text.specs.Tree.{Name}
@@ -18,28 +16,14 @@ use Rattle.text_tokens.specs.Places.{tokensAt}
 use Rattle.text_scan.specs.Events.{Event, methodNamed, declared, used, called, invoked, opened, closed, ended}
 use Rattle.text_scan.specs.ScanCode.{withEvent, eventsFrom}
 use Rattle.text_scan.specs.FaultsCode.{Entry, countOf, indexIn, callable, invocable, Blocks, innermost, withName, withoutBlock, namesIn}
-use Rattle.text_names.specs.FoundCode.{blocksAfter}
+use Rattle.text_roles.specs.FoundCode.{blocksAfter}
+use Rattle.text_roles.proofs.ByRole.{Other, by-role}
+use Rattle.text_open.specs.ClassCode.{mixed, hashFrom, inClass, inPast, fitsIn}
 use Rattle.text_names.specs.FaultsCode.{allFaults, nameIf, faulty, faultAt, indexAfter, lowerOf, placeIf, lowestOf}
 use Rattle.text_names.specs.FaultCode.{methodsOf, lowestFault, lowestIn}
-use Rattle.text_names.specs.ClassCode.{mixed, hashFrom, inClass, inPast, fitsIn}
-use Rattle.text_names.proofs.ByRole.{Other, by-role}
 use Rattle.text_names.proofs.Lowest.{lower-assoc, lower-swap}
 
 -- The class of a name
-
-pub hash-step : (text : List ℕ) (h i end x h′ : ℕ) → i < end → end ≤ length text → x ≡ getD text i 0 → h′ ≡ mixed h x
-    → hashFrom h (slice i end text) ≡ hashFrom h′ (slice (i + 1) end text)
-unfolding hashFrom
-hash-step text h i end x h′ l m e f =
-    ap (hashFrom h) (slice-cons i end text 0 l m)
-    ∙ ap (λ (j : ℕ). hashFrom (mixed h (getD text i 0)) (slice j end text)) {x = suc i} {y = i + 1} (omega arith)
-    ∙ ap (λ (j : ℕ). hashFrom (mixed h j) (slice (i + 1) end text)) (sym e)
-    ∙ ap (λ (j : ℕ). hashFrom j (slice (i + 1) end text)) (sym f)
-
-pub hash-end : (text : List ℕ) (h i end : ℕ) → i ≡ end → hashFrom h (slice i end text) ≡ h
-unfolding hashFrom
-hash-end text h i end e =
-    ap (λ (j : ℕ). hashFrom h (slice j end text)) e ∙ ap (hashFrom h) (slice-empty end text)
 
 hash-low : (x : List ℕ) (h : ℕ) → h < 251 → hashFrom h x < 251
 unfolding hashFrom mixed

@@ -30,18 +30,18 @@ use Rattle.text_methods.specs.RowsCode.{Row, rowsOf, rowOf, rowIndex}
 use Rattle.text_methods.proofs.Ending.{no-bytes, end-alone, passes-token}
 use Rattle.text_methods.proofs.Counted.{count-at-end}
 use Rattle.text_methods.proofs.Finding.{split-at, braces-most}
-use Rattle.text_names.specs.FoundCode.{levelOf, foundAfter, foundUpTo, foundIn, blocksAfter}
+use Rattle.text_roles.specs.FoundCode.{levelOf, foundAfter, foundUpTo, foundIn, blocksAfter}
+use Rattle.text_roles.proofs.ByRole.{Other, by-role}
+use Rattle.text_roles.proofs.Levels.{found-opened, found-after, in-scope, in-block}
+use Rattle.text_roles.proofs.Blocks.{closes-level, blocks-level}
+use Rattle.text_roles.proofs.Looking.{found-step, found-there, end-role}
+use Rattle.text_open.specs.OpenCode.{openOf, isOpen, openAfter, namesAt, declaredIn, Turns}
+use Rattle.text_open.specs.ClassCode.{fitsIn}
+use Rattle.text_open.proofs.OpenLaws.{none-open, open-after, open-found}
 use Rattle.text_names.specs.FaultsCode.{faulty, faultAt, indexAfter, lowerOf, placeIf, lowestOf}
-use Rattle.text_names.specs.FaultCode.{rowCount, rowEntry, methodsOf, bare, isCallAt, isInvocationAt, isKnownAt, faultHere, lowestIn}
-use Rattle.text_names.specs.OpenCode.{openOf, isOpen, openAfter, namesAt, declaredIn, Turns, Knows}
-use Rattle.text_names.specs.ClassCode.{fitsIn}
-use Rattle.text_names.proofs.ByRole.{Other, by-role}
-use Rattle.text_names.proofs.Levels.{found-opened, found-after, in-scope, in-block}
-use Rattle.text_names.proofs.OpenLaws.{none-open, open-after, open-found}
-use Rattle.text_names.proofs.Blocks.{closes-level, blocks-level}
+use Rattle.text_names.specs.FaultCode.{rowCount, rowEntry, methodsOf, bare, isCallAt, isInvocationAt, isKnownAt, Knows, faultHere, lowestIn}
 use Rattle.text_names.proofs.Lowest.{lower-none, lower-assoc}
 use Rattle.text_names.proofs.Passes.{lowest-one, faulty-step, fits-none}
-use Rattle.text_names.proofs.Looking.{found-step, found-there, end-role}
 
 -- Methods by rows
 

@@ -1,6 +1,6 @@
 -- Whether a name is at fault, by the places at which it stands. These definitions follow the code; that it is the fault
 -- of the name by the blocks that are open is proved (proofs/Scanning.antt).
-use Prim.Native.Nat.{ℕ}
+use Prim.Native.Nat.{ℕ, _≤_}
 use mathlib.Core.Path.{_≡_}
 use mathlib.Core.Bool.{Bool, false, cond, not}
 use mathlib.Core.List.{List, [], _∷_, map}
@@ -16,7 +16,8 @@ use Rattle.text_tokens.specs.Places.{tokensAt}
 use Rattle.text_scan.specs.ScanCode.{argumentCount, eventsFrom}
 use Rattle.text_scan.specs.FaultsCode.{Entry, callable, invocable}
 use Rattle.text_methods.specs.RowsCode.{Row, rowsOf, rowOf, rowIndex}
-use Rattle.text_names.specs.FoundCode.{levelOf, foundUpTo}
+use Rattle.text_roles.specs.FoundCode.{levelOf, foundUpTo}
+use Rattle.text_open.specs.OpenCode.{openOf, isOpen}
 use Rattle.text_names.specs.FaultsCode.{allFaults, faulty, lowestOf}
 
 abbrev pub rowCount : Option Row → Option ℕ
@@ -45,6 +46,12 @@ isInvocationAt text x after =
 unfoldable pub isKnownAt : List ℕ → ℕ → ℕ → ℕ → ℕ → Bool
 isKnownAt text from least start end =
     ltb 0 (foundUpTo least (slice start end text) start 0 0 0 (tokensAt text from))
+
+-- from the entries it is known whether the name from start up to end is in scope
+abbrev pub Knows : List ℕ → List ℕ → ℕ → ℕ → ℕ → ℕ → Type 0
+Knows text words n from start end =
+    (least : ℕ) → n ≤ 1024
+    → isOpen least (slice start end text) (openOf text words n) ≡ isKnownAt text from least start end
 
 -- the name from start up to end, of role r, with a bracket up to `after` after it; i methods are passed
 unfoldable pub faultHere : List ℕ → ℕ → ℕ → ℕ → ℕ → ℕ → ℕ → ℕ → Bool

@@ -1,66 +1,20 @@
 // Whether a name is at fault where it stands.
 ghost use mathlib.Core.Path.{_≡_};
-ghost use mathlib.Core.Bool.{cond, false};
+ghost use mathlib.Core.Bool.{false};
 ghost use Prim.Native.Nat.{_≤_};
 ghost use lib.Dec.{eqb, ltb};
 ghost use lib.ListN.{length};
 ghost use lib.Seq.{slice};
-ghost use Rattle.table.specs.Ops.{gateQubits};
-ghost use Rattle.text.specs.Tree.{numbered, gateNames};
 ghost use Rattle.text_methods.specs.RowsCode.{rowsOf, rowIndex};
 ghost use Rattle.text_methods.specs.IndexCode.{Indexed};
-ghost use Rattle.text_names.specs.FaultCode.{isCallAt, isInvocationAt, isKnownAt, faultHere};
-ghost use Rattle.text_names.specs.OpenCode.{Knows};
-use crate::level::found_level;
-use crate::level::level_of;
-use crate::open::is_open;
+ghost use Rattle.text_names.specs.FaultCode.{isCallAt, isInvocationAt, isKnownAt, faultHere, Knows};
 use text_methods::arguments::count_arguments;
 use text_methods::index::find_indexed;
-use text_tokens::bytes::is_word;
-
-// The number of the gate of this name, 0 where it is no gate's.
-pub fn gate_number(text: &[u8], start: usize, end: usize) -> u8
-    ensures { λ r. ⌜ r ≡ numbered 1 (slice start end (now (text .entry))) gateNames ⌝ }
-{
-    if is_word(text, start, end, b"X") {
-        return 1;
-    }
-    if is_word(text, start, end, b"Y") {
-        return 2;
-    }
-    if is_word(text, start, end, b"Z") {
-        return 3;
-    }
-    if is_word(text, start, end, b"H") {
-        return 4;
-    }
-    if is_word(text, start, end, b"S") {
-        return 5;
-    }
-    if is_word(text, start, end, b"CX") {
-        return 6;
-    }
-    if is_word(text, start, end, b"CZ") {
-        return 7;
-    }
-    if is_word(text, start, end, b"SWAP") {
-        return 8;
-    }
-    0
-}
-
-// There is such a gate, and it takes n qubits.
-fn gate_takes(g: u8, n: usize) -> bool
-    ensures { λ r. ⌜ r ≡ cond (ltb 0 g) (eqb n (gateQubits g)) false ⌝ }
-{
-    if g == 0 {
-        return false;
-    }
-    if g <= 5 {
-        return n == 1;
-    }
-    n == 2
-}
+use text_open::open::is_open;
+use text_roles::gate::gate_number;
+use text_roles::gate::gate_takes;
+use text_roles::level::found_level;
+use text_roles::level::level_of;
 
 // A method has the name, and takes as many arguments as stand from `after` on.
 fn is_call(text: &[u8], methods: &[usize], start: usize, end: usize, after: usize) -> bool

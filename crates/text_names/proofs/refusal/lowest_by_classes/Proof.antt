@@ -4,9 +4,9 @@ use mathlib.Core.Path.{_≡_, refl, sym, _∙_}
 use Prim.Native.Nat.{_-_, _≤_}
 use borrow.Author.Needs.{needs}
 use lib.ListN.{length}
+use Rattle.text_open.specs.ClassCode.{inPast}
 use Rattle.text_names.specs.FaultsCode.{placeIf}
 use Rattle.text_names.specs.FaultCode.{lowestIn}
-use Rattle.text_names.specs.ClassCode.{inPast}
 use Rattle.text_names.proofs.Passes.{first-class, next-class, last-class}
 use Rattle.text_names.proofs.refusal.lowest_by_classes.Statement.{statement}
 use Rattle.text_names.proofs.refusal.lowest_by_classes.Tie as tie

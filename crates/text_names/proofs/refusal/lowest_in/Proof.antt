@@ -4,7 +4,7 @@ use mathlib.Core.Path.{sym, _∙_}
 use Prim.Native.Nat.{_-_, _*_, _≤_, _<_, _^_}
 use borrow.Author.Needs.{needs}
 use lib.ListN.{length}
-use Rattle.text_names.specs.ClassCode.{inClass}
+use Rattle.text_open.specs.ClassCode.{inClass}
 use Rattle.text_names.proofs.Passes.{class-fits}
 use Rattle.text_names.proofs.Scanning.{ScanSoFar, scan-begins, scan-ends, scan-passes, scan-goes}
 use Rattle.text_names.proofs.refusal.lowest_in.Statement.{statement}

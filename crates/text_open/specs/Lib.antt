@@ -1,0 +1,2 @@
+pub mod OpenCode
+pub mod ClassCode

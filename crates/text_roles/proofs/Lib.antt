@@ -1,0 +1,6 @@
+pub mod Tests
+pub mod Gates
+pub mod ByRole
+pub mod Levels
+pub mod Blocks
+pub mod Looking
