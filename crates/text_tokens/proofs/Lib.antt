@@ -5,4 +5,5 @@ pub mod Listed
 pub mod Counting
 pub mod Onward
 pub mod Tokenwise
+pub mod FirstByte
 pub mod KindTests

@@ -8,12 +8,11 @@ use mathlib.Core.Bool.{Bool, true, false, cond}
 use mathlib.Core.List.{List, [], _∷_}
 use borrow.Author.Tests.{ne-eqb, eqb-false}
 use lib.Dec.{T, eqb, eqb→eq}
-use lib.ListN.{length, getD, drop, drop-of-length-le}
+use lib.ListN.{length, getD, drop}
 use lib.Seq.{slice, drop-cons}
 use Rattle.lists.specs.Lists.{any, every, All, same}
 use Rattle.lists.proofs.Laws.{same-equal}
 use Rattle.lists.proofs.Tests.{passes, or-cases, and-left, and-right, cond-each}
-use Rattle.text.specs.Tree.{ascii}
 use Rattle.text_parse.specs.Tokens.{isDigit, isLetter, reserved}
 use Rattle.text_tokens.specs.KindsCode.{marks, placeFrom, placeOfLength, wordKind, wordOfLength, markKind, kindOf}
 use Rattle.text_tokens.proofs.Parts.{same-unlike, part-at}
@@ -118,17 +117,6 @@ pub mark-other : (b : ℕ) → Past firsts b → 35 ≡ markKind (b ∷ [])
 unfolding markKind
 mark-other b h = sym (place-none 19 marks 35 (b ∷ []) (none-starts firsts b [] marks h tt))
 
-pub mark-found : (w bs : List ℕ) → same bs w ≡ true → markKind w ≡ markKind bs
-mark-found w bs e = ap markKind (sym (same-equal bs w (passes e)))
-
--- every mark but == has one byte
-pub mark-long : (bs : List ℕ) → (length bs ≡ 1 → ⊥) → same bs (ascii "==") ≡ false → 35 ≡ markKind bs
-unfolding markKind
-mark-long bs h two =
-    let u : (k : ℕ) → same bs (k ∷ []) ≡ false = λ k. same-unlike bs (k ∷ []) h in
-    sym (place-none 19 marks 35 bs
-    (u 40, (u 41, (u 123, (u 125, (u 91, (u 93, (u 44, (u 59, (u 43, (u 45, (u 61, (two, (u 60, tt))))))))))))))
-
 -- A part by its first byte
 
 part-starts : (text : List ℕ) (s e : ℕ) → (length (slice s e text) ≡ 0 → ⊥)
@@ -137,11 +125,6 @@ part-starts text s e h =
     drop-cons (slice s e text) 0 0 (omega arith)
     ∙ ap (λ (b : ℕ). b ∷ drop 1 (slice s e text))
     (part-at text s e 0 (omega arith) ∙ ap (λ (i : ℕ). getD text i 0) (add-zero s))
-
-pub part-single : (text : List ℕ) (s e : ℕ) → length (slice s e text) ≡ 1 → slice s e text ≡ getD text s 0 ∷ []
-part-single text s e h =
-    part-starts text s e (λ z. omega arith)
-    ∙ ap (λ (bs : List ℕ). getD text s 0 ∷ bs) (drop-of-length-le (slice s e text) {i = 1} (omega arith))
 
 pub kind-end : (bs : List ℕ) → length bs ≡ 0 → 32 ≡ kindOf bs
 unfolding kindOf

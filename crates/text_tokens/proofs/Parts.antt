@@ -1,15 +1,15 @@
 -- Laws of parts of a text, and of `same`.
-use Prim.Native.Nat.{ℕ, _+_, _-_, _≤_, _<_, min}
-use native.Mathlib.Nat.{min-le-left, min-le-right}
+use Prim.Native.Nat.{ℕ, zero, suc, _+_, _-_, _≤_, _<_, min}
+use native.Mathlib.Nat.{zero-add, suc-add, min-le-left, min-le-right}
 use native.Mathlib.Omega.{arith}
 use native.Mathlib.Numerals.{add-one}
-use mathlib.Core.Path.{_≡_, refl, ap, _∙_}
+use mathlib.Core.Path.{_≡_, refl, sym, ap, _∙_}
 use mathlib.Core.Bool.{true, false, _&&_}
 use mathlib.Core.List.{List, [], _∷_}
 use borrow.Author.Tests.{eq-eqb, ne-eqb}
 use lib.Dec.{T, eqb}
 use lib.ListN.{length, getD, take, drop, length-take, length-drop, drop-of-length-le}
-use lib.Seq.{slice, drop-cons, getD-take, getD-drop, take-all, take-length, length-slice}
+use lib.Seq.{slice, drop-cons, getD-take, getD-drop, take-all, take-nil, take-length, length-slice}
 use Rattle.lists.specs.Lists.{same}
 use Rattle.lists.proofs.Laws.{same-equal}
 use Rattle.lists.proofs.Tests.{passes, failed, and-both}
@@ -50,6 +50,12 @@ part-at text s e k h =
 -- a part's length is that of its text at most
 pub part-fits : (text : List ℕ) (s e k : ℕ) → k < length (slice s e text) → s + k < length text
 part-fits text s e k h = omega (arith, part-least text s e, min-le-right e (length text))
+
+-- m bytes from place s on
+pub part-take : (s m : ℕ) (text : List ℕ) → slice s (s + m) text ≡ take m (drop s text)
+part-take zero m text = rw (zero-add m) refl
+part-take (suc s) m [] = rw (suc-add s m) (sym (take-nil m))
+part-take (suc s) m (b ∷ bs) = rw (suc-add s m) (part-take s m bs)
 
 pub part-whole : (text : List ℕ) → slice 0 (length text) text ≡ text
 part-whole text = take-length text

@@ -1,6 +1,6 @@
 -- The tokens of a text from a place on: the next one, by where it starts and ends, and those after it.
-use Prim.Native.Nat.{ℕ, zero, suc, _+_, _≤_, _<_}
-use native.Mathlib.Nat.{zero-add, add-zero, suc-add, add-suc}
+use Prim.Native.Nat.{ℕ, suc, _+_, _≤_, _<_}
+use native.Mathlib.Nat.{add-zero, suc-add, add-suc}
 use native.Mathlib.Omega.{arith}
 use native.Mathlib.Numerals.{add-one}
 use mathlib.Core.Path.{_≡_, refl, sym, ap, _∙_}
@@ -10,12 +10,13 @@ use mathlib.Core.List.{List, [], _∷_}
 use borrow.Author.Tests.{lt-ltb, le-ltb, ltb-true, ltb-false}
 use lib.Dec.{eqb, ltb}
 use lib.ListN.{length, getD, take, drop, drop-of-length-le, length-drop}
-use lib.Seq.{slice, slice-empty, drop-cons, drop-drop, getD-drop, take-nil}
+use lib.Seq.{slice, slice-empty, drop-cons, drop-drop, getD-drop}
 use Rattle.lists.proofs.Tests.{decide}
 use Rattle.text_parse.specs.Tokens.{Token, isWhite, isDigit, isLetter, tokensFrom, tokensOf}
 use Rattle.text_tokens.specs.Places.{tokensAt, tokenOf, tokensAfter}
 use Rattle.text_tokens.specs.PlacesCode.{leading, passed, isWordByte, startAt, endFrom, endAt}
 use Rattle.text_tokens.specs.NextCode.{nextAt, NextToken}
+use Rattle.text_tokens.proofs.Parts.{part-take}
 use Rattle.text_tokens.proofs.EndCases.{end-past, end-in}
 use Rattle.text_tokens.proofs.Onward.{token, at-end, further, reads-token, reads-white}
 use Rattle.text_tokens.proofs.Onward.{leading-most, leading-stops, further-most}
@@ -24,12 +25,6 @@ use Rattle.text_tokens.proofs.Onward.{leading-most, leading-stops, furt
 pub tokens-at-start : (text : List ℕ) → tokensOf text ≡ tokensAt text 0
 unfolding tokensOf tokensAt
 tokens-at-start text = refl
-
--- m bytes from place s on
-part-take : (s m : ℕ) (text : List ℕ) → slice s (s + m) text ≡ take m (drop s text)
-part-take zero m text = rw (zero-add m) refl
-part-take (suc s) m [] = rw (suc-add s m) (sym (take-nil m))
-part-take (suc s) m (b ∷ bs) = rw (suc-add s m) (part-take s m bs)
 
 -- Where a token starts
 

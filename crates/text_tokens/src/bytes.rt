@@ -65,7 +65,7 @@ fn same_bytes(a: &[u8], from: usize, to: usize, b: &[u8], start: usize, end: usi
     }
     let mut k = 0;
     while k < n {
-        if byte_at(a, from + k) != byte_at(b, start + k) {
+        if a[from + k] != b[start + k] {
             return false;
         }
         k += 1;

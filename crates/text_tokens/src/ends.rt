@@ -1,8 +1,7 @@
-// Where the next token starts, and where the token that starts at a place ends.
+// Where the next token starts, and where a word and a number end.
 ghost use mathlib.Core.Path.{_≡_};
 ghost use Rattle.text_parse.specs.Tokens.{isDigit};
-ghost use Rattle.text_tokens.specs.PlacesCode.{passed, isWordByte, startAt, endAt};
-use crate::bytes::byte_at;
+ghost use Rattle.text_tokens.specs.PlacesCode.{passed, isWordByte, startAt};
 use crate::bytes::is_digit;
 use crate::bytes::is_letter;
 use crate::bytes::is_white;
@@ -21,7 +20,8 @@ pub fn token_start(text: &[u8], from: usize) -> usize
     i
 }
 
-fn word_end(text: &[u8], from: usize) -> usize
+// The first byte from a place on that is no letter and no digit, or the text's end.
+pub fn word_end(text: &[u8], from: usize) -> usize
     ensures { λ r. ⌜ r ≡ passed isWordByte (now (text .entry)) from ⌝ }
 {
     let mut i = from;
@@ -35,7 +35,8 @@ fn word_end(text: &[u8], from: usize) -> usize
     i
 }
 
-fn number_end(text: &[u8], from: usize) -> usize
+// The first byte from a place on that is no digit, or the text's end.
+pub fn number_end(text: &[u8], from: usize) -> usize
     ensures { λ r. ⌜ r ≡ passed isDigit (now (text .entry)) from ⌝ }
 {
     let mut i = from;
@@ -46,24 +47,4 @@ fn number_end(text: &[u8], from: usize) -> usize
         i += 1;
     }
     i
-}
-
-// The first byte after a place that does not go on with the token that starts there. At the text's end there is none.
-pub fn token_end(text: &[u8], start: usize) -> usize
-    ensures { λ r. ⌜ r ≡ endAt (now (text .entry)) start ⌝ }
-{
-    if text.len() <= start {
-        return start;
-    }
-    let b = text[start];
-    if is_letter(b) {
-        return word_end(text, start + 1);
-    }
-    if is_digit(b) {
-        return number_end(text, start + 1);
-    }
-    if (b == 61) & (byte_at(text, start + 1) == 61) {
-        return start + 2;
-    }
-    start + 1
 }

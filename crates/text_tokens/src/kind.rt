@@ -1,13 +1,10 @@
-// What kind of token a part of the text is.
+// What kind of token a word or a mark is.
 ghost use mathlib.Core.Path.{_≡_};
 ghost use mathlib.Core.List.{[], _∷_};
 ghost use lib.Seq.{slice};
 ghost use Rattle.text_parse.specs.Tokens.{is};
 ghost use Rattle.text_tokens.specs.Places.{tokenOf};
-ghost use Rattle.text_tokens.specs.KindsCode.{wordOfLength, wordKind, markKind, kindOf};
-use crate::bytes::byte_at;
-use crate::bytes::is_digit;
-use crate::bytes::is_letter;
+ghost use Rattle.text_tokens.specs.KindsCode.{wordOfLength, wordKind, markKind};
 use crate::bytes::is_word;
 use crate::bytes::size;
 use crate::kinds::ALIASFOR;
@@ -21,8 +18,6 @@ use crate::kinds::CLOSE_BRACE;
 use crate::kinds::CLOSE_BRACKET;
 use crate::kinds::COMMA;
 use crate::kinds::ELSE;
-use crate::kinds::END;
-use crate::kinds::EQUALS;
 use crate::kinds::FALSE;
 use crate::kinds::FORK;
 use crate::kinds::IF;
@@ -32,7 +27,6 @@ use crate::kinds::MEASURE;
 use crate::kinds::MINUS;
 use crate::kinds::NAME;
 use crate::kinds::NEW;
-use crate::kinds::NUMBER;
 use crate::kinds::OPEN;
 use crate::kinds::OPEN_BRACE;
 use crate::kinds::OPEN_BRACKET;
@@ -153,7 +147,7 @@ fn word_of_ten(text: &[u8], start: usize, end: usize) -> u8
 }
 
 // A part that starts with a letter: the reserved word that it is, or a name.
-fn word_kind(text: &[u8], start: usize, end: usize) -> u8
+pub fn word_kind(text: &[u8], start: usize, end: usize) -> u8
     ensures { λ r. ⌜ r ≡ wordKind (slice start end (now (text .entry))) ⌝ }
 {
     match size(text, start, end) {
@@ -170,7 +164,7 @@ fn word_kind(text: &[u8], start: usize, end: usize) -> u8
 }
 
 // A part of one byte that is no letter and no digit.
-fn mark_of_one(b: u8) -> u8
+pub fn mark_of_one(b: u8) -> u8
     ensures { λ r. ⌜ r ≡ markKind (b ∷ []) ⌝ }
 {
     match b {
@@ -188,35 +182,6 @@ fn mark_of_one(b: u8) -> u8
         60 => LESS,
         _ => BAD,
     }
-}
-
-// A part that starts with no letter and no digit: the mark that it is, or a bad token.
-fn mark_kind(text: &[u8], start: usize, end: usize) -> u8
-    ensures { λ r. ⌜ r ≡ markKind (slice start end (now (text .entry))) ⌝ }
-{
-    if size(text, start, end) == 1 {
-        return mark_of_one(byte_at(text, start));
-    }
-    if is_word(text, start, end, b"==") {
-        return EQUALS;
-    }
-    BAD
-}
-
-pub fn token_kind(text: &[u8], start: usize, end: usize) -> u8
-    ensures { λ r. ⌜ r ≡ kindOf (tokenOf (now (text .entry)) start end .bytes) ⌝ }
-{
-    if size(text, start, end) == 0 {
-        return END;
-    }
-    let b = byte_at(text, start);
-    if is_letter(b) {
-        return word_kind(text, start, end);
-    }
-    if is_digit(b) {
-        return NUMBER;
-    }
-    mark_kind(text, start, end)
 }
 
 // "measure takes StdBasis": a name, which is not reserved.

@@ -35,36 +35,45 @@ returns c =
 loop-holds : tie.Need-loop-holds Inv-loop μ-loop
 loop-holds c = (c .before .before .size .ensures, (c .if1 .left ∙ c .before .size2 .ensures, refl))
 
-add-byte-at : tie.Need-add-byte-at Inv-loop μ-loop
-add-byte-at c =
-    let g = c .before .before .before .before .before .before .before .args in
+add-if2 : tie.Need-add-if2 Inv-loop μ-loop
+add-if2 c =
+    let at-start = c .before .before in
+    let g = at-start .before .before .before .before .before .args in
     let l = c .before .loop in
     let len = l .inv .0 in
     omega (arith, part-fits (g .a .now) (g .from) (g .to) (l .k) (omega arith))
 
-byte-at-requires : tie.Need-byte-at-requires Inv-loop μ-loop
-byte-at-requires c κs = search needs
+shared-slice-read-if2 : tie.Need-shared-slice-read-if2 Inv-loop μ-loop
+shared-slice-read-if2 c =
+    let at-start = c .before .before .before in
+    let g = at-start .before .before .before .before .before .args in
+    let l = c .before .before .loop in
+    let len = l .inv .0 in
+    part-fits (g .a .now) (g .from) (g .to) (l .k) (omega arith)
 
-add-byte-at-2 : tie.Need-add-byte-at-2 Inv-loop μ-loop
-add-byte-at-2 c =
-    let g = c .before .before .before .before .before .before .before .before .args in
+add-if2-2 : tie.Need-add-if2-2 Inv-loop μ-loop
+add-if2-2 c =
+    let at-start = c .before .before .before in
+    let g = at-start .before .before .before .before .before .args in
     let l = c .before .before .loop in
     let len = l .inv .1 .0 in
     omega (arith, part-fits (g .b .now) (g .start) (g .end) (l .k) (omega arith))
 
-byte-at-requires-2 : tie.Need-byte-at-requires-2 Inv-loop μ-loop
-byte-at-requires-2 c κs = search needs
+shared-slice-read-if2-2 : tie.Need-shared-slice-read-if2-2 Inv-loop μ-loop
+shared-slice-read-if2-2 c =
+    let at-start = c .before .before .before .before in
+    let g = at-start .before .before .before .before .before .args in
+    let l = c .before .before .before .loop in
+    let len = l .inv .1 .0 in
+    part-fits (g .b .now) (g .start) (g .end) (l .k) (omega arith)
 
 returns-2 : tie.Need-returns-2 Inv-loop μ-loop
 returns-2 c =
-    let earlier = c .before .before .before .before .before .before .before .before in
-    let g = earlier .before .before .args in
+    let at-start = c .before .before .before .before .before in
+    let g = at-start .before .before .before .before .before .args in
     let l = c .before .before .before .before .loop in
-    let here = c .before .before .byte-at .ensures in
-    let there = c .before .byte-at2 .ensures in
-    let differ = c .if2 .taken in
     sym (parts-differ (g .a .now) (g .b .now) (g .from) (g .to) (g .start) (g .end) (l .k) (omega arith) (omega arith)
-    (λ e. differ (here ∙ e ∙ sym there)))
+    (c .if2 .taken))
     ∙ l .inv .1 .1
 
 add-k : tie.Need-add-k Inv-loop μ-loop
@@ -75,17 +84,18 @@ loop-less c = search needs
 
 loop-again : tie.Need-loop-again Inv-loop μ-loop
 loop-again c =
-    let earlier = c .before .before .before .before .before .before .before .before in
-    let g = earlier .before .before .args in
+    let at-start = c .before .before .before .before .before in
+    let g = at-start .before .before .before .before .before .args in
     let l = c .before .before .before .before .loop in
-    let bytes = sym (c .before .before .byte-at .ensures) ∙ c .if2 .left ∙ c .before .byte-at2 .ensures in
     let on =
-    parts-on (g .a .now) (g .b .now) (g .from) (g .to) (g .start) (g .end) (l .k) (omega arith) (omega arith) bytes in
+    parts-on (g .a .now) (g .b .now) (g .from) (g .to) (g .start) (g .end) (l .k) (omega arith) (omega arith)
+    (c .if2 .left) in
     (l .inv .0, (l .inv .1 .0, sym on ∙ l .inv .1 .1))
 
 returns-3 : tie.Need-returns-3 Inv-loop μ-loop
 returns-3 c =
-    let g = c .before .before .before .before .before .before .before .args in
+    let at-start = c .before .before in
+    let g = at-start .before .before .before .before .before .args in
     let l = c .before .loop in
     sym (same-end (slice (g .from) (g .to) (g .a .now)) (slice (g .start) (g .end) (g .b .now)) (l .k)
     (omega arith) (omega arith))
@@ -101,10 +111,10 @@ same-bytes-spec =
     size-requires-2
     returns
     loop-holds
-    add-byte-at
-    byte-at-requires
-    add-byte-at-2
-    byte-at-requires-2
+    add-if2
+    shared-slice-read-if2
+    add-if2-2
+    shared-slice-read-if2-2
     returns-2
     add-k
     loop-less
