@@ -1,21 +1,14 @@
--- The interface's answer for a case of the check's.
+-- The interface's answer for a case of the run's.
 use mathlib.Core.Path.{_≡_, sym, _∙_, ap}
-use Rattle.table.specs.Questions.{Verdict}
-use Rattle.check_questions.specs.declared.Check.{Check}
-use Rattle.check_questions.specs.Check.{verdictOf}
-use Rattle.lanq.specs.declared.LanqAnswer.{LanqAnswer}
+use Rattle.lanq_answers.specs.declared.LanqAnswer.{LanqAnswer}
+use Rattle.lanq_answers.specs.Answers.{runAnswer}
 use Rattle.run.specs.declared.Answer.{Answer}
 use Rattle.run.specs.Answers as run
 use Rattle.text_translate.specs.declared.Translation.{Translation}
 use Rattle.text_translate.specs.Translate as text
 use Rattle.lanq.specs.declared.LanqTable.{LanqTable}
-use Rattle.lanq.specs.Answers.{checkAnswer, runAnswer, tableAnswer}
+use Rattle.lanq.specs.Answers.{tableAnswer}
 
-pub answered : (a k : Check) (v : Verdict) {r : LanqAnswer} → a ≡ k → verdictOf a ≡ v → r ≡ checkAnswer (verdictOf k)
-    → r ≡ checkAnswer v
-answered a k v e q p = p ∙ ap checkAnswer (ap verdictOf (sym e) ∙ q)
-
--- the same for a case of the run's answer
 pub ran : (a k : Answer) {r : LanqAnswer} → a ≡ k → r ≡ runAnswer (run.answerNumbers k)
     → r ≡ runAnswer (run.answerNumbers a)
 ran a k e p = p ∙ sym (ap (λ x. runAnswer (run.answerNumbers x)) e)

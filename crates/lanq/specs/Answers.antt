@@ -1,21 +1,8 @@
--- The answers of the C interface for the answers of the definitions.
-use Rattle.table.specs.Questions.{Verdict, accepted, refused}
-use Rattle.machine.specs.Answer.{Answer, refusal, ran}
+-- The answer of the C interface for the translation's; the crate lanq_answers has those for the check's and the run's.
 use Rattle.text_translate.specs.Translate as text
-use Rattle.lanq.specs.declared.LanqAnswer.{LanqAnswer}
 use Rattle.lanq.specs.declared.LanqTable.{LanqTable}
 
--- refused 0 where accepted, else the number with its place
-unfoldable pub checkAnswer : Verdict → LanqAnswer
-checkAnswer accepted = record { refused = 0; place = 0; end = 0; entries = 0; lines = 0; outcomes = 0 }
-checkAnswer (refused n i) = record { refused = n; place = i; end = 0; entries = 0; lines = 0; outcomes = 0 }
-
--- the run's: refused 0 where it was accepted, with end, entries used, lines written and outcomes used
-unfoldable pub runAnswer : Answer → LanqAnswer
-runAnswer (refusal n i) = record { refused = n; place = i; end = 0; entries = 0; lines = 0; outcomes = 0 }
-runAnswer (ran e k l u) = record { refused = 0; place = 0; end = e; entries = k; lines = l; outcomes = u }
-
--- the translation's: refused 0 where the text has a table, with its words, also where the buffer is too short for it
+-- refused 0 where the text has a table, with its words, also where the buffer is too short for it
 unfoldable pub tableAnswer : text.Answer → LanqTable
 tableAnswer (text.refused n i) = record { refused = n; place = i; words = 0 }
 tableAnswer (text.table n) = record { refused = 0; place = 0; words = n }

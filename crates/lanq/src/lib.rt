@@ -1,5 +1,6 @@
 // The C interface, include/lanq.h. Each exported function has the contract of the function that it hands on to, the
-// answers of the check, of the runs, of the translation and of the look-up as a struct of numbers.
+// answers of the check, of the runs, of the translation and of the look-up as a struct of numbers. But for the
+// translation's, these structs are of the crate lanq_answers.
 ghost use mathlib.Core.Path.{_≡_};
 ghost use Rattle.table.specs.Questions.{questions};
 ghost use Rattle.trace.specs.Trace.{lookUp, countRead, sameLines};
@@ -11,9 +12,15 @@ ghost use Rattle.text_parse.specs.Text.{textOf};
 ghost use Rattle.text_translate.specs.Translate.{answerFor, bufferAfter};
 ghost use Rattle.run_text.specs.RunText.{textAnswer, textTrace, textStore};
 ghost use Rattle.store_read.specs.Stored.{storedHolder};
-ghost use Rattle.lanq.specs.Answers.{checkAnswer, runAnswer, tableAnswer};
-use check_questions::Check;
+ghost use Rattle.lanq_answers.specs.Answers.{checkAnswer, runAnswer};
+ghost use Rattle.lanq.specs.Answers.{tableAnswer};
 use check_questions::ask;
+use lanq_answers::LanqAnswer;
+use lanq_answers::LanqHolder;
+use lanq_answers::check_numbers;
+use lanq_answers::ended;
+use lanq_answers::holder_numbers;
+use lanq_answers::refusal;
 use run::Answer;
 use run::run;
 use run_text::run_text;
@@ -22,30 +29,6 @@ use text_translate::Translation;
 use text_translate::translate;
 use trace::lookup::qubit_holder;
 use trace::same::same_lines;
-
-// `refused` is 0 where the input is accepted, and else the question's number with its place. Unused fields are 0.
-#[repr(C)]
-pub struct LanqAnswer {
-    pub refused: u64,
-    pub place: u64,
-    pub end: u64,
-    pub entries: u64,
-    pub lines: u64,
-    pub outcomes: u64,
-}
-
-fn refusal(number: u64, place: u64) -> LanqAnswer
-    ensures { λ r. ⌜ r ≡ record { refused = number; place = place; end = 0; entries = 0; lines = 0; outcomes = 0 } ⌝ }
-{
-    LanqAnswer {
-        refused: number,
-        place: place,
-        end: 0,
-        entries: 0,
-        lines: 0,
-        outcomes: 0,
-    }
-}
 
 // The eight questions, for a work store of so many words.
 #[no_mangle]
@@ -58,32 +41,7 @@ pub extern "C" fn lanq_check(
     ensures { λ r. ⌜ r
         ≡ checkAnswer (questions (now (program .entry)) (now (schedule .entry)) (now (outcomes .entry)) work) ⌝ }
 {
-    let answer = ask(program, schedule, outcomes, work);
-    match answer {
-        Check::Accepted => refusal(0, 0),
-        Check::Sizes => refusal(1, 0),
-        Check::Pairs(m) => refusal(2, m as u64),
-        Check::Rows(m) => refusal(3, m as u64),
-        Check::Instruction(i) => refusal(4, i as u64),
-        Check::Reading(i) => refusal(5, i as u64),
-        Check::Outcome(i) => refusal(6, i as u64),
-        Check::Schedule => refusal(7, 0),
-        Check::Work => refusal(8, 0),
-    }
-}
-
-fn ended(end: u64, entries: u64, lines: u64, outcomes: u64) -> LanqAnswer
-    ensures { λ r. ⌜ r
-        ≡ record { refused = 0; place = 0; end = end; entries = entries; lines = lines; outcomes = outcomes } ⌝ }
-{
-    LanqAnswer {
-        refused: 0,
-        place: 0,
-        end: end,
-        entries: entries,
-        lines: lines,
-        outcomes: outcomes,
-    }
+    check_numbers(ask(program, schedule, outcomes, work))
 }
 
 fn run_numbers(answer: Answer) -> LanqAnswer
@@ -176,13 +134,6 @@ pub extern "C" fn lanq_run_text(
     run_numbers(run_text(text, schedule, outcomes, trace, work))
 }
 
-// The holder of a qubit, 65535 for nobody, and how many lines were read for it.
-#[repr(C)]
-pub struct LanqHolder {
-    pub holder: u64,
-    pub read: u64,
-}
-
 // The holder by the first k lines of a trace, all if there are fewer, read from the last one backwards.
 #[no_mangle]
 pub extern "C" fn lanq_holder(trace: &[u16], k: usize, qubit: u16) -> LanqHolder
@@ -190,10 +141,7 @@ pub extern "C" fn lanq_holder(trace: &[u16], k: usize, qubit: u16) -> LanqHolder
         × (r .read ≡ countRead (now (trace .entry)) k qubit) ⌝ }
 {
     let answer = qubit_holder(trace, k, qubit);
-    LanqHolder {
-        holder: answer.holder as u64,
-        read: answer.read as u64,
-    }
+    holder_numbers(answer)
 }
 
 // The holder of a thing as a run has stored it in the work store: kind 3 a qubit, 5 and 6 the ends of a channel. 255

@@ -1,6 +1,6 @@
 -- `lanq_run` gives the answer of the run its numbers.
 use mathlib.Core.Path.{_∙_, ap}
-use Rattle.lanq.specs.Answers.{runAnswer}
+use Rattle.lanq_answers.specs.Answers.{runAnswer}
 use borrow.Author.Needs.{needs}
 use Rattle.lanq.proofs.lanq_run.Statement.{statement}
 use Rattle.lanq.proofs.lanq_run.Tie as tie

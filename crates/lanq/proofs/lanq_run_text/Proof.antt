@@ -1,6 +1,6 @@
 -- `lanq_run_text` gives the answer of a text's run its numbers.
 use mathlib.Core.Path.{_∙_, ap}
-use Rattle.lanq.specs.Answers.{runAnswer}
+use Rattle.lanq_answers.specs.Answers.{runAnswer}
 use borrow.Author.Needs.{needs}
 use Rattle.lanq.proofs.lanq_run_text.Statement.{statement}
 use Rattle.lanq.proofs.lanq_run_text.Tie as tie

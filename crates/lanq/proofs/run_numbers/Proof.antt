@@ -1,7 +1,7 @@
 -- `run_numbers` gives each case of the run its numbers.
 use Rattle.run.specs.declared.Answer.the-variants.{Refused, Ran}
 use Rattle.run.specs.Answers.{answerNumbers}
-use Rattle.lanq.specs.Answers.{runAnswer}
+use Rattle.lanq_answers.specs.Answers.{runAnswer}
 use Rattle.lanq.proofs.Answered.{ran}
 use borrow.Author.Needs.{needs}
 use Rattle.lanq.proofs.run_numbers.Statement.{statement}
