@@ -13,12 +13,12 @@ use lib.Seq.{slice, getD-set-same, getD-set-other}
 use Rattle.text_tokens.specs.Places.{tokensAt}
 use Rattle.text_tokens.specs.NextCode.{NextToken}
 use Rattle.text_tokens.specs.declared.next.TokenAt.{TokenAt}
-use Rattle.text_types.specs.SaysCode.{nextKind, Passed}
+use Rattle.text_types.specs.SaysCode.{nextKind}
 use Rattle.text_types.proofs.Answers.{kind-next}
 use Rattle.text_scan.specs.ScanCode.{bracesAfter, argumentCount}
-use Rattle.text_methods.specs.RowsCode.{Row, namesMethod, endsMethod, rowsFrom, rowsOf}
-use Rattle.text_methods.specs.IndexCode.{Entry, Indexed, entryName, withEntry}
-use Rattle.text_methods.proofs.Ending.{end-alone, passes-token}
+use Rattle.text_methods.specs.RowsCode.{Row, namesMethod, endsMethod, rowsOf}
+use Rattle.text_methods.specs.IndexCode.{Entry, Indexed, withEntry}
+use Rattle.text_methods.proofs.Ending.{end-alone, AtToken, at-token}
 use Rattle.text_methods.proofs.Finding.{braces-most, later, row, later-at, rows-named, rows-unnamed, rows-end, rowsAt}
 
 elem-within : (rs : List Row) (j : ℕ) (r : Row) → getElem? rs j ≡ some r → j < length rs
@@ -128,10 +128,12 @@ module _ (index : List ℕ) (i start end at params : ℕ) where
           counted = fourth-word ∙ n;
         }
 
--- What is written down at a place
+-- What is written down before a token
 
-pub record IndexSoFar (text index : List ℕ) (at h b i k : ℕ) : Type 0 where
-  pub kind-is : k ≡ nextKind text at
+pub record IndexSoFar (text index : List ℕ) (h b i : ℕ) (t : TokenAt) : Type 0 where
+  -- t is read from there on
+  pub at : ℕ
+  pub next : NextToken text at t
   pub braces-low : b ≤ at
   pub index-low : i ≤ at
   pub long : 129 ≤ length index
@@ -140,10 +142,11 @@ pub record IndexSoFar (text index : List ℕ) (at h b i k : ℕ) : Type 0 where
   pub entered : (j : ℕ) (r : Row) → j < 32 → j < i → getElem? (rowsOf text) j ≡ some r → Entry text index j r
 
 module _ (text index : List ℕ) where
-  pub index-begins : (k : ℕ) → k ≡ nextKind text 0 → 129 ≤ length index → IndexSoFar text index 0 0 0 0 k
+  pub index-begins : (t : TokenAt) → NextToken text 0 t → 129 ≤ length index → IndexSoFar text index 0 0 0 t
   unfolding rowsOf
-  index-begins k e l = record {
-    kind-is = e;
+  index-begins t n l = record {
+    at = 0;
+    next = n;
     braces-low = omega arith;
     index-low = omega arith;
     long = l;
@@ -152,149 +155,152 @@ module _ (text index : List ℕ) where
     entered = λ j r l h. absurd (omega arith);
   }
 
-  module _ (at h b i k : ℕ) (s : IndexSoFar text index at h b i k) where
-    pub index-ends : k ≡ 32 → Indexed text (set index 0 i)
-    index-ends e =
-        let last : nextKind text at ≡ 32 = sym (s .kind-is) ∙ e in
-        let over : length (rowsAt text h b at) ≡ 0 =
-        ap length (rows-end (tokensAt text h) b (tokensAt text at) last (end-alone text at last)) in
-        let whole : length (rowsOf text) ≡ i + length (rowsAt text h b at) = s .count-is in
-        let size : length (set index 0 i) ≡ length index = length-set index 0 i in
-        let room : 129 ≤ length index = s .long in
-        let all : i ≡ length (rowsOf text) = omega arith in
-        record {
-          long = omega arith;
-          count = getD-set-same index 0 i 0 (omega arith) ∙ all;
-          entries = λ j r l f. entry-same text index (set index 0 i) j r
-              (λ m p q. getD-set-other index 0 (4 * j + m) i 0 (λ z. omega arith))
-              (s .entered j r l (subst (λ (n : ℕ). j < n) (sym all) (elem-within (rowsOf text) j r f)) f);
-        }
+module _ {text index : List ℕ} {h b i : ℕ} {t : TokenAt} (s : IndexSoFar text index h b i t) where
+  abbrev at : ℕ
+  at = s .at
 
-    module _ (f : k ≡ 32 → ⊥) (t u : TokenAt) (n : NextToken text at t) (m : NextToken text (t .end) u) where
-      further : nextKind text at ≡ 32 → ⊥
-      further e = f (s .kind-is ∙ e)
+  pub index-ends : t .kind ≡ 32 → Indexed text (set index 0 i)
+  index-ends e =
+      let last : nextKind text at ≡ 32 = kind-next text at t (s .next) ∙ e in
+      let over : length (rowsAt text h b at) ≡ 0 =
+      ap length (rows-end (tokensAt text h) b (tokensAt text at) last (end-alone text at last)) in
+      let whole : length (rowsOf text) ≡ i + length (rowsAt text h b at) = s .count-is in
+      let size : length (set index 0 i) ≡ length index = length-set index 0 i in
+      let room : 129 ≤ length index = s .long in
+      let all : i ≡ length (rowsOf text) = omega arith in
+      record {
+        long = omega arith;
+        count = getD-set-same index 0 i 0 (omega arith) ∙ all;
+        entries = λ j r l f. entry-same text index (set index 0 i) j r
+            (λ m p q. getD-set-other index 0 (4 * j + m) i 0 (λ z. omega arith))
+            (s .entered j r l (subst (λ (n : ℕ). j < n) (sym all) (elem-within (rowsOf text) j r f)) f);
+      }
 
-      pub index-passes : Passed text at (t .end)
-      index-passes = passes-token text at t n further
+  module _ (f : t .kind ≡ 32 → ⊥) where
+    pub index-turn : AtToken text t b i
+    index-turn = at-token text at t b i (s .next) (s .braces-low) (s .index-low) f
 
-      same-kind : k ≡ t .kind
-      same-kind = s .kind-is ∙ kind-next text at t n
+    further : nextKind text at ≡ 32 → ⊥
+    further e = f (sym (kind-next text at t (s .next)) ∙ e)
 
-      module _ (named : Bool) (e : named ≡ namesMethod b k (u .kind)) (index′ : List ℕ)
-          (w : index′ ≡ cond (named && ltb i 32)
-          (withEntry index i (t .start) (t .end) h (argumentCount (tokensAt text (u .end)))) index) where
-        names : namesMethod b (t .kind) (u .kind) ≡ named
-        names = sym (e ∙ ap (λ (j : ℕ). namesMethod b j (u .kind)) same-kind)
+    module _ (u : TokenAt) (m : NextToken text (t .end) u) (named : Bool)
+        (e : named ≡ namesMethod b (t .kind) (u .kind)) (index′ : List ℕ)
+        (w : index′ ≡ cond (named && ltb i 32)
+        (withEntry index i (t .start) (t .end) h (argumentCount (tokensAt text (u .end)))) index) where
+      abbrev new : List ℕ
+      new = withEntry index i (t .start) (t .end) h (argumentCount (tokensAt text (u .end)))
 
-        abbrev new : List ℕ
-        new = withEntry index i (t .start) (t .end) h (argumentCount (tokensAt text (u .end)))
+      -- the entries before stay, and so does the length
+      kept : (j : ℕ) (r : Row) → (j ≡ i → ⊥) → Entry text index j r → Entry text index′ j r
+      kept j r d old = subst (λ xs. Entry text xs j r) (sym w) (by (named && ltb i 32))
+        where
+          by : (c : Bool) → Entry text (cond c new index) j r
+          by true =
+              entry-kept index i (t .start) (t .end) h (argumentCount (tokensAt text (u .end))) text j r d old
+          by false = old
 
-        -- the entries before stay, and so does the length
-        kept : (j : ℕ) (r : Row) → (j ≡ i → ⊥) → Entry text index j r → Entry text index′ j r
-        kept j r d old = subst (λ xs. Entry text xs j r) (sym w) (by (named && ltb i 32))
-          where
-            by : (c : Bool) → Entry text (cond c new index) j r
-            by true =
-                entry-kept index i (t .start) (t .end) h (argumentCount (tokensAt text (u .end))) text j r d old
-            by false = old
+      same-size : length index′ ≡ length index
+      same-size = ap length w ∙ by (named && ltb i 32)
+        where
+          by : (c : Bool) → length (cond c new index) ≡ length index
+          by true = entry-length index i (t .start) (t .end) h (argumentCount (tokensAt text (u .end)))
+          by false = refl
 
-        same-size : length index′ ≡ length index
-        same-size = ap length w ∙ by (named && ltb i 32)
-          where
-            by : (c : Bool) → length (cond c new index) ≡ length index
-            by true = entry-length index i (t .start) (t .end) h (argumentCount (tokensAt text (u .end)))
-            by false = refl
+      -- the method that is named here is entered
+      written : named ≡ true → i < 32 → Entry text index′ i (row text at h b t u (s .next) m further)
+      unfolding row
+      written y l =
+          let into : index′ ≡ new =
+          w ∙ ap (λ (c : Bool). cond (c && ltb i 32) new index) y
+          ∙ ap (λ (c : Bool). cond c new index) (lt-ltb i 32 l) in
+          subst (λ xs. Entry text xs i (row text at h b t u (s .next) m further)) (sym into)
+          (entry-written index i (t .start) (t .end) h (argumentCount (tokensAt text (u .end))) l (s .long) text
+          (row text at h b t u (s .next) m further) (s .next .ends) (index-turn .within) refl refl refl)
 
-        -- the method that is named here is entered
-        written : named ≡ true → i < 32 → Entry text index′ i (row text at h b t u n m further)
-        unfolding row
-        written y l =
-            let into : index′ ≡ new =
-            w ∙ ap (λ (c : Bool). cond (c && ltb i 32) new index) y
-            ∙ ap (λ (c : Bool). cond c new index) (lt-ltb i 32 l) in
-            subst (λ xs. Entry text xs i (row text at h b t u n m further)) (sym into)
-            (entry-written index i (t .start) (t .end) h (argumentCount (tokensAt text (u .end))) l (s .long) text
-            (row text at h b t u n m further) (n .ends) (index-passes .within) refl refl refl)
+      enters : named ≡ true → getElem? (rowsOf text) i ≡ some (row text at h b t u (s .next) m further)
+          → (j : ℕ) (r : Row) → j < 32 → j < suc i → getElem? (rowsOf text) j ≡ some r → Entry text index′ j r
+      enters y g j r l q z = by (eqb j i) refl
+        where
+          by : (c : Bool) → eqb j i ≡ c → Entry text index′ j r
+          by true d =
+              let same : j ≡ i = eqb-true j i d in
+              let is : row text at h b t u (s .next) m further ≡ r =
+              Option·some-injective (row text at h b t u (s .next) m further) r
+              (sym g ∙ ap (getElem? (rowsOf text)) (sym same) ∙ z) in
+              subst (λ (a : ℕ). Entry text index′ a r) (sym same)
+              (subst (Entry text index′ i) is (written y (subst (λ (a : ℕ). a < 32) same l)))
+          by false d =
+              let apart : j ≡ i → ⊥ = eqb-false j i d in
+              kept j r apart (s .entered j r l (omega arith) z)
 
-        enters : named ≡ true → getElem? (rowsOf text) i ≡ some (row text at h b t u n m further)
-            → (j : ℕ) (r : Row) → j < 32 → j < suc i → getElem? (rowsOf text) j ≡ some r → Entry text index′ j r
-        enters y g j r l q z = by (eqb j i) refl
-          where
-            by : (c : Bool) → eqb j i ≡ c → Entry text index′ j r
-            by true d =
-                let same : j ≡ i = eqb-true j i d in
-                let is : row text at h b t u n m further ≡ r =
-                Option·some-injective (row text at h b t u n m further) r
-                (sym g ∙ ap (getElem? (rowsOf text)) (sym same) ∙ z) in
-                subst (λ (a : ℕ). Entry text index′ a r) (sym same)
-                (subst (Entry text index′ i) is (written y (subst (λ (a : ℕ). a < 32) same l)))
-            by false d =
-                let apart : j ≡ i → ⊥ = eqb-false j i d in
-                kept j r apart (s .entered j r l (omega arith) z)
+      room : 129 ≤ length index′
+      room =
+          let size : length index′ ≡ length index = same-size in
+          let before : 129 ≤ length index = s .long in
+          omega arith
 
-        room : 129 ≤ length index′
-        room =
-            let size : length index′ ≡ length index = same-size in
-            let before : 129 ≤ length index = s .long in
-            omega arith
+      pub index-goes : (i′ h′ b′ : ℕ) → i′ ≡ cond named (suc i) i
+          → h′ ≡ cond (endsMethod b (t .kind)) (t .end) h → b′ ≡ bracesAfter b (t .kind)
+          → IndexSoFar text index′ h′ b′ i′ u
+      unfolding row
+      index-goes i′ h′ b′ ii hh bb = by named refl
+        where
+          onward : at < t .end
+          onward =
+              let starts : at ≤ t .start = s .next .starts in
+              let passed : t .start < t .end = index-turn .onward in
+              omega arith
 
-        pub index-goes : (i′ h′ b′ : ℕ) → i′ ≡ cond named (suc i) i
-            → h′ ≡ cond (endsMethod b k) (t .end) h → b′ ≡ bracesAfter b k
-            → IndexSoFar text index′ (t .end) h′ b′ i′ (u .kind)
-        unfolding row
-        index-goes i′ h′ b′ ii hh bb = by named refl
-          where
-            onward : at < t .end
-            onward = index-passes .onward
+          low : b′ ≤ t .end
+          low =
+              let most : bracesAfter b (t .kind) ≤ b + 1 = braces-most b (t .kind) in
+              let before : b ≤ at = s .braces-low in
+              let on : at < t .end = onward in
+              omega arith
 
-            low : b′ ≤ t .end
-            low =
-                let most : bracesAfter b k ≤ b + 1 = braces-most b k in
-                let before : b ≤ at = s .braces-low in
-                let on : at < t .end = onward in
-                omega arith
+          after-rows : later text at h b t u (s .next) m further ≡ rowsAt text h′ b′ (t .end)
+          after-rows = later-at text at h b t u (s .next) m further (t .kind) h′ b′ refl hh bb
 
-            after-rows : later text at h b t u n m further ≡ rowsAt text h′ b′ (t .end)
-            after-rows = later-at text at h b t u n m further k h′ b′ same-kind hh bb
-
-            by : (c : Bool) → named ≡ c → IndexSoFar text index′ (t .end) h′ b′ i′ (u .kind)
-            by true y =
-                let this = row text at h b t u n m further in
-                let next = rowsAt text h′ b′ (t .end) in
-                let here : rowsAt text h b at ≡ this ∷ next =
-                rows-named text at h b t u n m further (names ∙ y) ∙ ap (λ rs. this ∷ rs) after-rows in
-                let more : i′ ≡ suc i = ii ∙ ap (λ (c : Bool). cond c (suc i) i) y in
-                let before : i ≤ at = s .index-low in
-                let on : at < t .end = onward in
-                let total : length (rowsOf text) ≡ i + length (rowsAt text h b at) = s .count-is in
-                let longer : length (rowsAt text h b at) ≡ suc (length next) = ap length here in
-                record {
-                  kind-is = sym (kind-next text (t .end) u m);
-                  braces-low = low;
-                  index-low = omega arith;
-                  long = room;
-                  count-is = omega arith;
-                  row-is = λ j. ap (getElem? (rowsOf text)) (let on : i′ + j ≡ i + suc j = omega arith in on)
-                      ∙ s .row-is (suc j) ∙ ap (λ rs. getElem? rs (suc j)) here;
-                  entered = λ j r l q. enters y
-                      (ap (getElem? (rowsOf text)) (sym (add-zero i)) ∙ s .row-is 0 ∙ ap (λ rs. getElem? rs 0) here)
-                      j r l (subst (λ (a : ℕ). j < a) more q);
-                }
-            by false y =
-                let here : rowsAt text h b at ≡ rowsAt text h′ b′ (t .end) =
-                rows-unnamed text at h b t u n m further (names ∙ y) ∙ after-rows in
-                let same-index : i′ ≡ i = ii ∙ ap (λ (c : Bool). cond c (suc i) i) y in
-                let before : i ≤ at = s .index-low in
-                let on : at < t .end = onward in
-                let total : length (rowsOf text) ≡ i + length (rowsAt text h b at) = s .count-is in
-                let as-long : length (rowsAt text h b at) ≡ length (rowsAt text h′ b′ (t .end)) = ap length here in
-                record {
-                  kind-is = sym (kind-next text (t .end) u m);
-                  braces-low = low;
-                  index-low = omega arith;
-                  long = room;
-                  count-is = omega arith;
-                  row-is = λ j. ap (λ (a : ℕ). getElem? (rowsOf text) (a + j)) same-index ∙ s .row-is j
-                      ∙ ap (λ rs. getElem? rs j) here;
-                  entered = λ j r l q g. kept j r (λ z. omega arith) (s .entered j r l (omega arith) g);
-                }
+          by : (c : Bool) → named ≡ c → IndexSoFar text index′ h′ b′ i′ u
+          by true y =
+              let this = row text at h b t u (s .next) m further in
+              let next = rowsAt text h′ b′ (t .end) in
+              let here : rowsAt text h b at ≡ this ∷ next =
+              rows-named text at h b t u (s .next) m further (sym e ∙ y) ∙ ap (λ rs. this ∷ rs) after-rows in
+              let more : i′ ≡ suc i = ii ∙ ap (λ (c : Bool). cond c (suc i) i) y in
+              let before : i ≤ at = s .index-low in
+              let on : at < t .end = onward in
+              let total : length (rowsOf text) ≡ i + length (rowsAt text h b at) = s .count-is in
+              let longer : length (rowsAt text h b at) ≡ suc (length next) = ap length here in
+              record {
+                at = t .end;
+                next = m;
+                braces-low = low;
+                index-low = omega arith;
+                long = room;
+                count-is = omega arith;
+                row-is = λ j. ap (getElem? (rowsOf text)) (let on : i′ + j ≡ i + suc j = omega arith in on)
+                    ∙ s .row-is (suc j) ∙ ap (λ rs. getElem? rs (suc j)) here;
+                entered = λ j r l q. enters y
+                    (ap (getElem? (rowsOf text)) (sym (add-zero i)) ∙ s .row-is 0 ∙ ap (λ rs. getElem? rs 0) here)
+                    j r l (subst (λ (a : ℕ). j < a) more q);
+              }
+          by false y =
+              let here : rowsAt text h b at ≡ rowsAt text h′ b′ (t .end) =
+              rows-unnamed text at h b t u (s .next) m further (sym e ∙ y) ∙ after-rows in
+              let same-index : i′ ≡ i = ii ∙ ap (λ (c : Bool). cond c (suc i) i) y in
+              let before : i ≤ at = s .index-low in
+              let on : at < t .end = onward in
+              let total : length (rowsOf text) ≡ i + length (rowsAt text h b at) = s .count-is in
+              let as-long : length (rowsAt text h b at) ≡ length (rowsAt text h′ b′ (t .end)) = ap length here in
+              record {
+                at = t .end;
+                next = m;
+                braces-low = low;
+                index-low = omega arith;
+                long = room;
+                count-is = omega arith;
+                row-is = λ j. ap (λ (a : ℕ). getElem? (rowsOf text) (a + j)) same-index ∙ s .row-is j
+                    ∙ ap (λ rs. getElem? rs j) here;
+                entered = λ j r l q g. kept j r (λ z. omega arith) (s .entered j r l (omega arith) g);
+              }

@@ -25,7 +25,6 @@ use text_tokens::bytes::is_word;
 use text_tokens::kinds::END;
 use text_tokens::next::TokenAt;
 use text_tokens::next::next_token;
-use text_types::place::next_kind;
 
 // The four words of entry i.
 fn put_entry(index: &mut [usize], i: usize, start: usize, end: usize, at: usize, params: usize)
@@ -67,21 +66,18 @@ pub fn index_methods(text: &[u8], index: &mut [usize])
     requires { ⌜ 129 ≤ length (now index) ⌝ }
     ensures { λ r. ⌜ Indexed (now (text .entry)) (now (index .exit)) ⌝ }
 {
-    let mut at = 0;
     let mut header = 0;
     let mut braces = 0;
     let mut i = 0;
-    let mut kind = next_kind(text, at);
-    while kind != END {
-        let t = next_token(text, at);
+    let mut t = next_token(text, 0);
+    while t.kind != END {
         let u = next_token(text, t.end);
-        let named = names_method(braces, kind, u.kind);
+        let named = names_method(braces, t.kind, u.kind);
         enter(text, index, named, i, t, header, u.end);
         i = add_if(i, named);
-        header = header_after(braces, kind, header, t.end);
-        braces = braces_after(braces, kind);
-        at = t.end;
-        kind = u.kind;
+        header = header_after(braces, t.kind, header, t.end);
+        braces = braces_after(braces, t.kind);
+        t = u;
     }
     index[0] = i;
 }

@@ -21,13 +21,13 @@ use Rattle.text_tokens.specs.KindsCode.{kindOf}
 use Rattle.text_tokens.specs.NextCode.{NextToken, nextAt as tokenNext}
 use Rattle.text_tokens.specs.declared.next.TokenAt.{TokenAt}
 use Rattle.text_tokens.proofs.Tokenwise.{next-token}
-use Rattle.text_types.specs.SaysCode.{nextKind, nextAt, Passed}
+use Rattle.text_types.specs.SaysCode.{nextKind, nextAt}
 use Rattle.text_types.proofs.Answers.{kind-next, at-next, past-kind}
 use Rattle.text_scan.specs.Events.{Event}
 use Rattle.text_scan.specs.ScanCode.{kindAt, isNone, lessOne, modeAfter, bracesAfter, nameRole, braceRole, role, withEvent, countFrom, argumentCount, eventsFrom}
 use Rattle.text_scan.specs.FaultsCode.{countOf, indexIn, callable, invocable, Blocks, innermost, namesIn}
 use Rattle.text_methods.specs.RowsCode.{Row, rowsOf, rowOf, rowIndex}
-use Rattle.text_methods.proofs.Ending.{no-bytes, end-alone, passes-token}
+use Rattle.text_methods.proofs.Ending.{no-bytes, end-alone, passes-token, AtToken, at-token}
 use Rattle.text_methods.proofs.Counted.{count-at-end}
 use Rattle.text_methods.proofs.Finding.{split-at, braces-most}
 use Rattle.text_roles.specs.FoundCode.{levelOf, foundAfter, foundUpTo, foundIn, blocksAfter}
@@ -61,13 +61,6 @@ index-row [] x = refl
 index-row (r ∷ rs) x = ap (λ (n : ℕ). cond (spells x (r .name)) 0 (suc n)) (index-row rs x)
 
 -- Places
-
-starts-before : (text : List ℕ) (at : ℕ) (t : TokenAt) → NextToken text at t → (nextKind text at ≡ 32 → ⊥)
-    → t .start < t .end
-starts-before text at t n f =
-    ⊎-elim (λ e. n .onward (ltb-true (t .start) (length text) e))
-    (λ e. absurd (f (kind-next text at t n ∙ past-kind text at t n (ltb-false (t .start) (length text) e))))
-    (decide (ltb (t .start) (length text)))
 
 count-none : (text : List ℕ) (i : ℕ) → nextKind text i ≡ 32 → argumentCount (tokensAt text i) ≡ 1
 unfolding argumentCount
@@ -135,14 +128,17 @@ named-state m (suc b) k f = λ q. absurd (by (eqb k 33) (eqb m 4) (eqb m 3) (eqb
         last false q = passes q
     by false c d g h false false q = passes q
 
--- what the scan has come to at a place
-pub record ScanSoFar (test : List ℕ → Bool) (all : Bool) (text words : List ℕ) (at m b from i n : ℕ) (found : Bool)
-    (low k : ℕ) : Type 0 where
+-- what the scan has come to before a token
+pub record ScanSoFar (test : List ℕ → Bool) (all : Bool) (text words : List ℕ) (m b from i n : ℕ) (found : Bool)
+    (low : ℕ) (t : TokenAt) (k : ℕ) : Type 0 where
+  -- t is read from there on
+  pub at : ℕ
+  pub next : NextToken text at t
   pub blocks : Blocks
   pub room : length words ≡ 3072
   pub count-low : n ≤ 1025
   pub opens : n ≤ 1024 → openOf text words n ≡ declaredIn test blocks
-  pub kind-is : k ≡ cond (fitsIn all n) (nextKind text at) 32
+  pub kind-is : k ≡ cond (fitsIn all n) (t .kind) 32
   pub braces-low : b ≤ at
   pub index-low : i ≤ at
   pub level : length blocks ≡ levelOf b
@@ -157,15 +153,17 @@ none-found : (least : ℕ) (y : List ℕ) → foundIn least y ([] ∷ []) ≡ 0
 unfolding foundIn
 none-found least y = found-opened least y []
 
-pub scan-begins : (test : List ℕ → Bool) (all : Bool) (text words : List ℕ) (k : ℕ) → length words ≡ 3072
-    → k ≡ nextKind text 0 → ScanSoFar test all text words 0 0 0 0 0 0 false 0 k
+pub scan-begins : (test : List ℕ → Bool) (all : Bool) (text words : List ℕ) (t : TokenAt) → length words ≡ 3072
+    → NextToken text 0 t → ScanSoFar test all text words 0 0 0 0 0 false 0 t (t .kind)
 unfolding lowestIn lowerOf levelOf declaredIn namesAt
-scan-begins test all text words k r e = record {
+scan-begins test all text words t r e = record {
+  at = 0;
+  next = e;
   blocks = [] ∷ [];
   room = r;
   count-low = omega arith;
   opens = λ l. none-open text words;
-  kind-is = e ∙ sym (ap (λ (c : Bool). cond c (nextKind text 0) 32) (fits-none all));
+  kind-is = sym (ap (λ (c : Bool). cond c (t .kind) 32) (fits-none all));
   braces-low = omega arith;
   index-low = omega arith;
   level = refl;
@@ -195,24 +193,36 @@ end-kind : (c : Bool) (k j : ℕ) → k ≡ cond c j 32 → (k ≡ 32 → ⊥) �
 end-kind true k j e f = e
 end-kind false k j e f = absurd (f e)
 
-module _ (test : List ℕ → Bool) (all : Bool) (text words : List ℕ) (at m b from i n : ℕ) (found : Bool) (low k : ℕ)
-    (s : ScanSoFar test all text words at m b from i n found low k) where
+module _ {test : List ℕ → Bool} {all : Bool} {text words : List ℕ} {m b from i n : ℕ} {found : Bool} {low : ℕ}
+    {t : TokenAt} {k : ℕ} (s : ScanSoFar test all text words m b from i n found low t k) where
+  abbrev at : ℕ
+  at = s .at
+
   pub scan-ends : k ≡ 32 → fitsIn all n ≡ true → placeIf found low ≡ lowestIn test text
   unfolding faulty lowestOf
   scan-ends e h =
-      let kind : k ≡ nextKind text at = s .kind-is ∙ ap (λ (c : Bool). cond c (nextKind text at) 32) h in
-      let last : nextKind text at ≡ 32 = sym kind ∙ e in
+      let kind : k ≡ t .kind = s .kind-is ∙ ap (λ (c : Bool). cond c (t .kind) 32) h in
+      let last : nextKind text at ≡ 32 = kind-next text at t (s .next) ∙ sym kind ∙ e in
       sym (s .lowest-is
       ∙ ap (λ es. lowerOf (placeIf found low) (lowestOf test (faulty (methodsOf text) i (s .blocks) es)))
       (end-events m b (tokensAt text at) last (end-alone text at last))
       ∙ lower-none (placeIf found low))
 
-  module _ (f : k ≡ 32 → ⊥) (t u : TokenAt) (q : NextToken text at t) (p : NextToken text (t .end) u) where
-    further : nextKind text at ≡ 32 → ⊥
-    further e = f (end-kind (fitsIn all n) k (nextKind text at) (s .kind-is) f ∙ e)
+  same-kind : (k ≡ 32 → ⊥) → k ≡ t .kind
+  same-kind f = end-kind (fitsIn all n) k (t .kind) (s .kind-is) f
 
-    pub scan-passes : Passed text at (t .end)
-    scan-passes = passes-token text at t q further
+  pub scan-turn : (k ≡ 32 → ⊥) → AtToken text t b i
+  scan-turn f = at-token text at t b i (s .next) (s .braces-low) (s .index-low) (λ e. f (same-kind f ∙ e))
+
+  module _ (f : k ≡ 32 → ⊥) (u : TokenAt) (p : NextToken text (t .end) u) where
+    further : nextKind text at ≡ 32 → ⊥
+    further e = f (same-kind f ∙ sym (kind-next text at t (s .next)) ∙ e)
+
+    onward : at < t .end
+    onward =
+        let starts : at ≤ t .start = s .next .starts in
+        let passed : t .start < t .end = scan-turn f .onward in
+        omega arith
 
     name : Name
     name = nameOf (tokenOf text (t .start) (t .end))
@@ -227,9 +237,8 @@ module _ (test : List ℕ → Bool) (all : Bool) (text words : List ℕ) (at m b
     known : (least : ℕ) (y : List ℕ)
         → foundUpTo least y (t .start) 0 0 0 (tokensAt text from) ≡ foundIn least y (s .blocks)
     known least y =
-        let starts : at ≤ t .start = q .starts in
-        let place : nextAt text at ≡ t .start = at-next text at t q in
-        s .finds least y (t .start) (q .starts)
+        let place : nextAt text at ≡ t .start = at-next text at t (s .next) in
+        s .finds least y (t .start) (s .next .starts)
         ∙ found-there least y (t .start) m b (foundIn least y (s .blocks)) (tokensAt text at) (omega arith)
 
     -- the fault of the name, by its role
@@ -289,8 +298,8 @@ module _ (test : List ℕ → Bool) (all : Bool) (text words : List ℕ) (at m b
         (eventsFrom (modeAfter m b (t .kind)) (bracesAfter b (t .kind)) (tokensAt text (t .end)))
     unfolding eventsFrom r name count
     events-split =
-        ap (eventsFrom m b) (split-at text at t q further)
-        ∙ ap (λ (j : ℕ). onward j (kindAt (tokensAt text (t .end)))) (sym (q .kind))
+        ap (eventsFrom m b) (split-at text at t (s .next) further)
+        ∙ ap (λ (j : ℕ). onward j (kindAt (tokensAt text (t .end)))) (sym (s .next .kind))
         ∙ ap (onward (t .kind)) (kind-next text (t .end) u p)
       where
         onward : ℕ → ℕ → List Event
@@ -337,10 +346,10 @@ module _ (test : List ℕ → Bool) (all : Bool) (text words : List ℕ) (at m b
     unfolding r
     finds-onward least y to l =
         let us = tokensAt text (t .end) in
-        let before : t .start < t .end = starts-before text at t q further in
-        let onward : at < t .end = scan-passes .onward in
+        let before : t .start < t .end = scan-turn f .onward in
+        let begins : at < t .end = onward in
         s .finds least y to (omega arith)
-        ∙ found-step text least y to at m b (foundIn least y (s .blocks)) t u q p further (omega arith)
+        ∙ found-step text least y to at m b (foundIn least y (s .blocks)) t u (s .next) p further (omega arith)
         ∙ ap (λ (j : ℕ). foundUpTo least y to (modeAfter m b (t .kind)) (bracesAfter b (t .kind)) j us)
         (found-onward least y)
 
@@ -422,8 +431,8 @@ module _ (test : List ℕ → Bool) (all : Bool) (text words : List ℕ) (at m b
         ∙ open-after test b name (s .blocks) (s .level) r
         (closes-level m b (t .kind) (u .kind) (s .blocks) (s .level))
 
-    pub scan-goes : (words′ : List ℕ) (r′ : ℕ) (mine : Bool) (asked : ℕ) (fault : Bool)
-        (entered low′ n′ from′ i′ m′ b′ : ℕ) (fits : Bool) (k′ : ℕ)
+    pub scan-goes : {words′ : List ℕ} {r′ : ℕ} {mine : Bool} {asked : ℕ} {fault : Bool}
+        {entered low′ n′ from′ i′ m′ b′ : ℕ} {fits : Bool} {k′ : ℕ}
         → r′ ≡ role m b (t .kind) (u .kind)
         → mine ≡ test (slice (t .start) (t .end) text)
         → asked ≡ cond mine r′ 0
@@ -435,12 +444,12 @@ module _ (test : List ℕ → Bool) (all : Bool) (text words : List ℕ) (at m b
         → placeIf (found || fault) low′ ≡ lowerOf (placeIf found low) (placeIf fault (t .start))
         → from′ ≡ cond (eqb r′ 1) (t .end) from → i′ ≡ indexAfter r′ i → m′ ≡ modeAfter m b (t .kind)
         → b′ ≡ bracesAfter b (t .kind) → fits ≡ fitsIn all n′ → k′ ≡ cond fits (u .kind) 32
-        → ScanSoFar test all text words′ (t .end) m′ b′ from′ i′ n′ (found || fault) low′ k′
+        → ScanSoFar test all text words′ m′ b′ from′ i′ n′ (found || fault) low′ u k′
     unfolding r rest-lowest
-    scan-goes words′ r′ mine asked fault entered low′ n′ from′ i′ m′ b′ fits k′ rr tt aa ff nn kept turns ll oo ii mm bb
-        hh kk =
+    scan-goes {words′} {r′} {mine} {asked} {fault} {entered} {low′} {n′} {from′} {i′} {m′} {b′} {fits} rr tt aa ff nn
+        kept turns ll oo ii mm bb hh kk =
         let us = tokensAt text (t .end) in
-        let onward : at < t .end = scan-passes .onward in
+        let begins : at < t .end = onward in
         let low-braces : b ≤ at = s .braces-low in
         let most : bracesAfter b (t .kind) ≤ b + 1 = braces-most b (t .kind) in
         let low-index : i ≤ at = s .index-low in
@@ -454,6 +463,8 @@ module _ (test : List ℕ → Bool) (all : Bool) (text words : List ℕ) (at m b
         ∙ ap (λ (j : ℕ). test (slice (t .start) (t .end) text)
         && faultHere text from b i j (t .start) (t .end) (u .end)) rr in
         record {
+          at = t .end;
+          next = p;
           blocks = after;
           room = kept ∙ s .room;
           count-low = turns .0;
@@ -462,8 +473,7 @@ module _ (test : List ℕ → Bool) (all : Bool) (text words : List ℕ) (at m b
               (nn ∙ ap (λ (c : Bool). cond (eqb r′ 2 && not c) 0 r′) tt
               ∙ ap (λ (j : ℕ). cond (eqb j 2 && not (test (slice (t .start) (t .end) text))) 0 j) rr) turns;
           kind-is =
-              kk ∙ ap (λ (c : Bool). cond c (u .kind) 32) hh
-              ∙ ap (λ (j : ℕ). cond (fitsIn all n′) j 32) (sym (kind-next text (t .end) u p));
+              kk ∙ ap (λ (c : Bool). cond c (u .kind) 32) hh;
           braces-low = omega arith;
           index-low = omega arith;
           level = level-after ∙ ap levelOf (sym bb);

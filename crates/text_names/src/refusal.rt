@@ -22,7 +22,6 @@ use text_roles::scan::mode_after;
 use text_roles::scan::role;
 use text_tokens::kinds::END;
 use text_tokens::next::next_token;
-use text_types::place::next_kind;
 
 // A place, where there is one.
 pub struct LowestAt {
@@ -84,7 +83,6 @@ fn lowest_in(text: &[u8], methods: &[usize], words: &mut [usize], all: bool, cla
     ensures { λ r. ⌜ (r .known ≡ true → placeIf (r .found) (r .at) ≡ lowestIn (inClass all class) (now (text .entry)))
         × (all ≡ false → r .known ≡ true) ⌝ }
 {
-    let mut at = 0;
     let mut mode = 0;
     let mut braces = 0;
     let mut from = 0;
@@ -92,9 +90,9 @@ fn lowest_in(text: &[u8], methods: &[usize], words: &mut [usize], all: bool, cla
     let mut n = 0;
     let mut found = false;
     let mut low = 0;
-    let mut kind = next_kind(text, at);
+    let mut t = next_token(text, 0);
+    let mut kind = t.kind;
     while kind != END {
-        let t = next_token(text, at);
         let u = next_token(text, t.end);
         let r = role(mode, braces, t.kind, u.kind);
         let mine = in_class(text, t.start, t.end, all, class);
@@ -119,8 +117,8 @@ fn lowest_in(text: &[u8], methods: &[usize], words: &mut [usize], all: bool, cla
         index = index_after(r, index);
         mode = mode_after(mode, braces, t.kind);
         braces = braces_after(braces, t.kind);
-        at = t.end;
         kind = kind_if(keeps(all, n), u.kind);
+        t = u;
     }
     PassAt {
         known: keeps(all, n),

@@ -1,30 +1,27 @@
--- `index_methods`: at each place the methods before it are written down.
+-- `index_methods`: at each token the methods before it are written down.
 use native.Mathlib.Omega.{arith}
-use Prim.Native.Nat.{_-_, _*_, _≤_, _<_, _^_}
+use Prim.Native.Nat.{_-_}
 use mathlib.Core.Path.{_≡_, refl}
 use borrow.Author.Needs.{needs}
 use lib.ListN.{length}
-use Rattle.text_methods.proofs.Indexing.{IndexSoFar, index-begins, index-ends, index-passes, index-goes}
+use Rattle.text_methods.proofs.Indexing.{IndexSoFar, index-begins, index-ends, index-turn, index-goes}
 use Rattle.text_methods.proofs.index.index_methods.Statement.{statement}
 use Rattle.text_methods.proofs.index.index_methods.Tie as tie
 
 abbrev Inv-loop : tie.InvT-loop
-Inv-loop text index₀ at₀ header₀ braces₀ i₀ kind₀ index at header braces i kind =
-    IndexSoFar text index at header braces i kind × (length index ≡ length index₀)
+Inv-loop text index₀ header₀ braces₀ i₀ t₀ index header braces i t =
+    IndexSoFar text index header braces i t × (length index ≡ length index₀)
 
 abbrev μ-loop : tie.MeasureT-loop
-μ-loop text index₀ at₀ header₀ braces₀ i₀ kind₀ index at header braces i kind = length text - at
-
-next-kind-requires : tie.Need-next-kind-requires Inv-loop μ-loop
-next-kind-requires c κs = search needs
-
-loop-holds : tie.Need-loop-holds Inv-loop μ-loop
-loop-holds c =
-    let c3 = c .before .before .before in
-    (index-begins (c3 .args .text .now) (c3 .args .index .now) _ (c .next-kind .ensures) (c3 .pre), refl)
+μ-loop text index₀ header₀ braces₀ i₀ t₀ index header braces i t = length text - t .start
 
 next-token-requires : tie.Need-next-token-requires Inv-loop μ-loop
 next-token-requires c κs = search needs
+
+loop-holds : tie.Need-loop-holds Inv-loop μ-loop
+loop-holds c =
+    let at-args = c .before .before .before in
+    (index-begins (at-args .args .text .now) (at-args .args .index .now) _ (c .next-token .ensures) (at-args .pre), refl)
 
 next-token-requires-2 : tie.Need-next-token-requires-2 Inv-loop μ-loop
 next-token-requires-2 c κs = search needs
@@ -37,90 +34,55 @@ enter-requires c κs = c .before .before .before .before .before .loop .inv .0 .
 
 add-if-requires : tie.Need-add-if-requires Inv-loop μ-loop
 add-if-requires c κs =
-    let c5 = c .before .before .before .before .before in
-    let c6 = c5 .before in
-    let c7 = c6 .before in
-    let c8 = c7 .before in
-    let c12 = c8 .before .before .before .before in
-    let l = c8 .loop in
-    let text = c12 .args .text .now in
-    let p = index-passes text (l .index) (l .at) (l .header) (l .braces) (l .i) (l .kind) (l .inv .0)
-    (c7 .loop-test .taken) _ _ (c6 .next-token .ensures) (c5 .next-token2 .ensures) in
-    let begun : l .at < length text = p .begun in
-    let short : length text * 1 < 2 ^ 63 = c12 .good .0 .1 in
-    let low : l .i ≤ l .at = l .inv .0 .index-low in
-    omega arith
+    let at-next = c .before .before .before .before .before in
+    let at-test = at-next .before in
+    let at-loop = at-test .before .before in
+    let at-args = at-loop .before .before .before .before in
+    omega (arith, index-turn (at-loop .loop .inv .0) (at-test .if1 .taken) .index-less, at-args .good .0 .1)
 
 header-after-requires : tie.Need-header-after-requires Inv-loop μ-loop
 header-after-requires c κs = search needs
 
 braces-after-requires : tie.Need-braces-after-requires Inv-loop μ-loop
 braces-after-requires c κs =
-    let c7 = c .before .before .before .before .before .before .before in
-    let c8 = c7 .before in
-    let c9 = c8 .before in
-    let c10 = c9 .before in
-    let c14 = c10 .before .before .before .before in
-    let l = c10 .loop in
-    let text = c14 .args .text .now in
-    let p = index-passes text (l .index) (l .at) (l .header) (l .braces) (l .i) (l .kind) (l .inv .0)
-    (c9 .loop-test .taken) _ _ (c8 .next-token .ensures) (c7 .next-token2 .ensures) in
-    let begun : l .at < length text = p .begun in
-    let short : length text * 1 < 2 ^ 63 = c14 .good .0 .1 in
-    let low : l .braces ≤ l .at = l .inv .0 .braces-low in
-    omega arith
+    let at-names = c .before .before .before .before .before .before in
+    let at-test = at-names .before .before in
+    let at-loop = at-test .before .before in
+    let at-args = at-loop .before .before .before .before in
+    omega (arith, index-turn (at-loop .loop .inv .0) (at-test .if1 .taken) .braces-less, at-args .good .0 .1)
 
 loop-less : tie.Need-loop-less Inv-loop μ-loop
 loop-less c =
-    let c8 = c .before .before .before .before .before .before .before .before in
-    let c9 = c8 .before in
-    let c10 = c9 .before in
-    let c11 = c10 .before in
-    let c15 = c11 .before .before .before .before in
-    let l = c11 .loop in
-    let text = c15 .args .text .now in
-    let p = index-passes text (l .index) (l .at) (l .header) (l .braces) (l .i) (l .kind) (l .inv .0)
-    (c10 .loop-test .taken) _ _ (c9 .next-token .ensures) (c8 .next-token2 .ensures) in
-    let begun : l .at < length text = p .begun in
-    let onward : l .at < c9 .next-token .result .end = p .onward in
-    omega arith
+    let at-enter = c .before .before .before .before .before in
+    let at-next = at-enter .before .before .before in
+    let at-test = at-next .before in
+    let at-loop = at-test .before .before in
+    let p = index-turn (at-loop .loop .inv .0) (at-test .if1 .taken) in
+    omega (arith, p .begun, p .onward, at-next .next-token2 .ensures .starts)
 
 loop-again : tie.Need-loop-again Inv-loop μ-loop
 loop-again c =
-    let c1 = c .before in
-    let c2 = c1 .before in
-    let c5 = c2 .before .before .before in
-    let c7 = c5 .before .before in
-    let c8 = c7 .before in
-    let c9 = c8 .before in
-    let c10 = c9 .before in
-    let c11 = c10 .before in
-    let c15 = c11 .before .before .before .before in
-    let l = c11 .loop in (
-      index-goes (c15 .args .text .now) (l .index) (l .at) (l .header) (l .braces) (l .i) (l .kind) (l .inv .0)
-          (c10 .loop-test .taken) _ _ (c9 .next-token .ensures) (c8 .next-token2 .ensures) _
-          (c7 .names-method .ensures) _ (c5 .enter .ensures) _ _ _ (c2 .add-if .ensures)
-          (c1 .header-after .ensures) (c .braces-after .ensures),
+    let at-header = c .before in
+    let at-add = at-header .before in
+    let at-enter = at-add .before .before .before in
+    let at-names = at-enter .before .before in
+    let at-next = at-names .before in
+    let at-test = at-next .before in
+    let at-loop = at-test .before .before in (
+      index-goes (at-loop .loop .inv .0) (at-test .if1 .taken) _ (at-next .next-token2 .ensures) _
+          (at-names .names-method .ensures) _ (at-enter .enter .ensures) _ _ _ (at-add .add-if .ensures)
+          (at-header .header-after .ensures) (c .braces-after .ensures),
       search needs,
     )
 
 slice-write-index : tie.Need-slice-write-index Inv-loop μ-loop
-slice-write-index c =
-    let c1 = c .before in
-    let l = c1 .loop in
-    let long : 129 ≤ length (l .index) = l .inv .0 .long in
-    omega arith
+slice-write-index c = omega (arith, c .before .before .loop .inv .0 .long)
 
 same-length : tie.Need-same-length Inv-loop μ-loop
 same-length c = search needs
 
 returns : tie.Need-returns Inv-loop μ-loop
-returns c =
-    let c1 = c .before in
-    let c5 = c1 .before .before .before .before in
-    let l = c1 .loop in
-    index-ends (c5 .args .text .now) (l .index) (l .at) (l .header) (l .braces) (l .i) (l .kind) (l .inv .0)
-    (c .loop-test .left)
+returns c = index-ends (c .before .before .loop .inv .0) (c .if1 .left)
 
 pub index-methods-spec : {M : Type 1} → statement M
 index-methods-spec =
@@ -128,9 +90,8 @@ index-methods-spec =
     (tie.spec
     Inv-loop
     μ-loop
-    next-kind-requires
-    loop-holds
     next-token-requires
+    loop-holds
     next-token-requires-2
     names-method-requires
     enter-requires

@@ -1,37 +1,34 @@
--- `lowest_in`: at each place the pass finds the same lowest fault.
+-- `lowest_in`: before each token the pass finds the same lowest fault.
 use native.Mathlib.Omega.{arith}
 use mathlib.Core.Path.{sym, _∙_}
-use Prim.Native.Nat.{_-_, _*_, _≤_, _<_, _^_}
+use Prim.Native.Nat.{_-_}
 use borrow.Author.Needs.{needs}
 use lib.ListN.{length}
 use Rattle.text_open.specs.ClassCode.{inClass}
 use Rattle.text_names.proofs.Passes.{class-fits}
-use Rattle.text_names.proofs.Scanning.{ScanSoFar, scan-begins, scan-ends, scan-passes, scan-goes}
+use Rattle.text_names.proofs.Scanning.{ScanSoFar, scan-begins, scan-ends, scan-turn, scan-goes}
 use Rattle.text_names.proofs.refusal.lowest_in.Statement.{statement}
 use Rattle.text_names.proofs.refusal.lowest_in.Tie as tie
 
 abbrev Inv-loop : tie.InvT-loop
-Inv-loop text methods words₀ all class at₀ mode₀ braces₀ from₀ index₀ n₀ found₀ low₀ kind₀ words at mode braces from
-    index n found low kind =
-    ScanSoFar (inClass all class) all text words at mode braces from index n found low kind
+Inv-loop text methods words₀ all class mode₀ braces₀ from₀ index₀ n₀ found₀ low₀ t₀ kind₀ words mode braces from
+    index n found low t kind =
+    ScanSoFar (inClass all class) all text words mode braces from index n found low t kind
 
 abbrev μ-loop : tie.MeasureT-loop
-μ-loop text methods words₀ all class at₀ mode₀ braces₀ from₀ index₀ n₀ found₀ low₀ kind₀ words at mode braces from
-    index n found low kind =
-    length text - at
-
-next-kind-requires : tie.Need-next-kind-requires Inv-loop μ-loop
-next-kind-requires c κs = search needs
-
-loop-holds : tie.Need-loop-holds Inv-loop μ-loop
-loop-holds c =
-    let c3 = c .before .before .before .before in
-    let g = c3 .args in
-    scan-begins (inClass (g .all) (g .class)) (g .all) (g .text .now) (g .words .now) _ (c3 .pre .0)
-    (c .next-kind .ensures)
+μ-loop text methods words₀ all class mode₀ braces₀ from₀ index₀ n₀ found₀ low₀ t₀ kind₀ words mode braces from
+    index n found low t kind =
+    length text - t .start
 
 next-token-requires : tie.Need-next-token-requires Inv-loop μ-loop
 next-token-requires c κs = search needs
+
+loop-holds : tie.Need-loop-holds Inv-loop μ-loop
+loop-holds c =
+    let at-args = c .before .before .before .before in
+    let g = at-args .args in
+    scan-begins (inClass (g .all) (g .class)) (g .all) (g .text .now) (g .words .now) _ (at-args .pre .0)
+    (c .next-token .ensures)
 
 next-token-requires-2 : tie.Need-next-token-requires-2 Inv-loop μ-loop
 next-token-requires-2 c κs = search needs
@@ -41,36 +38,20 @@ role-requires c κs = search needs
 
 in-class-requires : tie.Need-in-class-requires Inv-loop μ-loop
 in-class-requires c κs =
-    let c1 = c .before in
-    let c2 = c1 .before in
-    let c3 = c2 .before in
-    let c4 = c3 .before in
-    let c8 = c4 .before .before .before .before .before in
-    let g = c8 .args in
-    let text = g .text .now in
-    let l = c4 .loop in
-    let p = scan-passes (inClass (g .all) (g .class)) (g .all) text (l .words) (l .at) (l .mode) (l .braces) (l .from)
-    (l .index) (l .n) (l .found) (l .low) (l .kind) (l .inv)
-    (c3 .loop-test .taken) _ _ (c2 .next-token .ensures) (c1 .next-token2 .ensures) in
-    (c2 .next-token .ensures .ends, p .within)
+    let at-test = c .before .before in
+    let l = at-test .before .loop in
+    (l .inv .next .ends, scan-turn (l .inv) (at-test .loop-test .taken) .within)
 
 role-if-requires : tie.Need-role-if-requires Inv-loop μ-loop
 role-if-requires c κs = search needs
 
 fault-here-requires : tie.Need-fault-here-requires Inv-loop μ-loop
 fault-here-requires c κs =
-    let c4 = c .before .before .before .before in
-    let c5 = c4 .before in
-    let c6 = c5 .before in
-    let c7 = c6 .before in
-    let c11 = c7 .before .before .before .before .before in
-    let g = c11 .args in
-    let text = g .text .now in
-    let l = c7 .loop in
-    let p = scan-passes (inClass (g .all) (g .class)) (g .all) text (l .words) (l .at) (l .mode) (l .braces) (l .from)
-    (l .index) (l .n) (l .found) (l .low) (l .kind) (l .inv)
-    (c6 .loop-test .taken) _ _ (c5 .next-token .ensures) (c4 .next-token2 .ensures) in
-    (c11 .pre .1, c5 .next-token .ensures .ends, p .within)
+    let at-test = c .before .before .before .before .before in
+    let at-loop = at-test .before in
+    let at-args = at-loop .before .before .before .before .before in
+    let l = at-loop .loop in
+    (at-args .pre .1, l .inv .next .ends, scan-turn (l .inv) (at-test .loop-test .taken) .within)
 
 lower-place-requires : tie.Need-lower-place-requires Inv-loop μ-loop
 lower-place-requires c κs = search needs
@@ -80,51 +61,36 @@ declared-if-requires c κs = search needs
 
 open-after-requires : tie.Need-open-after-requires Inv-loop μ-loop
 open-after-requires c κs =
-    let c11 = c .before .before .before .before .before .before .before .before .before .before .before in
-    (c11 .loop .inv .room, c11 .loop .inv .count-low)
+    let at-fault = c .before .before .before in
+    let at-class = at-fault .before .before .before in
+    let at-loop = at-class .before .before .before .before in
+    (at-loop .loop .inv .room, at-loop .loop .inv .count-low)
 
 from-after-requires : tie.Need-from-after-requires Inv-loop μ-loop
 from-after-requires c κs = search needs
 
 index-after-requires : tie.Need-index-after-requires Inv-loop μ-loop
 index-after-requires c κs =
-    let c12 = c .before .before .before .before .before .before .before .before .before .before .before .before in
-    let c13 = c12 .before in
-    let c14 = c13 .before in
-    let c15 = c14 .before in
-    let c19 = c15 .before .before .before .before .before in
-    let g = c19 .args in
-    let text = g .text .now in
-    let l = c15 .loop in
-    let p = scan-passes (inClass (g .all) (g .class)) (g .all) text (l .words) (l .at) (l .mode) (l .braces) (l .from)
-    (l .index) (l .n) (l .found) (l .low) (l .kind) (l .inv)
-    (c14 .loop-test .taken) _ _ (c13 .next-token .ensures) (c12 .next-token2 .ensures) in
-    let begun : l .at < length text = p .begun in
-    let low : l .index ≤ l .at = l .inv .index-low in
-    let short : length text * 1 < 2 ^ 63 = c19 .good .0 .1 in
-    omega arith
+    let at-open = c .before .before .before in
+    let at-fault = at-open .before .before .before .before in
+    let at-class = at-fault .before .before .before in
+    let at-test = at-class .before .before .before in
+    let at-loop = at-test .before in
+    let at-args = at-loop .before .before .before .before .before in
+    omega (arith, scan-turn (at-loop .loop .inv) (at-test .loop-test .taken) .index-less, at-args .good .0 .1)
 
 mode-after-requires : tie.Need-mode-after-requires Inv-loop μ-loop
 mode-after-requires c κs = search needs
 
 braces-after-requires : tie.Need-braces-after-requires Inv-loop μ-loop
 braces-after-requires c κs =
-    let c14 = c .before .before .before .before .before .before .before .before .before .before .before
-    .before .before .before in
-    let c15 = c14 .before in
-    let c16 = c15 .before in
-    let c17 = c16 .before in
-    let c21 = c17 .before .before .before .before .before in
-    let g = c21 .args in
-    let text = g .text .now in
-    let l = c17 .loop in
-    let p = scan-passes (inClass (g .all) (g .class)) (g .all) text (l .words) (l .at) (l .mode) (l .braces) (l .from)
-    (l .index) (l .n) (l .found) (l .low) (l .kind) (l .inv)
-    (c16 .loop-test .taken) _ _ (c15 .next-token .ensures) (c14 .next-token2 .ensures) in
-    let begun : l .at < length text = p .begun in
-    let low : l .braces ≤ l .at = l .inv .braces-low in
-    let short : length text * 1 < 2 ^ 63 = c21 .good .0 .1 in
-    omega arith
+    let at-open = c .before .before .before .before .before in
+    let at-fault = at-open .before .before .before .before in
+    let at-class = at-fault .before .before .before in
+    let at-test = at-class .before .before .before in
+    let at-loop = at-test .before in
+    let at-args = at-loop .before .before .before .before .before in
+    omega (arith, scan-turn (at-loop .loop .inv) (at-test .loop-test .taken) .braces-less, at-args .good .0 .1)
 
 keeps-requires : tie.Need-keeps-requires Inv-loop μ-loop
 keeps-requires c κs = search needs
@@ -134,73 +100,54 @@ kind-if-requires c κs = search needs
 
 loop-less : tie.Need-loop-less Inv-loop μ-loop
 loop-less c =
-    let c17 = c .before .before .before .before .before .before .before .before .before .before .before
-    .before .before .before .before .before .before in
-    let c18 = c17 .before in
-    let c19 = c18 .before in
-    let c20 = c19 .before in
-    let c24 = c20 .before .before .before .before .before in
-    let g = c24 .args in
-    let text = g .text .now in
-    let l = c20 .loop in
-    let p = scan-passes (inClass (g .all) (g .class)) (g .all) text (l .words) (l .at) (l .mode) (l .braces) (l .from)
-    (l .index) (l .n) (l .found) (l .low) (l .kind) (l .inv)
-    (c19 .loop-test .taken) _ _ (c18 .next-token .ensures) (c17 .next-token2 .ensures) in
-    let begun : l .at < length text = p .begun in
-    let onward : l .at < c18 .next-token .result .end = p .onward in
-    omega arith
+    let at-from = c .before .before .before .before .before in
+    let at-open = at-from .before .before .before in
+    let at-fault = at-open .before .before .before .before in
+    let at-class = at-fault .before .before .before in
+    let at-next = at-class .before .before in
+    let at-test = at-next .before in
+    let p = scan-turn (at-test .before .loop .inv) (at-test .loop-test .taken) in
+    omega (arith, p .begun, p .onward, at-next .next-token2 .ensures .starts)
 
 loop-again : tie.Need-loop-again Inv-loop μ-loop
 loop-again c =
-    let c1 = c .before in
-    let c2 = c1 .before in
-    let c3 = c2 .before in
-    let c4 = c3 .before in
-    let c5 = c4 .before in
-    let c8 = c5 .before .before .before in
-    let c9 = c8 .before in
-    let c11 = c9 .before .before in
-    let c12 = c11 .before in
-    let c14 = c12 .before .before in
-    let c15 = c14 .before in
-    let c16 = c15 .before in
-    let c17 = c16 .before in
-    let c18 = c17 .before in
-    let c19 = c18 .before in
-    let c20 = c19 .before in
-    let c24 = c20 .before .before .before .before .before in
-    let g = c24 .args in
-    let text = g .text .now in
-    let l = c20 .loop in
-    scan-goes (inClass (g .all) (g .class)) (g .all) text (l .words) (l .at) (l .mode) (l .braces) (l .from)
-    (l .index) (l .n) (l .found) (l .low) (l .kind) (l .inv)
-    (c19 .loop-test .taken) _ _ (c18 .next-token .ensures) (c17 .next-token2 .ensures) _ _ _ _ _ _ _ _ _ _ _ _ _ _
-    (c16 .role .ensures) (c15 .in-class .ensures) (c14 .role-if .ensures) (c12 .fault-here .ensures)
-    (c9 .declared-if .ensures) (c8 .open-after .kept .0) (c8 .open-after .ensures) (c11 .lower-place .ensures)
-    (c5 .from-after .ensures) (c4 .index-after .ensures) (c3 .mode-after .ensures) (c2 .braces-after .ensures)
-    (c1 .keeps .ensures) (c .kind-if .ensures)
+    let at-keeps = c .before in
+    let at-braces = at-keeps .before in
+    let at-mode = at-braces .before in
+    let at-index = at-mode .before in
+    let at-from = at-index .before in
+    let at-open = at-from .before .before .before in
+    let at-declared = at-open .before in
+    let at-lower = at-declared .before .before in
+    let at-fault = at-lower .before in
+    let at-asked = at-fault .before .before in
+    let at-class = at-asked .before in
+    let at-role = at-class .before in
+    let at-next = at-role .before in
+    let at-test = at-next .before in
+    scan-goes (at-test .before .loop .inv) (at-test .loop-test .taken) _ (at-next .next-token2 .ensures)
+    (at-role .role .ensures) (at-class .in-class .ensures) (at-asked .role-if .ensures)
+    (at-fault .fault-here .ensures) (at-declared .declared-if .ensures) (at-open .open-after .kept .0)
+    (at-open .open-after .ensures) (at-lower .lower-place .ensures) (at-from .from-after .ensures)
+    (at-index .index-after .ensures) (at-mode .mode-after .ensures) (at-braces .braces-after .ensures)
+    (at-keeps .keeps .ensures) (c .kind-if .ensures)
 
 keeps-requires-2 : tie.Need-keeps-requires-2 Inv-loop μ-loop
 keeps-requires-2 c κs = search needs
 
 same-length : tie.Need-same-length Inv-loop μ-loop
 same-length c =
-    let c2 = c .before .before in
-    let c6 = c2 .before .before .before .before .before in
-    c2 .loop .inv .room ∙ sym (c6 .pre .0)
+    let at-loop = c .before .before in
+    let at-args = at-loop .before .before .before .before .before in
+    at-loop .loop .inv .room ∙ sym (at-args .pre .0)
 
 returns : tie.Need-returns Inv-loop μ-loop
 returns c =
-    let c1 = c .before in
-    let c2 = c1 .before in
-    let c6 = c2 .before .before .before .before .before in
-    let g = c6 .args in
-    let text = g .text .now in
-    let l = c2 .loop in (
-      λ e. scan-ends (inClass (g .all) (g .class)) (g .all) text (l .words) (l .at) (l .mode) (l .braces) (l .from)
-          (l .index) (l .n) (l .found) (l .low) (l .kind) (l .inv)
-          (c1 .loop-test .left) (sym (c .keeps2 .ensures) ∙ e),
-      λ e. c .keeps2 .ensures ∙ class-fits (g .all) (l .n) e,
+    let at-test = c .before in
+    let at-loop = at-test .before in
+    let at-args = at-loop .before .before .before .before .before in (
+      λ e. scan-ends (at-loop .loop .inv) (at-test .loop-test .left) (sym (c .keeps2 .ensures) ∙ e),
+      λ e. c .keeps2 .ensures ∙ class-fits (at-args .args .all) (at-loop .loop .n) e,
     )
 
 pub lowest-in-spec : {M : Type 1} → statement M
@@ -209,9 +156,8 @@ lowest-in-spec =
     (tie.spec
     Inv-loop
     μ-loop
-    next-kind-requires
-    loop-holds
     next-token-requires
+    loop-holds
     next-token-requires-2
     role-requires
     in-class-requires
