@@ -1,9 +1,11 @@
 // Where an emission stands, and the steps that it is made of: a token is passed, an instruction is put, an argument is
 // put in later.
 ghost use mathlib.Core.Path.{_≡_};
+ghost use Rattle.text_tokens.specs.NextCode.{NextToken};
 ghost use Rattle.text_emit.specs.EmitCode.{passedBy, PutsOne, Patches};
 use text_emit_expr::state::put as put_words;
 use text_emit_expr::state::write;
+use text_tokens::next::TokenAt;
 use text_tokens::next::next_token;
 
 // Whether all fits so far, the place in the text, the slots given out, and the instructions in the buffer.
@@ -19,6 +21,19 @@ pub fn pass(text: &[u8], e: Emit) -> Emit
     ensures { λ r. ⌜ r ≡ passedBy (now (text .entry)) e ⌝ }
 {
     let t = next_token(text, e.at);
+    Emit {
+        ok: e.ok,
+        at: t.end,
+        used: e.used,
+        count: e.count,
+    }
+}
+
+// The next token, which has been read, is passed.
+pub fn pass_token(text: &[u8], e: Emit, t: TokenAt) -> Emit
+    requires { ⌜ NextToken (now text) (e .at) t ⌝ }
+    ensures { λ r. ⌜ r ≡ passedBy (now (text .entry)) e ⌝ }
+{
     Emit {
         ok: e.ok,
         at: t.end,

@@ -2,11 +2,13 @@
 ghost use Prim.Native.Nat.{_≤_};
 ghost use lib.ListN.{length};
 ghost use Rattle.text_parse.specs.Equations.{recvRule, sendRule, forkRule};
+ghost use Rattle.text_tokens.specs.NextCode.{NextToken};
 ghost use Rattle.text_methods.specs.IndexCode.{Indexed};
 ghost use Rattle.text_emit.specs.EmitCode.{StatementEmits, StatementFrom, InvokeFrom, NamedEmits, SimpleEmits, giveRule, measureRule, assignRule};
 use crate::calls::put_invocation;
 use crate::emit::Emit;
 use crate::emit::pass;
+use crate::emit::pass_token;
 use crate::emit::put;
 use crate::parts::arguments;
 use crate::parts::expression;
@@ -20,6 +22,7 @@ use text_tokens::kinds::RECV;
 use text_tokens::kinds::RETURN;
 use text_tokens::kinds::SEMICOLON;
 use text_tokens::kinds::SEND;
+use text_tokens::next::TokenAt;
 use text_tokens::next::next_token;
 use text_types::place::next_kind;
 
@@ -98,7 +101,7 @@ pub fn fork(
         (now (code .exit)) ⌝ }
 {
     let method = next_token(text, e.at);
-    let name = pass(text, e);
+    let name = pass_token(text, e, method);
     let open = pass(text, name);
     let xs = arguments(text, open, scope, n, pending, code);
     let end = pass(text, xs);
@@ -130,17 +133,17 @@ pub fn measure(text: &[u8], e: Emit, scope: &[usize; 64], n: usize, code: &mut [
 pub fn assign(
     text: &[u8],
     e: Emit,
+    t: TokenAt,
     scope: &[usize; 64],
     n: usize,
     pending: &mut [usize],
     code: &mut [usize],
 ) -> Emit
-    requires { ⌜ 12288 ≤ length (now pending) ⌝ }
+    requires { ⌜ (12288 ≤ length (now pending)) × NextToken (now text) (e .at) t ⌝ }
     ensures { λ r. ⌜ StatementFrom assignRule (now (text .entry)) (now (scope .entry)) n e (now (code .entry)) r
         (now (code .exit)) ⌝ }
 {
-    let t = next_token(text, e.at);
-    let name = pass(text, e);
+    let name = pass_token(text, e, t);
     let equals = pass(text, name);
     let x = expression(text, equals, scope, n, pending, code);
     let end = pass(text, x);
@@ -153,43 +156,46 @@ pub fn invoke(
     text: &[u8],
     methods: &[usize],
     e: Emit,
+    t: TokenAt,
     scope: &[usize; 64],
     n: usize,
     pending: &mut [usize],
     code: &mut [usize],
 ) -> Emit
-    requires { ⌜ (12288 ≤ length (now pending)) × Indexed (now text) (now methods) ⌝ }
+    requires { ⌜ (12288 ≤ length (now pending)) × Indexed (now text) (now methods)
+        × NextToken (now text) (e .at) t ⌝ }
     ensures { λ r. ⌜ InvokeFrom (now (text .entry)) (now (scope .entry)) n e (now (code .entry)) r
         (now (code .exit)) ⌝ }
 {
-    let t = next_token(text, e.at);
-    let name = pass(text, e);
+    let name = pass_token(text, e, t);
     let open = pass(text, name);
     let xs = arguments(text, open, scope, n, pending, code);
     let end = pass(text, xs);
     put_invocation(text, methods, code, end, t.start, t.end)
 }
 
-// A statement that starts with a name.
+// A statement that starts with the name t.
 fn named(
     text: &[u8],
     methods: &[usize],
     e: Emit,
+    t: TokenAt,
     scope: &[usize; 64],
     n: usize,
     pending: &mut [usize],
     code: &mut [usize],
 ) -> Emit
-    requires { ⌜ (12288 ≤ length (now pending)) × Indexed (now text) (now methods) ⌝ }
+    requires { ⌜ (12288 ≤ length (now pending)) × Indexed (now text) (now methods)
+        × NextToken (now text) (e .at) t ⌝ }
     ensures { λ r. ⌜ NamedEmits (now (text .entry)) (now (scope .entry)) n e (now (code .entry)) r
         (now (code .exit)) ⌝ }
 {
-    let name = pass(text, e);
+    let name = pass_token(text, e, t);
     let kind = next_kind(text, name.at);
     if kind == ASSIGN {
-        return assign(text, e, scope, n, pending, code);
+        return assign(text, e, t, scope, n, pending, code);
     }
-    invoke(text, methods, e, scope, n, pending, code)
+    invoke(text, methods, e, t, scope, n, pending, code)
 }
 
 // A statement that holds no other.
@@ -207,7 +213,7 @@ pub fn simple(
         (now (code .exit)) ⌝ }
 {
     let t = next_token(text, e.at);
-    let after = pass(text, e);
+    let after = pass_token(text, e, t);
     if t.kind == SEMICOLON {
         return after;
     }
@@ -226,5 +232,5 @@ pub fn simple(
     if t.kind == RETURN {
         return give(text, after, scope, n, pending, code);
     }
-    named(text, methods, e, scope, n, pending, code)
+    named(text, methods, e, t, scope, n, pending, code)
 }

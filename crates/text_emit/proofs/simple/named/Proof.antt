@@ -4,8 +4,8 @@ use Rattle.text_emit.proofs.DispatchLaws.{named-assigns, named-invokes}
 use Rattle.text_emit.proofs.simple.named.Statement.{statement}
 use Rattle.text_emit.proofs.simple.named.Tie as tie
 
-pass-requires : tie.Need-pass-requires
-pass-requires c κs = search needs
+pass-token-requires : tie.Need-pass-token-requires
+pass-token-requires c κs = search needs
 
 next-kind-requires : tie.Need-next-kind-requires
 next-kind-requires c κs = search needs
@@ -22,7 +22,7 @@ same-length-2 c = search needs
 returns : tie.Need-returns
 returns c =
     named-assigns _ _ _ _ _ _ _ _ _
-    (c .before .before .before .before .before .before .before .before .before .pass .ensures)
+    (c .before .before .before .before .before .before .before .before .before .pass-token .ensures)
     (c .before .before .before .before .before .before .before .before .next-kind .ensures)
     (c .before .before .before .before .before .before .before .if1 .taken)
     (c .before .before .before .before .assign .ensures)
@@ -39,7 +39,7 @@ same-length-4 c = search needs
 returns-2 : tie.Need-returns-2
 returns-2 c =
     named-invokes _ _ _ _ _ _ _ _ _
-    (c .before .before .before .before .before .before .before .before .before .pass .ensures)
+    (c .before .before .before .before .before .before .before .before .before .pass-token .ensures)
     (c .before .before .before .before .before .before .before .before .next-kind .ensures)
     (c .before .before .before .before .before .before .before .if1 .left)
     (c .before .before .before .before .invoke .ensures)
@@ -48,7 +48,7 @@ pub named-spec : {M : Type 1} → statement M
 named-spec =
     tie.close
     (tie.spec
-    pass-requires
+    pass-token-requires
     next-kind-requires
     assign-requires
     same-length

@@ -7,12 +7,12 @@ use Rattle.text_emit.proofs.simple.simple.Tie as tie
 next-token-requires : tie.Need-next-token-requires
 next-token-requires c κs = search needs
 
-pass-requires : tie.Need-pass-requires
-pass-requires c κs = search needs
+pass-token-requires : tie.Need-pass-token-requires
+pass-token-requires c κs = search needs
 
 returns : tie.Need-returns
 returns c =
-    simple-skip _ _ _ _ _ _ _ (c .before .before .before .next-token .ensures) (c .before .before .pass .ensures)
+    simple-skip _ _ _ _ _ _ _ (c .before .before .before .next-token .ensures) (c .before .before .pass-token .ensures)
     (c .if1 .taken)
 
 measure-requires : tie.Need-measure-requires
@@ -25,7 +25,7 @@ returns-2 : tie.Need-returns-2
 returns-2 c =
     simple-measure _ _ _ _ _ _ _ _
     (c .before .before .before .before .before .before .before .before .before .next-token .ensures) _
-    (c .before .before .before .before .before .before .before .before .pass .ensures)
+    (c .before .before .before .before .before .before .before .before .pass-token .ensures)
     (c .before .before .before .before .if2 .taken) (c .before .before .measure .ensures)
 
 fork-requires : tie.Need-fork-requires
@@ -41,9 +41,9 @@ returns-3 : tie.Need-returns-3
 returns-3 c =
     let at-fork = c .before .before .before .before in
     let at-if3 = at-fork .before .before .before in
-    let at-pass = at-if3 .before .before .before .before .before .before in
-    let at-next-token = at-pass .before in
-    simple-fork _ _ _ _ _ _ _ _ (at-next-token .next-token .ensures) _ (at-pass .pass .ensures) (at-if3 .if3 .taken)
+    let at-pass-token = at-if3 .before .before .before .before .before .before in
+    let at-next-token = at-pass-token .before in
+    simple-fork _ _ _ _ _ _ _ _ (at-next-token .next-token .ensures) _ (at-pass-token .pass-token .ensures) (at-if3 .if3 .taken)
     (at-fork .fork .ensures)
 
 send-requires : tie.Need-send-requires
@@ -59,9 +59,9 @@ returns-4 : tie.Need-returns-4
 returns-4 c =
     let at-send = c .before .before .before .before in
     let at-if4 = at-send .before .before .before in
-    let at-pass = at-if4 .before .before .before .before .before .before .before .before in
-    let at-next-token = at-pass .before in
-    simple-send _ _ _ _ _ _ _ _ (at-next-token .next-token .ensures) _ (at-pass .pass .ensures) (at-if4 .if4 .taken)
+    let at-pass-token = at-if4 .before .before .before .before .before .before .before .before in
+    let at-next-token = at-pass-token .before in
+    simple-send _ _ _ _ _ _ _ _ (at-next-token .next-token .ensures) _ (at-pass-token .pass-token .ensures) (at-if4 .if4 .taken)
     (at-send .send .ensures)
 
 receive-requires : tie.Need-receive-requires
@@ -77,9 +77,9 @@ returns-5 : tie.Need-returns-5
 returns-5 c =
     let at-receive = c .before .before .before .before in
     let at-if5 = at-receive .before .before .before in
-    let at-pass = at-if5 .before .before .before .before .before .before .before .before .before .before in
-    let at-next-token = at-pass .before in
-    simple-receive _ _ _ _ _ _ _ _ (at-next-token .next-token .ensures) _ (at-pass .pass .ensures)
+    let at-pass-token = at-if5 .before .before .before .before .before .before .before .before .before .before in
+    let at-next-token = at-pass-token .before in
+    simple-receive _ _ _ _ _ _ _ _ (at-next-token .next-token .ensures) _ (at-pass-token .pass-token .ensures)
     (at-if5 .if5 .taken) (at-receive .receive .ensures)
 
 give-requires : tie.Need-give-requires
@@ -96,9 +96,9 @@ returns-6 c =
     let at-give = c .before .before .before .before in
     let at-if6 = at-give .before .before .before in
     let earlier = at-if6 .before .before .before .before .before .before .before .before .before .before in
-    let at-pass = earlier .before .before in
-    let at-next-token = at-pass .before in
-    simple-give _ _ _ _ _ _ _ _ (at-next-token .next-token .ensures) _ (at-pass .pass .ensures) (at-if6 .if6 .taken)
+    let at-pass-token = earlier .before .before in
+    let at-next-token = at-pass-token .before in
+    simple-give _ _ _ _ _ _ _ _ (at-next-token .next-token .ensures) _ (at-pass-token .pass-token .ensures) (at-if6 .if6 .taken)
     (at-give .give .ensures)
 
 named-requires : tie.Need-named-requires
@@ -130,7 +130,7 @@ simple-spec =
     tie.close
     (tie.spec
     next-token-requires
-    pass-requires
+    pass-token-requires
     returns
     measure-requires
     same-length
