@@ -9,7 +9,7 @@ use lib.ListN.{getD, set, length, length-set}
 use lib.Dec.{eqb, leb}
 use Rattle.run_parts.specs.PartsCode.{partOf}
 use Rattle.run_parts.proofs.Apart.{part-kept, part-other, part-front}
-use Rattle.run_events.specs.EventsCode.{AfterEvent}
+use Rattle.run_gates.specs.GatesCode.{AfterEvent}
 use Rattle.run_ability.specs.declared.pairing.Pairing.{Pairing}
 use Rattle.run_single.specs.declared.result.Count.{Count}
 use Rattle.run_single.specs.ResultCode.{AfterEntry, afterEntry, fullAt}

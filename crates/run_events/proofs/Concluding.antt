@@ -1,6 +1,6 @@
 -- An entry that writes one line leaves the process as document 01 says: stopped by its fault, finished, or as its op
 -- left it.
-use Prim.Native.Nat.{ℕ, zero, suc, _+_, _≤_, _<_}
+use Prim.Native.Nat.{ℕ, _≤_, _<_}
 use mathlib.Core.Path.{_≡_, refl, sym, _∙_, ap, subst}
 use mathlib.Core.Bool.{Bool, true, false, true≢false}
 use mathlib.Core.List.{List, [], _∷_}
@@ -23,11 +23,13 @@ use Rattle.run_store.specs.StoreCode.{valueAt, headOf, topAt}
 use Rattle.run_values.specs.ValuesCode.{emptyTwo}
 use Rattle.run_values.proofs.Places.{head-is}
 use Rattle.run_ops.proofs.Meaning.{Height, w, hd, act}
-use Rattle.run_events.specs.EventsCode.{AfterEvent, afterEvent, faultEvent, lineEvent, qubitAt, newqOp, newcOp, gateOne, gateTwo, gateOp, nextIn, measuredAs, measOp}
+use Rattle.run_gates.specs.GatesCode.{AfterEvent, afterEvent, faultEvent, lineEvent, qubitAt, newqOp, newcOp, gateOne, gateTwo, gateOp}
+use Rattle.run_measurement.specs.MeasurementCode.{nextIn, measuredAs, measOp}
 use Rattle.run_events.specs.declared.conclude.Single.{Single}
 use Rattle.run_events.specs.declared.conclude.Single.the-variants.{NewQ, NewC, Gate, Meas, LastRet, Fault}
 use Rattle.run_events.specs.ConcludeCode.{performOp, withStatus, concludeOp}
-use Rattle.run_events.proofs.Answers.{eventOf, EventAgrees, newq-event, newc-event, gate-event, meas-event}
+use Rattle.run_gates.proofs.Answers.{eventOf, EventAgrees, newq-event, newc-event, gate-event}
+use Rattle.run_measurement.proofs.Measurement.{meas-event}
 use Rattle.run_events.proofs.Ended.{stopped-words, finished-words}
 use Rattle.run_events.proofs.Returns.{event-end, event-fault, status-stopped, status-finished, status-as-left}
 

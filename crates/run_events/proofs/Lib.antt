@@ -1,5 +1,3 @@
-pub mod Answers
 pub mod Ended
 pub mod Returns
 pub mod Concluding
-pub mod Dropped

@@ -7,10 +7,9 @@ use borrow.Author.Tests.{eq-eqb, ne-eqb}
 use Rattle.table.specs.Table.{word, methods, argAt}
 use Rattle.run_store.specs.declared.head.Head.{Head}
 use Rattle.run_store.specs.StoreCode.{headOf}
-use Rattle.run_events.specs.declared.event.EventResult.{EventResult}
-use Rattle.run_events.specs.EventsCode.{AfterEvent, afterEvent, faultEvent, lineEvent, newqOp, newcOp, gateOp, nextIn, measuredAs, measOp}
-use Rattle.run_events.specs.declared.outcome.Outcome.{Outcome}
-use Rattle.run_events.specs.Outcome.{outcomeNo}
+use Rattle.run_gates.specs.declared.event.EventResult.{EventResult}
+use Rattle.run_gates.specs.GatesCode.{AfterEvent, afterEvent, faultEvent, lineEvent, newqOp, newcOp, gateOp}
+use Rattle.run_measurement.specs.MeasurementCode.{measOp}
 use Rattle.run_events.specs.EndsCode.{stoppedWords, finishedWords}
 use Rattle.run_events.specs.declared.conclude.Single.{Single}
 use Rattle.run_events.specs.declared.conclude.Single.the-variants.{NewQ, NewC, Gate, Meas, LastRet, Fault}
@@ -72,9 +71,3 @@ module _ (w : List ℕ) (t : EventResult) where
   pub status-as-left : t .code ≡ 0 → (t .kind ≡ 9 → ⊥) → statusWords w t ≡ w
   unfolding statusWords
   status-as-left c k = rw (eq-eqb (t .code) 0 c, ne-eqb (t .kind) 9 k)
-
--- what a measurement leaves, by the case of the next outcome
-pub measured-next : (w : List ℕ) (h : Head) (outcomes : List ℕ) (used : ℕ) (k : Outcome) {o : Outcome} {d : AfterEvent}
-    → o ≡ k
-    → outcomeNo o ≡ nextIn outcomes used → d ≡ measuredAs w h (outcomeNo k) → d ≡ measuredAs w h (nextIn outcomes used)
-measured-next w h outcomes used k e n q = q ∙ ap (measuredAs w h) (sym (ap outcomeNo e) ∙ n)

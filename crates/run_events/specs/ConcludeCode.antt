@@ -6,8 +6,9 @@ use mathlib.Core.List.{List}
 use lib.Dec.{eqb}
 use Rattle.table.specs.Table.{argAt}
 use Rattle.run_store.specs.StoreCode.{headOf}
-use Rattle.run_events.specs.declared.event.EventResult.{EventResult}
-use Rattle.run_events.specs.EventsCode.{AfterEvent, afterEvent, faultEvent, lineEvent, newqOp, newcOp, gateOp, measOp}
+use Rattle.run_gates.specs.declared.event.EventResult.{EventResult}
+use Rattle.run_gates.specs.GatesCode.{AfterEvent, afterEvent, faultEvent, lineEvent, newqOp, newcOp, gateOp}
+use Rattle.run_measurement.specs.MeasurementCode.{measOp}
 use Rattle.run_events.specs.EndsCode.{stoppedWords, finishedWords}
 use Rattle.run_events.specs.declared.conclude.Single.{Single}
 use Rattle.run_events.specs.declared.conclude.Single.the-variants.{NewQ, NewC, Gate, Meas, LastRet, Fault}

@@ -1,4 +1,2 @@
-pub mod Outcome
-pub mod EventsCode
 pub mod EndsCode
 pub mod ConcludeCode

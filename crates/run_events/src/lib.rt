@@ -1,11 +1,4 @@
-// The ops that write one line and stay within their process: NEWQ, NEWC, GATE and MEAS, each over the process's part of
-// the work store. A function answers what the line says; where the op faults it changes nothing, and the line is the
-// fault's.
+// An entry that writes one line and stays within its process: NEWQ, NEWC, GATE or MEAS, RET of the root frame, or a
+// fault. The process is left as the line says.
 pub mod conclude;
 pub mod ends;
-pub mod event;
-pub mod faults;
-pub mod gates;
-pub mod made;
-pub mod measured;
-pub mod outcome;

@@ -25,8 +25,8 @@ use Rattle.run_store.proofs.Vals.{valOf}
 use Rattle.run_store.proofs.Given.{Sized, given-words}
 use Rattle.run_values.specs.ValuesCode.{onTop, dropTo}
 use Rattle.run_values.proofs.Places.{headIn, head-is, place-small, slot-read, slot-put, drop-to-words, top-words, move-words}
-use Rattle.run_events.specs.EventsCode.{dropTwo}
-use Rattle.run_events.proofs.Answers.{dropped-two}
+use Rattle.run_gates.specs.GatesCode.{dropTwo}
+use Rattle.run_gates.proofs.Answers.{dropped-two}
 use Rattle.run_giving.specs.GivingCode.{thingGiven, givenWords, sentWords, receivedWords, startedWords, beganWords, poppedOnce, poppedBy, stayed, argumentsPopped}
 
 -- giving nothing, and giving one thing after others

@@ -10,7 +10,7 @@ use Rattle.run_store.specs.declared.values.Val.{Val}
 use Rattle.run_store.specs.declared.head.Head.{Head}
 use Rattle.run_store.specs.StoreCode.{headOf, putTop, stepped, startedHead, putStatus, emptiedBy}
 use Rattle.run_values.specs.ValuesCode.{onTop, dropTo}
-use Rattle.run_events.specs.EventsCode.{dropTwo}
+use Rattle.run_gates.specs.GatesCode.{dropTwo}
 
 unfoldable pub thingGiven : List ℕ → Val → List ℕ
 thingGiven w v = emptiedBy w v ((24 * headOf w .frames) % 65536)

@@ -3,7 +3,7 @@
 ghost use mathlib.Core.Path.{_≡_};
 ghost use Prim.Native.Nat.{_+_, _*_};
 ghost use Rattle.run_giving.specs.GivingCode.{thingGiven, givenWords, sentWords, receivedWords, beganWords, poppedOnce, poppedBy, argumentsPopped};
-use run_events::gates::discard_two;
+use run_gates::gates::discard_two;
 use run_store::giving::give_away;
 use run_store::giving::give_qubit;
 use run_store::head::Head;

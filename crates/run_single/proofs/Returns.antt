@@ -8,8 +8,8 @@ use borrow.Author.Tests.{eq-eqb, ne-eqb, le-leb, lt-leb}
 use Rattle.trace_lines.specs.declared.TraceLine.{TraceLine}
 use Rattle.trace_lines.specs.WrittenCode.{withLine}
 use Rattle.lists.proofs.Tests.{took, passed-by}
-use Rattle.run_events.specs.declared.event.EventResult.{EventResult}
-use Rattle.run_events.specs.EventsCode.{AfterEvent, afterEvent}
+use Rattle.run_gates.specs.declared.event.EventResult.{EventResult}
+use Rattle.run_gates.specs.GatesCode.{AfterEvent, afterEvent}
 use Rattle.run_parts.specs.PartsCode.{partAt, partOf}
 use Rattle.run_parts.proofs.Lifted.{lent, returned, lifted-words, part-lent}
 use Rattle.run_events.specs.declared.conclude.Single.{Single}

@@ -29,10 +29,10 @@ use Rattle.trace_lines.specs.WrittenCode.{withLine}
 use Rattle.trace_lines.proofs.LineWritten as written
 use Rattle.run_parts.specs.PartsCode.{partOf}
 use Rattle.run_parts.proofs.Encoded.{Laid, laid-sound, part-is, part-put, qubits-word, channels-word, qubit-counted, channel-counted}
-use Rattle.run_events.specs.declared.event.EventResult.{EventResult}
-use Rattle.run_events.specs.EventsCode.{AfterEvent, afterEvent, faultEvent}
+use Rattle.run_gates.specs.declared.event.EventResult.{EventResult}
+use Rattle.run_gates.specs.GatesCode.{AfterEvent, afterEvent, faultEvent}
 use Rattle.run_events.specs.ConcludeCode.{concludeOp}
-use Rattle.run_events.proofs.Answers.{eventOf}
+use Rattle.run_gates.proofs.Answers.{eventOf}
 use Rattle.run_events.proofs.Concluding.{concluded-fault, concluded-ends}
 use Rattle.run_events.specs.declared.conclude.Single.{Single}
 use Rattle.run_events.specs.declared.conclude.Single.the-variants.{LastRet, Fault}

@@ -8,8 +8,8 @@ use lib.Dec.{eqb, leb}
 use Rattle.run_parts.specs.PartsCode.{partOf, withPart}
 use Rattle.trace_lines.specs.declared.TraceLine.{TraceLine}
 use Rattle.trace_lines.specs.WrittenCode.{withLine}
-use Rattle.run_events.specs.declared.event.EventResult.{EventResult}
-use Rattle.run_events.specs.EventsCode.{AfterEvent, afterEvent}
+use Rattle.run_gates.specs.declared.event.EventResult.{EventResult}
+use Rattle.run_gates.specs.GatesCode.{AfterEvent, afterEvent}
 use Rattle.run_events.specs.declared.conclude.Single.{Single}
 use Rattle.run_events.specs.ConcludeCode.{concludeOp}
 use Rattle.run_single.specs.declared.result.Count.{Count}

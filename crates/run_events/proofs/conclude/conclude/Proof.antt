@@ -1,5 +1,5 @@
 -- `conclude` performs the op and updates the status.
-use Rattle.run_events.specs.EventsCode.{afterEvent}
+use Rattle.run_gates.specs.GatesCode.{afterEvent}
 use Rattle.run_events.specs.ConcludeCode.{withStatus, concludeOp}
 use mathlib.Core.Path.{refl, _∙_, ap, ap₂}
 use borrow.Author.Needs.{needs}

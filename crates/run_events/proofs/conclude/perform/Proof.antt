@@ -1,5 +1,5 @@
 -- `perform` is the op's own function, case by case.
-use Rattle.run_events.specs.EventsCode.{afterEvent}
+use Rattle.run_gates.specs.GatesCode.{afterEvent}
 use Rattle.run_events.proofs.Returns.{event-newq, event-newc, event-gate, event-meas, event-end, event-fault}
 use Rattle.table.specs.Table.{methods, word}
 use mathlib.Core.Path.{refl, ap₂}
