@@ -6,8 +6,8 @@ use mathlib.Core.Option.{Option, none, some}
 use lib.ListN.{length}
 use Rattle.text.specs.Tree.{Name, Statement, Statements, skip, assign, invoke, measure, receive, fork, send, give, block, conditional, alternative, loop, done, next, Method, Program, declaredBy, bodyVariables, methodOf, numberOf}
 use Rattle.text.specs.Translation.{Instruction, DROP, RET, FORK, SEND, RECV, Scope, slotOf, endsIn, opened, within, assignCode, invokeCode, clearCode, ifCode, elseCode, whileCode, code, allCode, closing, holeOf, bodyCode, methodCode, exprCode, exprsCode}
-use Rattle.text_emit_expr.specs.CodeBy.{codeBy, argumentsBy}
-use Rattle.text_emit_expr.proofs.CodeLaws.{code-numbered, arguments-numbered}
+use Rattle.text_numbering.specs.CodeBy.{codeBy, argumentsBy}
+use Rattle.text_numbering.proofs.CodeLaws.{code-numbered, arguments-numbered}
 use Rattle.text_code.specs.StatementBy.{invokeBy, statementBy, statementsBy, methodBy}
 
 module _ (ms : Program) where

@@ -13,7 +13,7 @@ use Rattle.text.specs.Translation.{Instruction, instruction, codeWords, Scope, 
 use Rattle.text_parse.specs.Tokens.{Token}
 use Rattle.text_tokens.specs.Places.{tokensAt}
 use Rattle.text_slots.specs.Placing.{Placing}
-use Rattle.text_emit_expr.specs.CodeBy.{numberFits}
+use Rattle.text_numbering.specs.CodeBy.{numberFits}
 use Rattle.text_declare.specs.Entered.{typed}
 use Rattle.text_code.specs.OutcomeCode.{Tables, Written, Overflow, Outcome, all-written, over}
 use Rattle.text_code.proofs.Words.{put-both, set-argument}

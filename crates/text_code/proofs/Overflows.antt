@@ -11,7 +11,7 @@ use lib.ListN.{length}
 use Rattle.lists.specs.Lists.{every}
 use Rattle.text.specs.Tree.{Declared}
 use Rattle.text.specs.Translation.{Instruction}
-use Rattle.text_emit_expr.specs.CodeBy.{numberFits}
+use Rattle.text_numbering.specs.CodeBy.{numberFits}
 use Rattle.text_code.specs.OutcomeCode.{Tables, Written, Overflow}
 
 module _ (c : List Instruction) (ds : List Declared) (σ : Tables) where

@@ -9,8 +9,8 @@ use Rattle.lists.specs.Lists.{every}
 use Rattle.text.specs.Tree.{Name, NonVoidType, Statement, Statements, skip, assign, invoke, measure, receive, fork, send, give, block, conditional, alternative, loop, done, next, Method, Program, Declared, declaredBy, methodOf}
 use Rattle.text.specs.Translation.{Instruction, DROP, JUMP, JFALSE, RET, FORK, SEND, RECV, Scope, slotOf, endsIn, opened, within, assignCode, dropCode, clearCode, ifCode, elseCode, whileCode, closing}
 use Rattle.text.specs.Limits.{exprNumbers, exprsNumbers, numbersIn, allNumbersIn, isNumber}
-use Rattle.text_emit_expr.specs.CodeBy.{codeBy, argumentsBy, numberFits}
-use Rattle.text_emit_expr.proofs.CodeLaws.{every-append, numbers-fit, arguments-fit}
+use Rattle.text_numbering.specs.CodeBy.{codeBy, argumentsBy, numberFits}
+use Rattle.text_numbering.proofs.CodeLaws.{every-append, numbers-fit, arguments-fit}
 use Rattle.text_code.specs.StatementBy.{invokeBy, statementBy, statementsBy}
 
 and-true : (b : Bool) → (b && true) ≡ b

@@ -20,7 +20,7 @@ use Rattle.text_tokens.specs.NextCode.{NextToken, nextAt as tokenNext}
 use Rattle.text_tokens.proofs.Tokenwise.{next-token}
 use Rattle.text_types.specs.SaysCode.{Passed}
 use Rattle.text_types.proofs.Answers.{passed-next, kind-next}
-use Rattle.text_emit_expr.specs.CodeBy.{numberFits}
+use Rattle.text_numbering.specs.CodeBy.{numberFits}
 use Rattle.text_code.specs.OutcomeCode.{Tables, Written, Overflow, Outcome, all-written, over}
 use Rattle.text_code.proofs.Words.{put-both, set-argument}
 use Rattle.text_code.proofs.Quiet.{both-fit}

@@ -12,7 +12,7 @@ use Rattle.text.specs.Translation.{Instruction, codeWords, Scope}
 use Rattle.text_parse.specs.Tokens.{Token}
 use Rattle.text_tokens.specs.Places.{tokensAt}
 use Rattle.text_slots.specs.Placing.{Placing}
-use Rattle.text_emit_expr.specs.CodeBy.{numberFits}
+use Rattle.text_numbering.specs.CodeBy.{numberFits}
 use Rattle.text_declare.specs.Entered.{typed}
 
 -- The lent tables: n variables in scope, so many slots given out, so many instructions in the buffer.

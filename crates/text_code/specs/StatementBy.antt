@@ -7,7 +7,7 @@ use mathlib.Core.Option.{Option, none, some}
 use lib.ListN.{length}
 use Rattle.text.specs.Tree.{Name, Expr, Exprs, Statement, Statements, skip, assign, invoke, measure, receive, fork, send, give, block, conditional, alternative, loop, done, next, Method, Program, declaredBy, bodyVariables, methodOf, gateOf}
 use Rattle.text.specs.Translation.{Instruction, GET, DROP, GATE, MEAS, CALL, RET, FORK, SEND, RECV, Scope, slotOf, endsIn, opened, within, assignCode, dropCode, clearCode, ifCode, elseCode, whileCode, closing, holeOf}
-use Rattle.text_emit_expr.specs.CodeBy.{codeBy, argumentsBy}
+use Rattle.text_numbering.specs.CodeBy.{codeBy, argumentsBy}
 
 unfoldable pub invokeBy : (Name → ℕ) → Name → Option Method → List Instruction
 invokeBy num x none = GATE (gateOf x) ∷ []

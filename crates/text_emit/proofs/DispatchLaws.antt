@@ -25,7 +25,7 @@ use Rattle.text_types.specs.SaysCode.{nextKind, Passed}
 use Rattle.text_types.proofs.Answers.{passed-next, kind-next}
 use Rattle.text_scan.proofs.Holding.{Holds, holds, off}
 use Rattle.text_slots.specs.Placing.{Placing}
-use Rattle.text_emit_expr.specs.CodeBy.{placeOf}
+use Rattle.text_numbering.specs.CodeBy.{placeOf}
 use Rattle.text_code.specs.OutcomeCode.{Tables, Outcome, all-written, over}
 use Rattle.text_code.specs.StatementBy.{statementBy}
 use Rattle.text_code.proofs.Steps.{past, pass-leads, Stands}

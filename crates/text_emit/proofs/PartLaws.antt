@@ -19,7 +19,7 @@ use Rattle.text_tokens.specs.Places.{tokensAt}
 use Rattle.text_scan.proofs.Holding.{Holds, holds, off}
 use Rattle.text_slots.specs.Placing.{Placing}
 use Rattle.text_declare.specs.Entered.{typed}
-use Rattle.text_emit_expr.specs.CodeBy.{numberFits}
+use Rattle.text_numbering.specs.CodeBy.{numberFits}
 use Rattle.text_emit_expr.specs.Emitted.{Emitted}
 use Rattle.text_emit_expr.specs.declared.expression.EmitAt.{EmitAt}
 use Rattle.text_code.specs.OutcomeCode.{Tables, Written, Overflow, Outcome, all-written, over}

@@ -20,7 +20,7 @@ use Rattle.text_types.specs.declared.types.TypeAt.{TypeAt}
 use Rattle.text_slots.specs.Placing.{PlacedAt, Placing, nothing-placed, one-placed}
 use Rattle.text_scan.proofs.Holding.{Holds, holds, off, held, then-holds, expect-holds, name-holds}
 use Rattle.text_methods.specs.MethodSays.{MethodSays, stands, absent, MethodOf}
-use Rattle.text_emit_expr.specs.CodeBy.{numberFits, placeOf}
+use Rattle.text_numbering.specs.CodeBy.{numberFits, placeOf}
 use Rattle.text_code.specs.OutcomeCode.{Tables, Outcome}
 use Rattle.text_code.specs.StatementBy.{invokeBy}
 use Rattle.text_code.proofs.Forms.{outcome-same}

@@ -21,7 +21,7 @@ use Rattle.text_tokens.proofs.KindTests.{is-open, is-close, is-comma, is-semico
 use Rattle.text_scan.proofs.Holding.{Holds, holds, off, After, AfterName, after-name, then-holds, expect-holds, name-holds}
 use Rattle.text_slots.specs.Placing.{Placing, SlotAnswer}
 use Rattle.text_emit_expr.specs.PartsCode.{MeasuredUpTo}
-use Rattle.text_emit_expr.specs.CodeBy.{numberFits, codeBy, argumentsBy, placeOf}
+use Rattle.text_numbering.specs.CodeBy.{numberFits, codeBy, argumentsBy, placeOf}
 use Rattle.text_code.specs.OutcomeCode.{Tables, Outcome, all-written, over}
 use Rattle.text_code.specs.StatementBy.{invokeBy, statementBy}
 use Rattle.text_code.proofs.Steps.{past}

@@ -13,7 +13,7 @@ use Rattle.text_parse.specs.Equations.{exprFrom, argumentsRule, namedStatementR
 use Rattle.text_tokens.specs.NextCode.{nextAt as tokenNext}
 use Rattle.text_scan.proofs.Holding.{Holds}
 use Rattle.text_slots.specs.Placing.{Placing}
-use Rattle.text_emit_expr.specs.CodeBy.{numberFits, placeOf}
+use Rattle.text_numbering.specs.CodeBy.{numberFits, placeOf}
 use Rattle.text_code.specs.OutcomeCode.{Tables, Outcome}
 use Rattle.text_code.specs.StatementBy.{invokeBy, statementBy}
 use Rattle.text_emit.specs.declared.emit.Emit.{Emit}

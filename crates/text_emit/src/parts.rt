@@ -2,7 +2,7 @@
 ghost use Prim.Native.Nat.{_≤_};
 ghost use lib.ListN.{length};
 ghost use Rattle.text_parse.specs.Equations.{exprFrom, argumentsRule};
-ghost use Rattle.text_emit_expr.specs.CodeBy.{codeBy, argumentsBy, placeOf};
+ghost use Rattle.text_numbering.specs.CodeBy.{codeBy, argumentsBy, placeOf};
 ghost use Rattle.text_emit.specs.EmitCode.{Emits};
 use crate::emit::Emit;
 use text_emit_expr::arguments::emit_arguments;

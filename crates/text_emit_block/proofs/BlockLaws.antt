@@ -19,7 +19,7 @@ use Rattle.text_scan.proofs.Holding.{Holds, holds, off, then-holds, expect-hold
 use Rattle.text_declare.specs.Entered.{tables, Fits, typed, Entered, Entering, all-entered, too-many}
 use Rattle.text_declare.specs.Entered.{Tables as Entries}
 use Rattle.text_declare.specs.EnterCode.{Enters, enters, left, DeclarationsEnter}
-use Rattle.text_emit_expr.specs.CodeBy.{placeOf}
+use Rattle.text_numbering.specs.CodeBy.{placeOf}
 use Rattle.text_code.specs.OutcomeCode.{Tables, Written, Outcome, all-written, over}
 use Rattle.text_code.specs.StatementBy.{statementBy, statementsBy}
 use Rattle.text_code.proofs.Outcomes.{typed-append}

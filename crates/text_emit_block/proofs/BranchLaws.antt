@@ -14,7 +14,7 @@ use Rattle.text_tokens.proofs.KindTests.{is-else}
 use Rattle.text_types.specs.SaysCode.{nextKind}
 use Rattle.text_scan.proofs.Holding.{Holds, holds, after, then-holds, weaker-holds, next-holds, expect-holds}
 use Rattle.text_slots.specs.Placing.{Placing}
-use Rattle.text_emit_expr.specs.CodeBy.{codeBy, placeOf, numberFits}
+use Rattle.text_numbering.specs.CodeBy.{codeBy, placeOf, numberFits}
 use Rattle.text_code.specs.OutcomeCode.{Tables, Outcome}
 use Rattle.text_code.specs.StatementBy.{statementBy}
 use Rattle.text_code.proofs.Outcomes.{outcome-stays}

@@ -6,7 +6,7 @@ use mathlib.Core.List.{List, [], _∷_, _++_, append-nil, append-assoc}
 use lib.ListN.{length}
 use Rattle.text.specs.Tree.{Declared}
 use Rattle.text.specs.Translation.{Instruction, CLEAR, clearCode}
-use Rattle.text_emit_expr.specs.CodeBy.{numberFits}
+use Rattle.text_numbering.specs.CodeBy.{numberFits}
 use Rattle.text_code.proofs.Forms.{outcome-same}
 use Rattle.text_emit.specs.declared.emit.Emit.{Emit}
 use Rattle.text_emit.specs.EmitCode.{Puts, PutsOne}

@@ -16,7 +16,7 @@ use Rattle.text_tokens.specs.Places.{tokensAt}
 use Rattle.text_scan.proofs.Holding.{Holds, holds, off, weaker-holds}
 use Rattle.text_slots.specs.Placing.{Placing}
 use Rattle.text_declare.specs.Entered.{typed}
-use Rattle.text_emit_expr.specs.CodeBy.{numberFits}
+use Rattle.text_numbering.specs.CodeBy.{numberFits}
 use Rattle.text_code.specs.OutcomeCode.{Tables, Written, Overflow, Outcome, all-written, over}
 use Rattle.text_code.proofs.Quiet.{both-fit}
 use Rattle.text_code.proofs.Outcomes.{written-then, over-second, outcome-stays}

@@ -19,7 +19,7 @@ use Rattle.text_tokens.specs.KindsCode.{kindOf}
 use Rattle.text_tokens.proofs.KindTests.{is-if, is-while, is-open-brace}
 use Rattle.text_types.specs.SaysCode.{nextKind}
 use Rattle.text_scan.proofs.Holding.{Holds, holds, off, after, then-holds, weaker-holds, both-hold, next-holds, expect-holds, name-holds, leavesAt-holds}
-use Rattle.text_emit_expr.specs.CodeBy.{placeOf}
+use Rattle.text_numbering.specs.CodeBy.{placeOf}
 use Rattle.text_code.specs.StatementBy.{statementBy}
 use Rattle.text_code.proofs.Forms.{outcome-same, outcome-lower}
 use Rattle.text_emit.specs.declared.emit.Emit.{Emit}

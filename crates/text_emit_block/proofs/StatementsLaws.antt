@@ -13,7 +13,7 @@ use Rattle.text_parse.proofs.Equations.{grammar}
 use Rattle.text_tokens.proofs.KindTests.{is-close-brace}
 use Rattle.text_types.specs.SaysCode.{nextKind}
 use Rattle.text_scan.proofs.Holding.{holds, after, then-holds}
-use Rattle.text_emit_expr.specs.CodeBy.{placeOf}
+use Rattle.text_numbering.specs.CodeBy.{placeOf}
 use Rattle.text_code.specs.OutcomeCode.{Tables, Outcome, all-written, over}
 use Rattle.text_code.specs.StatementBy.{statementBy, statementsBy}
 use Rattle.text_code.proofs.Outcomes.{outcome-stays}

@@ -10,7 +10,7 @@ use Rattle.text_parse.specs.Tokens.{Token}
 use Rattle.text_parse.specs.Grammar.{Reading, read, andThen, rest, next?, Scopes}
 use Rattle.text_parse.specs.Equations.{conditionRule, bodyFrom, statementsFrom}
 use Rattle.text_scan.proofs.Holding.{Holds}
-use Rattle.text_emit_expr.specs.CodeBy.{placeOf}
+use Rattle.text_numbering.specs.CodeBy.{placeOf}
 use Rattle.text_code.specs.OutcomeCode.{Tables, Outcome}
 use Rattle.text_code.specs.StatementBy.{statementBy, statementsBy}
 use Rattle.text_emit.specs.declared.emit.Emit.{Emit}

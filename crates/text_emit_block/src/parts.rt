@@ -4,7 +4,7 @@ ghost use lib.ListN.{length};
 ghost use mathlib.Core.Bool.{true};
 ghost use mathlib.Core.Path.{_≡_};
 ghost use Rattle.text_parse.specs.Equations.{conditionRule};
-ghost use Rattle.text_emit_expr.specs.CodeBy.{codeBy, placeOf};
+ghost use Rattle.text_numbering.specs.CodeBy.{codeBy, placeOf};
 ghost use Rattle.text_emit.specs.EmitCode.{Emits};
 ghost use Rattle.text_emit_block.specs.BlockCode.{Advance, Clears};
 use text_emit::emit::Emit;

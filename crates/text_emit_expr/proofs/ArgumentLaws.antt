@@ -25,12 +25,12 @@ use Rattle.text_types.specs.SaysCode.{Passed}
 use Rattle.text_types.proofs.Answers.{kind-next, passed-next}
 use Rattle.text_slots.specs.Placing.{Placing}
 use Rattle.text_expr.proofs.Steps.{expect-then, andThen-assoc, andThen-same}
-use Rattle.text_emit_expr.specs.CodeBy.{codeBy, argumentsBy, placeOf, numberFits}
+use Rattle.text_numbering.specs.CodeBy.{codeBy, argumentsBy, placeOf, numberFits}
 use Rattle.text_emit_expr.specs.RestCode.{prefixed}
 use Rattle.text_emit_expr.specs.EndsCode.{Answer, Outcome, Ends}
 use Rattle.text_emit_expr.specs.Emitted.{Emitted, ExpressionEmitted, ArgumentsEmitted, ParametersEmitted}
 use Rattle.text_emit_expr.specs.declared.expression.EmitAt.{EmitAt}
-use Rattle.text_emit_expr.proofs.CodeLaws.{numbers-fit, arguments-fit, every-append}
+use Rattle.text_numbering.proofs.CodeLaws.{numbers-fit, arguments-fit, every-append}
 use Rattle.text_emit_expr.proofs.RestLaws.{prefixed-twice, prefixed-then, prefixed-expect}
 use Rattle.text_emit_expr.proofs.EndedRest.{not-left, expect-read}
 use Rattle.text_emit_expr.proofs.EndsLaws.{and-false, Refused, refused-ends, ends-lower, ends-put, put-more}

@@ -13,7 +13,7 @@ use Rattle.lists.proofs.Tests.{clash, passes}
 use Rattle.text.specs.Translation.{Instruction, codeWords}
 use Rattle.text_parse.specs.Tokens.{Token}
 use Rattle.text_parse.specs.Grammar.{Reading, read, leaves}
-use Rattle.text_emit_expr.specs.CodeBy.{numberFits}
+use Rattle.text_numbering.specs.CodeBy.{numberFits}
 use Rattle.text_emit_expr.specs.RestCode.{prefixed}
 use Rattle.text_emit_expr.specs.EndsCode.{Answer, Outcome, Ends}
 use Rattle.text_emit_expr.proofs.EndedRest.{not-left}

@@ -16,12 +16,12 @@ use Rattle.text_parse.specs.Grammar.{read, andThen, Scopes}
 use Rattle.text_parse.specs.Equations.{exprFrom}
 use Rattle.text_tokens.specs.Places.{tokensAt}
 use Rattle.text_slots.specs.Placing.{Placing}
-use Rattle.text_emit_expr.specs.CodeBy.{codeBy, placeOf, numberFits}
+use Rattle.text_numbering.specs.CodeBy.{codeBy, placeOf, numberFits}
 use Rattle.text_emit_expr.specs.RestCode.{prefixed, endedRest, operandRest, restOf, framesIn}
 use Rattle.text_emit_expr.specs.EndsCode.{Answer, Outcome, lowest, EndsFrom, Leads, Standing, Steps}
 use Rattle.text_emit_expr.specs.Emitted.{ExpressionEmitted}
 use Rattle.text_emit_expr.specs.declared.state.StateAt.{StateAt}
-use Rattle.text_emit_expr.proofs.CodeLaws.{numbers-fit}
+use Rattle.text_numbering.proofs.CodeLaws.{numbers-fit}
 use Rattle.text_emit_expr.proofs.StackLaws.{frames-none}
 use Rattle.text_emit_expr.proofs.EndsLaws.{and-false}
 use Rattle.text_emit_expr.proofs.PartLaws.{same-tree, same-left}

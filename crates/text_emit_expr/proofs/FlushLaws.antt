@@ -14,7 +14,7 @@ use Rattle.text.specs.Translation.{instruction, Scope}
 use Rattle.text_parse.specs.Tokens.{Token}
 use Rattle.text_parse.specs.Grammar.{Scopes, operatorAt}
 use Rattle.text_tokens.specs.Places.{tokensAt}
-use Rattle.text_emit_expr.specs.CodeBy.{numberFits}
+use Rattle.text_numbering.specs.CodeBy.{numberFits}
 use Rattle.text_emit_expr.specs.RestCode.{Frame, waiting, prefixed, endedRest, restOf, framesIn}
 use Rattle.text_emit_expr.specs.EndsCode.{Leads, Standing, Pop, popped, no-place, topOf, goes, Flush}
 use Rattle.text_emit_expr.specs.declared.state.StateAt.{StateAt}

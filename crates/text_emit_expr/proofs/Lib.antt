@@ -1,4 +1,3 @@
-pub mod CodeLaws
 pub mod RestLaws
 pub mod NameRest
 pub mod EndedRest

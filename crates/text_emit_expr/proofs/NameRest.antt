@@ -14,7 +14,7 @@ use Rattle.text_parse.proofs.Equations.{grammar}
 use Rattle.text_tokens.specs.KindsCode.{kindOf}
 use Rattle.text_tokens.proofs.KindTests.{is-open, is-close, is-assign, is-name}
 use Rattle.text_expr.proofs.Steps.{expect-then, expect-same, andThen-assoc, andThen-same}
-use Rattle.text_emit_expr.specs.CodeBy.{codeBy, argumentsBy, placeOf}
+use Rattle.text_numbering.specs.CodeBy.{codeBy, argumentsBy, placeOf}
 use Rattle.text_emit_expr.specs.RestCode.{Frame, waiting, prefixed, wholeWith, callWith, waitingWith, endedRest, wholeRest, operandRest}
 use Rattle.text_emit_expr.proofs.RestLaws.{prefixed-twice, prefixed-then, prefixed-expect, codeOf, operand-kind}
 

@@ -19,7 +19,7 @@ use Rattle.text_tokens.specs.declared.next.TokenAt.{TokenAt}
 use Rattle.text_tokens.proofs.KindTests.{is-new, is-name}
 use Rattle.text_types.specs.SaysCode.{Passed}
 use Rattle.text_types.proofs.Answers.{kind-next, passed-next}
-use Rattle.text_emit_expr.specs.CodeBy.{numberFits}
+use Rattle.text_numbering.specs.CodeBy.{numberFits}
 use Rattle.text_emit_expr.specs.RestCode.{Frame, bracket, prefixed, endedRest, wholeRest, operandRest, restOf}
 use Rattle.text_emit_expr.specs.EndsCode.{framesOf, gaveUp, opened, Emission, Steps}
 use Rattle.text_emit_expr.specs.PartsCode.{Reach, AllocatedUpTo}

@@ -22,7 +22,7 @@ use Rattle.text_tokens.proofs.KindTests.{is-end, is-name, is-qbit, is-channel, 
 use Rattle.text_types.specs.SaysCode.{Passed, Says, reads, leaves-at}
 use Rattle.text_types.proofs.Answers.{kind-next, passed-next, says-bounds}
 use Rattle.text_types.proofs.TypeLaws.{bracketed-of}
-use Rattle.text_emit_expr.specs.CodeBy.{codeBy, placeOf}
+use Rattle.text_numbering.specs.CodeBy.{codeBy, placeOf}
 use Rattle.text_emit_expr.specs.PartsCode.{UpTo, Reach, MeasuredUpTo, BracketsUpTo, AllocatedUpTo}
 use Rattle.text_emit_expr.proofs.EndedRest.{not-left, expect-read}
 

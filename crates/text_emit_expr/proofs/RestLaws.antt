@@ -15,7 +15,7 @@ use Rattle.text_parse.proofs.Equations.{grammar}
 use Rattle.text_tokens.specs.KindsCode.{kindOf}
 use Rattle.text_tokens.proofs.KindTests.{is-new, is-number, is-true, is-false, is-open, is-recv, is-measure}
 use Rattle.text_expr.proofs.Steps.{expect-then, expect-same, andThen-assoc, andThen-same}
-use Rattle.text_emit_expr.specs.CodeBy.{codeBy, placeOf}
+use Rattle.text_numbering.specs.CodeBy.{codeBy, placeOf}
 use Rattle.text_emit_expr.specs.RestCode.{Frame, bracket, waiting, prefixed, afterOperand, wholeWith, waitingWith, endedRest, wholeRest, operandRest}
 
 -- Instructions before what is left

@@ -16,7 +16,7 @@ use Rattle.text.specs.Translation.{Instruction, instruction, operatorOp, Scope}
 use Rattle.text_parse.specs.Tokens.{Token}
 use Rattle.text_parse.specs.Grammar.{Reading, read, leaves, andThen, first, rest, leavesAt, next?, expect, Scopes, operatorAt}
 use Rattle.text_parse.specs.Equations.{exprFrom, methodParamsFrom}
-use Rattle.text_emit_expr.specs.CodeBy.{codeBy, argumentsBy, placeOf}
+use Rattle.text_numbering.specs.CodeBy.{codeBy, argumentsBy, placeOf}
 use Rattle.text_emit_expr.specs.RestCode.{Frame, bracket, waiting, prefixed, afterOperand, wholeWith, callWith, waitingWith, endedRest, operandRest, brackets, framesIn}
 use Rattle.text_emit_expr.specs.EndsCode.{topOf}
 use Rattle.text_emit_expr.specs.declared.state.StateAt.{StateAt}

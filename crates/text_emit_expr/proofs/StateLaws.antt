@@ -11,7 +11,7 @@ use Rattle.lists.proofs.Put.{putFrom-length}
 use Rattle.text.specs.Translation.{Instruction, instruction, INT, Scope}
 use Rattle.text_parse.specs.Grammar.{Reading, Scopes}
 use Rattle.text_tokens.specs.Places.{tokensAt}
-use Rattle.text_emit_expr.specs.CodeBy.{numberFits}
+use Rattle.text_numbering.specs.CodeBy.{numberFits}
 use Rattle.text_emit_expr.specs.RestCode.{waiting, prefixed, operandRest, restOf, framesIn}
 use Rattle.text_emit_expr.specs.EndsCode.{Answer, Ends, framesOf, lowest, EndsFrom, Leads, Standing, gaveUp, gone, Emission, emitted, too-many, Push, pushed, too-deep, Pop, popped, no-place}
 use Rattle.text_emit_expr.specs.declared.state.StateAt.{StateAt}

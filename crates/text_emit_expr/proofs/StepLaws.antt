@@ -11,7 +11,7 @@ use Rattle.text_parse.specs.Tokens.{Token}
 use Rattle.text_parse.specs.Grammar.{read, Scopes}
 use Rattle.text_tokens.specs.Places.{tokensAt}
 use Rattle.text_slots.specs.Placing.{Placing}
-use Rattle.text_emit_expr.specs.CodeBy.{numberFits}
+use Rattle.text_numbering.specs.CodeBy.{numberFits}
 use Rattle.text_emit_expr.specs.RestCode.{Frame, bracket, waiting, prefixed, endedRest, wholeRest, operandRest, restOf}
 use Rattle.text_emit_expr.specs.EndsCode.{framesOf, lowest, Leads, Standing, gaveUp, opened, Emission, emitted, too-many, Push, pushed, too-deep, Steps}
 use Rattle.text_emit_expr.specs.declared.state.StateAt.{StateAt}

@@ -15,7 +15,7 @@ use Rattle.text_parse.specs.Grammar.{read, Scopes}
 use Rattle.text_parse.specs.Equations.{exprFrom, methodParamsFrom, argumentsRule}
 use Rattle.text_tokens.specs.Places.{tokensAt}
 use Rattle.text_slots.specs.Placing.{Placing}
-use Rattle.text_emit_expr.specs.CodeBy.{codeBy, argumentsBy, placeOf}
+use Rattle.text_numbering.specs.CodeBy.{codeBy, argumentsBy, placeOf}
 use Rattle.text_emit_expr.specs.declared.expression.EmitAt.{EmitAt}
 
 -- The code c with these numbers is emitted: ok says that it fits the 4096 instructions of a table and that no number is

@@ -13,7 +13,7 @@ use Rattle.text_parse.specs.Tokens.{Token}
 use Rattle.text_parse.specs.Grammar.{Reading, read, Scopes, operatorAt}
 use Rattle.text_tokens.specs.Places.{tokensAt}
 use Rattle.text_slots.specs.Placing.{Placing}
-use Rattle.text_emit_expr.specs.CodeBy.{numberFits}
+use Rattle.text_numbering.specs.CodeBy.{numberFits}
 use Rattle.text_emit_expr.specs.RestCode.{Frame, restOf, framesIn}
 use Rattle.text_emit_expr.specs.declared.state.StateAt.{StateAt}
 

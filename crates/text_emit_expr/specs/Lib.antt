@@ -1,4 +1,3 @@
-pub mod CodeBy
 pub mod RestCode
 pub mod EndsCode
 pub mod PartsCode

@@ -10,7 +10,7 @@ use Rattle.text.specs.Translation.{instruction, Scope}
 use Rattle.text_parse.specs.Tokens.{Token}
 use Rattle.text_parse.specs.Grammar.{read, allocated, allocation, measuredName}
 use Rattle.text_tokens.specs.Places.{tokensAt}
-use Rattle.text_emit_expr.specs.CodeBy.{codeBy, placeOf}
+use Rattle.text_numbering.specs.CodeBy.{codeBy, placeOf}
 
 -- the text is read from one place up to another, before the tokens us
 pub record UpTo (text : List ℕ) (from at : ℕ) (us : List Token) : Type 0 where

@@ -14,7 +14,7 @@ use Rattle.text.specs.Translation.{Instruction, instruction, INT, operatorOp, S
 use Rattle.text_parse.specs.Tokens.{Token}
 use Rattle.text_parse.specs.Grammar.{Reading, read, leaves, andThen, rest, next?, expect, Scopes, operatorAt}
 use Rattle.text_parse.specs.Equations.{exprFrom, methodParamsFrom}
-use Rattle.text_emit_expr.specs.CodeBy.{codeBy, argumentsBy, placeOf}
+use Rattle.text_numbering.specs.CodeBy.{codeBy, argumentsBy, placeOf}
 
 -- A bracket that is open, with no instruction for it; or an instruction that waits: an operator's and PUT for the end
 -- of their expression, CALL and RECV for their closing bracket.

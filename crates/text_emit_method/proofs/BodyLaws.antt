@@ -23,7 +23,7 @@ use Rattle.text_declare.specs.Entered.{tables, Fits, Entered, Entering, all-ent
 use Rattle.text_declare.specs.Entered.{Tables as Entries}
 use Rattle.text_declare.specs.EnterCode.{DeclarationsEnter}
 use Rattle.text_declare.proofs.EnteredLaws.{entered-none, entered-then, scope-begun}
-use Rattle.text_emit_expr.specs.CodeBy.{placeOf}
+use Rattle.text_numbering.specs.CodeBy.{placeOf}
 use Rattle.text_code.specs.OutcomeCode.{Tables, Written, Outcome, all-written, over}
 use Rattle.text_code.specs.StatementBy.{statementsBy}
 use Rattle.text_code.proofs.Forms.{outcome-same, outcome-lower}

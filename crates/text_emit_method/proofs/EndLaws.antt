@@ -12,7 +12,7 @@ use Rattle.lists.proofs.Tests.{clash, passes}
 use Rattle.text.specs.Tree.{Carried, intType, booleanType, qbitType, NonVoidType, plain, channelType, endType, Declared}
 use Rattle.text.specs.Translation.{Instruction, GET, RET, carriedCode, typeCode, returnCode, closing, holeType}
 use Rattle.text_parse.specs.Tokens.{Token}
-use Rattle.text_emit_expr.specs.CodeBy.{numberFits}
+use Rattle.text_numbering.specs.CodeBy.{numberFits}
 use Rattle.text_code.specs.OutcomeCode.{Overflow, Outcome, all-written, over}
 use Rattle.text_code.proofs.Quiet.{quiet-after, closing-quiet}
 use Rattle.text_code.proofs.Forms.{outcome-same}

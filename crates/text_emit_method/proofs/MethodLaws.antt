@@ -19,7 +19,7 @@ use Rattle.text_tokens.specs.Places.{tokensAt}
 use Rattle.text_scan.proofs.Holding.{Holds, holds, off, then-holds, weaker-holds, expect-holds}
 use Rattle.text_declare.specs.Entered.{typed}
 use Rattle.text_declare.proofs.RowLaws.{row-void, row-value}
-use Rattle.text_emit_expr.specs.CodeBy.{numberFits, placeOf}
+use Rattle.text_numbering.specs.CodeBy.{numberFits, placeOf}
 use Rattle.text_code.specs.StatementBy.{methodBy}
 use Rattle.text_code.proofs.Quiet.{statements-fit}
 use Rattle.text_emit.specs.declared.emit.Emit.{Emit}

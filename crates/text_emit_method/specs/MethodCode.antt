@@ -13,7 +13,7 @@ use Rattle.text.specs.Limits.{isNumber, allNumbersIn}
 use Rattle.text_parse.specs.Tokens.{Token}
 use Rattle.text_parse.specs.Grammar.{Reading, read, leaves}
 use Rattle.text_tokens.specs.Places.{tokensAt}
-use Rattle.text_emit_expr.specs.CodeBy.{placeOf}
+use Rattle.text_numbering.specs.CodeBy.{placeOf}
 use Rattle.text_code.specs.StatementBy.{methodBy}
 
 -- the method's name stands at start up to end

@@ -16,7 +16,7 @@ use Rattle.text_parse.specs.Equations.{parametersRule, methodBodyRule}
 use Rattle.text_tokens.specs.Places.{tokensAt}
 use Rattle.text_scan.proofs.Holding.{Holds}
 use Rattle.text_declare.specs.Entered.{tables, typed, Entered, Entering}
-use Rattle.text_emit_expr.specs.CodeBy.{numberFits, placeOf}
+use Rattle.text_numbering.specs.CodeBy.{numberFits, placeOf}
 use Rattle.text_code.specs.StatementBy.{statementsBy}
 use Rattle.text_code.specs.OutcomeCode.{Tables, Outcome}
 use Rattle.text_emit.specs.declared.emit.Emit.{Emit}

@@ -13,7 +13,7 @@ use Rattle.text.specs.Translation.{Instruction, instruction, operatorOp, carrie
 use Rattle.text_parse.specs.Tokens.{Token}
 use Rattle.text_scan.specs.Events.{Event, called, invoked, closed, ended, exprEvents, exprsEvents, declaredEvents, statementEvents, statementsEvents, methodEvents, programEvents}
 use Rattle.text_judge.specs.RowsCode.{calls}
-use Rattle.text_emit_expr.specs.CodeBy.{codeBy, argumentsBy}
+use Rattle.text_numbering.specs.CodeBy.{codeBy, argumentsBy}
 use Rattle.text_code.specs.StatementBy.{invokeBy, statementBy, statementsBy, methodBy}
 use Rattle.text_judged.specs.JudgedCode.{plainOp}
 

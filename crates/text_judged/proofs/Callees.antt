@@ -19,7 +19,7 @@ use Rattle.text_scan.specs.FaultsCode.{Entry, Blocks, countOf, callable, invoca
 use Rattle.text_scan.proofs.Methods.{parameterCount}
 use Rattle.text_scan.proofs.EventsText.{text-events}
 use Rattle.text_scan.proofs.SameFaults.{text-faults, text-count}
-use Rattle.text_emit_expr.specs.CodeBy.{placeOf}
+use Rattle.text_numbering.specs.CodeBy.{placeOf}
 use Rattle.text_code.specs.StatementBy.{methodBy}
 use Rattle.text_judged.specs.JudgedCode.{Spelt, There}
 use Rattle.text_judged.proofs.Spelling.{Calling, events-of, text-spelt}

@@ -28,7 +28,7 @@ use Rattle.text_judge.specs.declared.instruction.Counts.{Counts}
 use Rattle.text_judge.proofs.Judgement.{code-judged}
 use Rattle.text_rows.specs.Header.{asWord, headerWords}
 use Rattle.text_rows.proofs.NotedLaws.{word-small}
-use Rattle.text_emit_expr.specs.CodeBy.{placeOf}
+use Rattle.text_numbering.specs.CodeBy.{placeOf}
 use Rattle.text_code.specs.StatementBy.{methodBy}
 use Rattle.text_code.proofs.Numbered.{method-numbered}
 use Rattle.text_judged.specs.JudgedCode.{plainOp, MethodHere, keptHere, nameAt, headerIn, calledRow, Numbered, There, CallsIn}

@@ -21,7 +21,7 @@ use Rattle.text_judge.specs.ResumeCode.{InMethod, Right}
 use Rattle.text_judge.specs.declared.instruction.Counts.{Counts}
 use Rattle.text_judge.specs.declared.code.Judgement.{Judgement}
 use Rattle.text_rows.specs.Header.{asWord, headerWords}
-use Rattle.text_emit_expr.specs.CodeBy.{placeOf}
+use Rattle.text_numbering.specs.CodeBy.{placeOf}
 use Rattle.text_code.specs.StatementBy.{methodBy}
 
 -- an op that is neither CALL nor FORK

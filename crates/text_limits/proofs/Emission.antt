@@ -19,7 +19,7 @@ use Rattle.text.proofs.Words.{codeWords-length}
 use Rattle.text_parse.specs.Grammar.{Reading, read}
 use Rattle.text_parse.specs.Equations.{methodFrom}
 use Rattle.text_tokens.specs.Places.{tokensAt}
-use Rattle.text_emit_expr.specs.CodeBy.{placeOf}
+use Rattle.text_numbering.specs.CodeBy.{placeOf}
 use Rattle.text_code.specs.StatementBy.{methodBy}
 use Rattle.text_code.proofs.Numbered.{method-numbered}
 use Rattle.text_judged.proofs.Alike.{length-alike}

@@ -16,7 +16,7 @@ use Rattle.text.specs.Tree.{ascii, Method, Program, isMain, mainFirst, numberOf
 use Rattle.text.specs.Meaning.{isSome}
 use Rattle.text.specs.Translation.{carriedCode, typeCode, returnCode, rowWords, slotCodes, methodCode, programTable}
 use Rattle.text.specs.Limits.{isNumber, allNumbersIn, headerKept, codeKept, methodKept}
-use Rattle.text_emit_expr.specs.CodeBy.{placeOf}
+use Rattle.text_numbering.specs.CodeBy.{placeOf}
 use Rattle.text_code.proofs.Numbered.{method-numbered}
 use Rattle.text_judged.specs.JudgedCode.{MethodHere, keptHere}
 use Rattle.text_judged.proofs.Alike.{length-alike}

@@ -17,7 +17,7 @@ use Rattle.text_parse.specs.Grammar.{read, programOf}
 use Rattle.text_parse.specs.Equations.{methodFrom}
 use Rattle.text_tokens.specs.Places.{tokensAt}
 use Rattle.text_scan.specs.Standing.{Stand}
-use Rattle.text_emit_expr.specs.CodeBy.{placeOf}
+use Rattle.text_numbering.specs.CodeBy.{placeOf}
 use Rattle.text_code.specs.StatementBy.{methodBy}
 use Rattle.text_emit_method.specs.MethodCode.{NameAt}
 

@@ -10,7 +10,7 @@ use Rattle.text.specs.Tree.{Name, Method, Program, mainFirst, methodAt, numberO
 use Rattle.text.specs.Translation.{Instruction, instruction, methodCode}
 use Rattle.text_methods.specs.RowsCode.{rowsOf, rowIndex}
 use Rattle.text_methods.proofs.Found.{text-rows, index-same}
-use Rattle.text_emit_expr.specs.CodeBy.{placeOf}
+use Rattle.text_numbering.specs.CodeBy.{placeOf}
 use Rattle.text_code.specs.StatementBy.{methodBy}
 use Rattle.text_code.proofs.Numbered.{method-numbered}
 use Rattle.text_judge.specs.RowsCode.{calls}

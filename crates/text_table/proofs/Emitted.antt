@@ -19,7 +19,7 @@ use Rattle.text.proofs.Order.{all-method, mainFirst-code}
 use Rattle.text.proofs.Limited.{translated-limited}
 use Rattle.text_parse.specs.Tokens.{Token}
 use Rattle.text_parse.specs.Grammar.{Reading, read}
-use Rattle.text_emit_expr.specs.CodeBy.{placeOf}
+use Rattle.text_numbering.specs.CodeBy.{placeOf}
 use Rattle.text_code.specs.StatementBy.{methodBy}
 use Rattle.text_put.specs.TableCode.{calledAt, codeTo}
 use Rattle.text_put.specs.Measures.{TableText}

@@ -25,7 +25,7 @@ use Rattle.text.specs.Statement.{Translated, textTable}
 use Rattle.text.proofs.Elements.{nth, nth-within}
 use Rattle.text.proofs.Words.{methods-of, length-of, in-table}
 use Rattle.text.proofs.Limited.{Limited, limited-keeps, translated-limited}
-use Rattle.text_emit_expr.specs.CodeBy.{numberFits}
+use Rattle.text_numbering.specs.CodeBy.{numberFits}
 use Rattle.text_code.specs.StatementBy.{statementsBy, methodBy}
 use Rattle.text_code.proofs.Numbered.{method-numbered}
 use Rattle.text_code.proofs.Quiet.{quiet-after, closing-quiet, statements-fit}

@@ -4,8 +4,8 @@ use borrow.Author.Tests.{not-true, not-false}
 use mathlib.Core.Logic.{inl, inr}
 use Rattle.text.specs.Limits.{exprsNumbers}
 use Rattle.text_parse.specs.Equations.{argumentsRule}
-use Rattle.text_emit_expr.specs.CodeBy.{argumentsBy, placeOf}
-use Rattle.text_emit_expr.proofs.CodeLaws.{arguments-fit}
+use Rattle.text_numbering.specs.CodeBy.{argumentsBy, placeOf}
+use Rattle.text_numbering.proofs.CodeLaws.{arguments-fit}
 use Rattle.text_emit.proofs.PartLaws.{part-stuck, part-within, part-emits}
 use Rattle.text_emit.proofs.parts.arguments.Statement.{statement}
 use Rattle.text_emit.proofs.parts.arguments.Tie as tie

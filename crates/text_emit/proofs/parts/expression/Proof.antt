@@ -4,8 +4,8 @@ use borrow.Author.Tests.{not-true, not-false}
 use mathlib.Core.Logic.{inl, inr}
 use Rattle.text.specs.Limits.{exprNumbers}
 use Rattle.text_parse.specs.Equations.{exprFrom}
-use Rattle.text_emit_expr.specs.CodeBy.{codeBy, placeOf}
-use Rattle.text_emit_expr.proofs.CodeLaws.{numbers-fit}
+use Rattle.text_numbering.specs.CodeBy.{codeBy, placeOf}
+use Rattle.text_numbering.proofs.CodeLaws.{numbers-fit}
 use Rattle.text_emit.proofs.PartLaws.{part-stuck, part-within, part-emits}
 use Rattle.text_emit.proofs.parts.expression.Statement.{statement}
 use Rattle.text_emit.proofs.parts.expression.Tie as tie

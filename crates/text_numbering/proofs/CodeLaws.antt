@@ -7,7 +7,7 @@ use Rattle.lists.specs.Lists.{every}
 use Rattle.text.specs.Tree.{Name, Operator, plus, minus, equals, lessThan, Expr, Exprs, number, truth, variable, assignment, operation, methodCall, measurement, reception, newQubit, newChannel, newEnd, noMore, also, Program, numberOf}
 use Rattle.text.specs.Translation.{Instruction, instruction, PUT, CALL, RECV, operatorOp, Scope, slotOf, exprCode, exprsCode}
 use Rattle.text.specs.Limits.{exprNumbers, exprsNumbers, isNumber}
-use Rattle.text_emit_expr.specs.CodeBy.{codeBy, argumentsBy, placeOf, numberFits, resolved, Calls, ArgumentsCall}
+use Rattle.text_numbering.specs.CodeBy.{codeBy, argumentsBy, placeOf, numberFits, resolved, Calls, ArgumentsCall}
 
 module _ (ms : Program) (sc : Scope) where
   mutual
