@@ -1,5 +1,5 @@
--- The functions of MEAS do what document 01's op does: the answer and the words left agree with what the process at MEAS
--- would do.
+-- The functions of MEAS do what document 01's op does: the answer and the words left agree with what the process at
+-- MEAS would do.
 use Prim.Native.Nat.{ℕ, zero, suc, _%_, _≤_, _<_}
 use mathlib.Core.Path.{_≡_, refl, _∙_, ap, ap₂}
 use mathlib.Core.Logic.{⊎-elim}

@@ -20,8 +20,10 @@ next-token-requires c κs = search needs
 
 loop-holds : tie.Need-loop-holds Inv-loop μ-loop
 loop-holds c =
-    let at-args = c .before .before .before in
-    (index-begins (at-args .args .text .now) (at-args .args .index .now) _ (c .next-token .ensures) (at-args .pre), refl)
+    let at-args = c .before .before .before in (
+      index-begins (at-args .args .text .now) (at-args .args .index .now) _ (c .next-token .ensures) (at-args .pre),
+      refl,
+    )
 
 next-token-requires-2 : tie.Need-next-token-requires-2 Inv-loop μ-loop
 next-token-requires-2 c κs = search needs
