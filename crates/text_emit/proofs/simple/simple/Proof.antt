@@ -43,8 +43,8 @@ returns-3 c =
     let at-if3 = at-fork .before .before .before in
     let at-pass-token = at-if3 .before .before .before .before .before .before in
     let at-next-token = at-pass-token .before in
-    simple-fork _ _ _ _ _ _ _ _ (at-next-token .next-token .ensures) _ (at-pass-token .pass-token .ensures) (at-if3
-    .if3 .taken) (at-fork .fork .ensures)
+    simple-fork _ _ _ _ _ _ _ _ (at-next-token .next-token .ensures) _ (at-pass-token .pass-token .ensures)
+    (at-if3 .if3 .taken) (at-fork .fork .ensures)
 
 send-requires : tie.Need-send-requires
 send-requires c κs = search needs
@@ -61,8 +61,8 @@ returns-4 c =
     let at-if4 = at-send .before .before .before in
     let at-pass-token = at-if4 .before .before .before .before .before .before .before .before in
     let at-next-token = at-pass-token .before in
-    simple-send _ _ _ _ _ _ _ _ (at-next-token .next-token .ensures) _ (at-pass-token .pass-token .ensures) (at-if4
-    .if4 .taken) (at-send .send .ensures)
+    simple-send _ _ _ _ _ _ _ _ (at-next-token .next-token .ensures) _ (at-pass-token .pass-token .ensures)
+    (at-if4 .if4 .taken) (at-send .send .ensures)
 
 receive-requires : tie.Need-receive-requires
 receive-requires c κs = search needs
@@ -98,8 +98,8 @@ returns-6 c =
     let earlier = at-if6 .before .before .before .before .before .before .before .before .before .before in
     let at-pass-token = earlier .before .before in
     let at-next-token = at-pass-token .before in
-    simple-give _ _ _ _ _ _ _ _ (at-next-token .next-token .ensures) _ (at-pass-token .pass-token .ensures) (at-if6
-    .if6 .taken) (at-give .give .ensures)
+    simple-give _ _ _ _ _ _ _ _ (at-next-token .next-token .ensures) _ (at-pass-token .pass-token .ensures)
+    (at-if6 .if6 .taken) (at-give .give .ensures)
 
 named-requires : tie.Need-named-requires
 named-requires c κs = search needs
