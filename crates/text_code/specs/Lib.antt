@@ -1,2 +1,3 @@
 pub mod StatementBy
 pub mod OutcomeCode
+pub mod KeptCode

@@ -21,6 +21,7 @@ use Rattle.text_parse.specs.Equations.{methodFrom}
 use Rattle.text_tokens.specs.Places.{tokensAt}
 use Rattle.text_numbering.specs.CodeBy.{placeOf}
 use Rattle.text_code.specs.StatementBy.{methodBy}
+use Rattle.text_code.specs.KeptCode.{CodeOf}
 use Rattle.text_code.proofs.Numbered.{method-numbered}
 use Rattle.text_judged.proofs.Alike.{length-alike}
 use Rattle.text_judged.proofs.Callees.{Callee, text-alike}
@@ -84,6 +85,11 @@ module _ (text : List ℕ) (at index : ℕ) (h : MethodThere text at index) (ok 
             ∙ put-at code c i (omega (arith, codeWords-length (methodBy placeOf ms m), w .counted, w .few))
             (omega (arith, codeWords-length (methodBy placeOf ms m), w .counted));
       }
+
+  -- the code that is written is the method's
+  pub its-code : Emits (methodFrom (tokensAt text at)) → ok ≡ true → CodeOf ms m code′ long
+  unfolding is-emitted
+  its-code e t = is-emitted e t .words
 
   -- what does not fit passes a limit
   large : TooLarge ms m → isWithin before total ms m ≡ false

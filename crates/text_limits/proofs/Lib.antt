@@ -1,4 +1,5 @@
 pub mod Within
 pub mod Emission
 pub mod Onward
+pub mod Keeping
 pub mod Measuring

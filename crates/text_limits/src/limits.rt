@@ -22,7 +22,19 @@ fn keep(lengths: &mut [u16], rows: &mut [u16], k: usize, long: usize, row: &[u16
     put_row(rows, 18 * k, row);
 }
 
-// The next method: where no limit is passed with it, its length and its row are kept.
+// The first n words of a method's code copied among those kept, from word `at` on.
+fn keep_code(kept: &mut [usize], at: usize, code: &[usize], n: usize)
+    requires { ⌜ (at + n ≤ length (now kept)) × (n ≤ length (now code)) ⌝ }
+    ensures { λ r. ⌜ now (kept .exit) ≡ copied (now (kept .entry)) at (now (code .entry)) n ⌝ }
+{
+    let mut i = 0;
+    while i < n {
+        kept[at + i] = code[i];
+        i += 1;
+    }
+}
+
+// The next method: where no limit is passed with it, its length, its row and its code are kept.
 fn judge_next(
     text: &[u8],
     methods: &[usize],
@@ -33,13 +45,14 @@ fn judge_next(
     code: &mut [usize],
     lengths: &mut [u16],
     rows: &mut [u16],
+    kept: &mut [usize],
 ) -> Verdict
     requires { ⌜ MethodThere (now text) at k × (k ≤ 32) × (total ≤ 4096) × (12288 ≤ length (now pending))
         × (8192 ≤ length (now code)) × (32 ≤ length (now lengths)) × (576 ≤ length (now rows))
-        × Indexed (now text) (now methods) ⌝ }
+        × (8192 ≤ length (now kept)) × Indexed (now text) (now methods) ⌝ }
     ensures { λ r. ⌜ ((h : MethodThere (now (text .entry)) at k)
         → Judgement (now (text .entry)) at k h total (r .ok) (r .at) (r .start) (r .long) (now (lengths .entry))
-        (now (rows .entry)) (now (lengths .exit)) (now (rows .exit))) ⌝ }
+        (now (rows .entry)) (now (kept .entry)) (now (lengths .exit)) (now (rows .exit)) (now (kept .exit))) ⌝ }
 {
     let mut row = [0u16; 18];
     let mut scope = [0usize; 64];
@@ -58,6 +71,7 @@ fn judge_next(
         return v;
     }
     keep(lengths, rows, k, v.long, &row);
+    keep_code(kept, 2 * total, code, 2 * v.long);
     v
 }
 
@@ -78,19 +92,32 @@ pub fn limits(
     code: &mut [usize],
     lengths: &mut [u16],
     rows: &mut [u16],
+    kept: &mut [usize],
 ) -> LimitsAt
     requires { ⌜ WellNamed (now text) × (12288 ≤ length (now pending)) × (8192 ≤ length (now code))
-        × (32 ≤ length (now lengths)) × (576 ≤ length (now rows)) × Indexed (now text) (now methods) ⌝ }
+        × (32 ≤ length (now lengths)) × (576 ≤ length (now rows)) × (8192 ≤ length (now kept))
+        × Indexed (now text) (now methods) ⌝ }
     ensures { λ r. ⌜ ((w : WellNamed (now (text .entry)))
         → LimitsSay (w .program) (r .ok) (r .at) (r .methods) (r .instructions) (now (lengths .exit))
-        (now (rows .exit))) ⌝ }
+        (now (rows .exit)) (now (kept .exit))) ⌝ }
 {
     let n = method_count(text, methods);
     let mut at = 0;
     let mut k = 0;
     let mut total = 0;
     while k < n {
-        let v = judge_next(text, methods, at, k, total, pending, code, lengths, rows);
+        let v = judge_next(
+            text,
+            methods,
+            at,
+            k,
+            total,
+            pending,
+            code,
+            lengths,
+            rows,
+            kept,
+        );
         if !v.ok {
             return LimitsAt {
                 ok: false,

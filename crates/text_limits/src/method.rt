@@ -1,6 +1,6 @@
 // The limits of one method.
 ghost use mathlib.Core.Path.{_≡_};
-ghost use mathlib.Core.Bool.{_&&_, _||_, not};
+ghost use mathlib.Core.Bool.{true, _&&_, _||_, not};
 ghost use Prim.Native.Nat.{_≤_};
 ghost use lib.Dec.{eqb};
 ghost use lib.ListN.{getD, length};
@@ -8,6 +8,7 @@ ghost use lib.Seq.{slice};
 ghost use Rattle.lists.specs.Lists.{same};
 ghost use Rattle.text.specs.Tree.{ascii, mainFirst};
 ghost use Rattle.text_methods.specs.IndexCode.{Indexed};
+ghost use Rattle.text_code.specs.KeptCode.{CodeOf};
 ghost use Rattle.text_limits.specs.LimitsCode.{MethodThere, isWithin, Emitted, Answered};
 use text_emit_method::method::MethodAt;
 use text_emit_method::method::emit_method;
@@ -80,7 +81,8 @@ pub fn judge_method(
         × Indexed (now text) (now methods) ⌝ }
     ensures { λ r. ⌜ ((h : MethodThere (now (text .entry)) at before)
         → Answered (now (text .entry)) at before h before total (r .ok) (r .at) (r .start) (r .long)
-        (now (row .exit))) ⌝ }
+        (now (row .exit))
+        × (r .ok ≡ true → CodeOf (mainFirst (h .named .program)) (h .method) (now (code .exit)) (r .long))) ⌝ }
 {
     let m = emit_method(text, methods, at, row, scope, pending, code);
     if !m.ok {

@@ -1,6 +1,6 @@
 pub mod ByPlaces
 pub mod Fitting
-pub mod Emitted
+pub mod KeptLaws
 pub mod Others
 pub mod StepLaws
 pub mod TableLaws

@@ -1,31 +1,30 @@
 -- The table of a text, from what is written one after the other.
 use Prim.Native.Nat.{ℕ, _+_, _≤_, _<_}
 use native.Mathlib.Omega.{arith}
-use mathlib.Core.Path.{_≡_, refl, sym, ap, _∙_}
+use mathlib.Core.Path.{_≡_, refl, sym, ap, subst, _∙_}
 use mathlib.Core.Bool.{Bool, false}
 use mathlib.Core.List.{List, [], _∷_, _++_, append-assoc}
-use mathlib.Core.Option.{some, Option·none-ne-some, Option·some-injective}
+use mathlib.Core.Option.{some, Option·none-ne-some}
 use lib.ListN.{length, length-append}
 use Rattle.lists.specs.Lists.{putFrom}
 use Rattle.lists.proofs.Put.{put-same}
+use Rattle.table.specs.Table.{word}
 use Rattle.text.specs.Tree.{ascii, Name, Program, mainFirst, withoutMain, methodAt, methodOf}
 use Rattle.text.specs.Translation.{methodCode, programCode, codeWords}
 use Rattle.text.specs.Statement.{textTable}
 use Rattle.text.proofs.Order.{mainFirst-length, mainFirst-code}
 use Rattle.text.proofs.Words.{method-within, codeWords-length}
 use Rattle.text.proofs.Limited.{translated-limited}
-use Rattle.text_parse.specs.Tokens.{Token}
-use Rattle.text_parse.specs.Grammar.{read}
-use Rattle.text_parse.specs.Equations.{methodFrom}
-use Rattle.text_tokens.specs.Places.{tokensAt}
 use Rattle.text_methods.specs.MethodSays.{MethodSays, stands, absent, MethodOf}
 use Rattle.text_put.specs.TableCode.{Writes, numberIn, pairsTo, rowsTo}
 use Rattle.text_put.specs.Measures.{TableText, Measures}
 use Rattle.text_put.proofs.MainAt.{MainStands, order-is, number-at, main-number, index-at}
 use Rattle.text_put.proofs.WordLaws.{words-then, words-same, words-length, pairs-count, rows-count, number-main, index-main}
 use Rattle.text_put.proofs.Assembled.{text-main, table-is}
-use Rattle.text_table.specs.WrittenCode.{Writing, MethodSteps, headWords}
+use Rattle.text_code.specs.KeptCode.{offsetIn, CodeKept}
+use Rattle.text_table.specs.WrittenCode.{Writing, Lengths, headWords}
 use Rattle.text_table.proofs.Fitting.{one-of-all, table-words}
+use Rattle.text_table.proofs.StepLaws.{PutsOne, method-put}
 
 -- the words before the code
 
@@ -80,19 +79,14 @@ module _ {text : List ℕ} {ns : Program} (g : TableText text ns) where
       ∙ ap (λ ms. methodAt ms 0) (order-is ns p)
 
   main-found : {found : Bool} {index at params : ℕ} → MethodOf text (ascii "main") found index at params
-      → (us : List Token) × (index ≡ length (p .before)) × (methodFrom (tokensAt text at) ≡ read (p .one) us)
+      → index ≡ length (p .before)
   main-found {found} {index} {at} {params} f = by (f ns (g .left) 0 (g .reads))
     where
       x : Name
       x = record { spelling = ascii "main"; at = 0 }
 
-      by : MethodSays text ns x found index at params
-          → (us : List Token) × (index ≡ length (p .before)) × (methodFrom (tokensAt text at) ≡ read (p .one) us)
-      by (stands m us e o r q i) = (
-        us,
-        i ∙ main-number ns p x refl,
-        r ∙ ap (λ k. read k us) (Option·some-injective m (p .one) (sym o ∙ main-of x refl)),
-      )
+      by : MethodSays text ns x found index at params → index ≡ length (p .before)
+      by (stands m us e o r q i) = i ∙ main-number ns p x refl
       by (absent e o i) = absurd (Option·none-ne-some (p .one) (sym o ∙ main-of x refl))
 
   pub few-methods : {methods instructions : ℕ} {lengths rows : List ℕ}
@@ -103,10 +97,9 @@ module _ {text : List ℕ} {ns : Program} (g : TableText text ns) where
   pub index-small : {found : Bool} {index at params : ℕ} → MethodOf text (ascii "main") found index at params
       → index ≤ 31
   index-small f =
-      let (us, i, r) = main-found f in
       omega (
         arith,
-        i,
+        main-found f,
         method-within ns (length (p .before)) (p .one) main-there,
         mainFirst-length ns,
         translated-limited (length text) ns (g .kept) .few,
@@ -126,25 +119,30 @@ module _ {text : List ℕ} {ns : Program} (g : TableText text ns) where
         translated-limited (length text) ns (g .kept) .short,
       )
 
-  pub all-written : {methods instructions : ℕ} {lengths rows : List ℕ}
-      → Measures ns methods instructions lengths rows → {found : Bool} {index at params : ℕ}
-      → MethodOf text (ascii "main") found index at params → (table : List ℕ) {mid next end : List ℕ} {i on j r : ℕ}
+  pub all-written : {methods instructions : ℕ} {lengths rows : List ℕ} (kept : List ℕ)
+      → Measures ns methods instructions lengths rows → CodeKept ns methods lengths kept
+      → {found : Bool} {index at params : ℕ} → MethodOf text (ascii "main") found index at params → (table : List ℕ)
+      {mid next end : List ℕ} {i j r : ℕ}
       → Writes table 0 (headWords methods instructions lengths rows index) mid i → i ≤ 642
-      → MethodSteps text index at false mid i on next j
-      → ((ns : Program) → Writing text ns index → methods ≡ length ns → j ≤ 9000
+      → (from long : ℕ) → from ≡ offsetIn lengths index → long ≡ word lengths index
+      → PutsOne text index false kept from long mid i next j
+      → ((ns : Program) → Writing text ns index → methods ≡ length ns → Lengths ns lengths
+      → CodeKept ns methods lengths kept → j ≤ 9000
       → Writes next j (codeWords (programCode (mainFirst ns) (withoutMain ns))) end r)
       → (end ≡ putFrom table 0 (textTable ns)) × (r ≡ length (textTable ns))
-  all-written {methods} {instructions} {lengths} {rows} d {index = index} f table {mid = mid} {next = next} {i = i}
-      {j = j} h l one others =
-      let (us, n, reads) = main-found f in
+  all-written {methods} {instructions} {lengths} {rows} kept d c {index = index} f table {mid = mid} {next = next}
+      {i = i} {j = j} h l from long x y one others =
+      let n = main-found f in
       let w : Writing text ns index = record { given = g; index = n ∙ sym (main-number ns p _ refl) } in
-      let main = one ns index (p .one) us w (ap (methodAt ns) n ∙ main-there) reads (omega arith) in
-      let rest = others ns w (d .count) (main-below mid l (main .written)) in
+      let there = ap (methodAt ns) n ∙ main-there in
+      let main = method-put w lengths kept (d .long) (subst (λ k. CodeKept ns k lengths kept) (d .count) c) index from
+      long x y (p .one) there false mid i one (omega arith) in
+      let rest = others ns w (d .count) (d .long) c (main-below mid l main) in
       let A = codeWords (methodCode qs (p .one)) in
       let B = codeWords (programCode qs (withoutMain ns)) in
       let m = length (p .before) in
       let all = words-then table 0 (headWords methods instructions lengths rows index) (A ++ B) h
-      (words-then mid i A B (main .written) rest) in
+      (words-then mid i A B main rest) in
       let u = put-same table 0 (table-words (length text) ns (g .kept))
       (words-same table 0 (ap (λ k. headWords methods instructions lengths rows k ++ (A ++ B)) n
       ∙ ap (λ ws. methods ∷ instructions ∷ ws)

@@ -6,11 +6,14 @@ ghost use Rattle.lists.specs.Lists.{putFrom};
 ghost use Rattle.text.specs.Tree.{Program};
 ghost use Rattle.text.specs.Statement.{textTable};
 ghost use Rattle.text_methods.specs.IndexCode.{Indexed};
+ghost use Rattle.text_code.specs.KeptCode.{CodeKept};
 ghost use Rattle.text_put.specs.TableCode.{Writes};
 ghost use Rattle.text_put.specs.Measures.{TableText, Measures};
 ghost use Rattle.text_table.specs.WrittenCode.{headWords};
-use crate::code::put_method;
+use crate::code::offset_of;
+use crate::code::put_kept;
 use crate::code::put_others;
+use table::words::word_at;
 use text_methods::index::find_main;
 use text_put::words::put_pair;
 use text_put::words::put_pairs;
@@ -35,8 +38,8 @@ fn put_head(
     put_rows(rows, main, methods, table, j)
 }
 
-// The table of a text that is refused neither by 30, 31 nor 32, from the lengths and rows of its methods in text order;
-// the answer is how many words it has.
+// The table of a text that is refused neither by 30, 31 nor 32, from the lengths, rows and code of its methods, kept in
+// text order; the answer is how many words it has.
 pub fn write_table(
     text: &[u8],
     index: &[usize],
@@ -44,15 +47,14 @@ pub fn write_table(
     instructions: usize,
     lengths: &[u16],
     rows: &[u16],
-    pending: &mut [usize],
-    code: &mut [usize],
+    kept: &[usize],
     table: &mut [u16],
 ) -> usize
-    requires { ⌜ (length (now rows) ≡ 576) × (12288 ≤ length (now pending)) × (8192 ≤ length (now code))
-        × Indexed (now text) (now index) ⌝ }
+    requires { ⌜ (length (now rows) ≡ 576) × (8192 ≤ length (now kept)) × Indexed (now text) (now index) ⌝ }
     ensures { λ r. ⌜
         ((ns : Program) → TableText (now (text .entry)) ns
         → Measures ns methods instructions (now (lengths .entry)) (now (rows .entry))
+        → CodeKept ns methods (now (lengths .entry)) (now (kept .entry))
         → (now (table .exit) ≡ putFrom (now (table .entry)) 0 (textTable ns)) × (r ≡ length (textTable ns))) ⌝ }
 {
     let m = find_main(text, index);
@@ -64,6 +66,8 @@ pub fn write_table(
         return 0;
     }
     let i = put_head(main, methods, instructions, lengths, rows, table);
-    let n = put_method(text, index, main, m.at, false, pending, code, table, i);
-    put_others(text, index, main, methods, pending, code, table, n.to)
+    let from = offset_of(lengths, main);
+    let long = word_at(lengths, main);
+    let j = put_kept(text, index, main, false, kept, from, long, table, i);
+    put_others(text, index, main, methods, lengths, kept, table, j)
 }

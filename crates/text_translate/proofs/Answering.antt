@@ -29,6 +29,7 @@ use Rattle.text_names.specs.FaultCode.{Refuses}
 use Rattle.text_names.specs.Answer.{faultIn}
 use Rattle.text_put.specs.Measures.{TableText, Measures}
 use Rattle.text_limits.specs.LimitsCode.{WellNamed}
+use Rattle.text_code.specs.KeptCode.{CodeKept}
 use Rattle.text_limits.specs.MeasuresCode.{LimitsSay, within, passed}
 use Rattle.text_translate.specs.Translate.{Answer, refused, table, short, answerFor, bufferAfter}
 
@@ -137,13 +138,13 @@ module _ (text : List ℕ) (w : WellNamed text) where
   words : ℕ
   words = length (textTable ms)
 
-  module _ {ok : Bool} {at methods instructions : ℕ} {lengths rows : List ℕ}
-      (l : LimitsSay ms ok at methods instructions lengths rows) where
+  module _ {ok : Bool} {at methods instructions : ℕ} {lengths rows kept : List ℕ}
+      (l : LimitsSay ms ok at methods instructions lengths rows kept) where
     pub limits-say : (buffer : List ℕ) → ok ≡ false → Says text buffer (refused 32 at) buffer
     limits-say buffer e = by l
       where
-        by : LimitsSay ms ok at methods instructions lengths rows → Says text buffer (refused 32 at) buffer
-        by (within o k m n d) = never (sym e ∙ o)
+        by : LimitsSay ms ok at methods instructions lengths rows kept → Says text buffer (refused 32 at) buffer
+        by (within o k m n d q) = never (sym e ∙ o)
         by (passed o k) = refused-says text buffer 32 at (over k)
 
     -- no limit is passed
@@ -152,12 +153,13 @@ module _ (text : List ℕ) (w : WellNamed text) where
       few : methods ≤ 32
       short-enough : instructions ≤ 4096
       measured : Measures ms methods instructions lengths rows
+      codes : CodeKept ms methods lengths kept
 
     kept-within : ok ≡ true → Within
     kept-within e = by l
       where
-        by : LimitsSay ms ok at methods instructions lengths rows → Within
-        by (within o k m n d) = record { none-passed = k; few = m; short-enough = n; measured = d }
+        by : LimitsSay ms ok at methods instructions lengths rows kept → Within
+        by (within o k m n d q) = record { none-passed = k; few = m; short-enough = n; measured = d; codes = q }
         by (passed o k) = never (sym o ∙ e)
 
     pub few-methods : ok ≡ true → methods ≤ 32
@@ -195,7 +197,7 @@ module _ (text : List ℕ) (w : WellNamed text) where
     pub table-says : (buffer end : List ℕ) {n : ℕ} → ok ≡ true
         → 2 + 20 * methods + 2 * instructions ≤ length buffer
         → ((ns : Program) → TableText text ns → Measures ns methods instructions lengths rows
-        → (end ≡ putFrom buffer 0 (textTable ns)) × (n ≡ length (textTable ns)))
+        → CodeKept ns methods lengths kept → (end ≡ putFrom buffer 0 (textTable ns)) × (n ≡ length (textTable ns)))
         → Says text buffer (table n) end
     unfolding answerFor bufferAfter words
     table-says buffer end e q written =
@@ -205,7 +207,7 @@ module _ (text : List ℕ) (w : WellNamed text) where
           reads = w .reads;
           kept = record { names = w .names; limits = k .none-passed };
         } in
-        let put = written ms given (k .measured) in
+        let put = written ms given (k .measured) (k .codes) in
         let yes = le-leb words (length buffer) (omega (arith, q, counted e)) in
         let is = fits (k .none-passed) in (
           ap table (put .1) ∙ sym (ap (λ b. cond b (table words) (short words)) yes)

@@ -38,15 +38,17 @@ fn table_with(
     code: &mut [usize],
     lengths: &mut [u16],
     rows: &mut [u16],
+    kept: &mut [usize],
     table: &mut [u16],
 ) -> Translation
     requires { ⌜ WellNamed (now text) × (12288 ≤ length (now pending)) × (8192 ≤ length (now code))
-        × (32 ≤ length (now lengths)) × (length (now rows) ≡ 576) × Indexed (now text) (now methods) ⌝ }
+        × (32 ≤ length (now lengths)) × (length (now rows) ≡ 576) × (8192 ≤ length (now kept))
+        × Indexed (now text) (now methods) ⌝ }
     ensures { λ r. ⌜
         (answerNumbers r ≡ answerFor (length (now (table .entry))) (textOf (now (text .entry))))
         × (now (table .exit) ≡ bufferAfter (now (table .entry)) (textOf (now (text .entry)))) ⌝ }
 {
-    let l = limits(text, methods, pending, code, lengths, rows);
+    let l = limits(text, methods, pending, code, lengths, rows, kept);
     if !l.ok {
         return Translation::Limits(l.at);
     }
@@ -61,14 +63,14 @@ fn table_with(
         l.instructions,
         lengths,
         rows,
-        pending,
-        code,
+        kept,
         table,
     );
     Translation::Table(n)
 }
 
-// Room for one method's code, for what waits while it is written, and for the lengths and rows of 32 methods.
+// Room for one method's code, for what waits while it is written, and for the lengths, rows and code of all methods,
+// which are kept so that the text is not gone over again for its table.
 fn table_of(text: &[u8], methods: &[usize], table: &mut [u16]) -> Translation
     requires { ⌜ WellNamed (now text) × Indexed (now text) (now methods) ⌝ }
     ensures { λ r. ⌜
@@ -79,6 +81,7 @@ fn table_of(text: &[u8], methods: &[usize], table: &mut [u16]) -> Translation
     let mut code = [0usize; 8192];
     let mut lengths = [0u16; 32];
     let mut rows = [0u16; 576];
+    let mut kept = [0usize; 8192];
     table_with(
         text,
         methods,
@@ -86,6 +89,7 @@ fn table_of(text: &[u8], methods: &[usize], table: &mut [u16]) -> Translation
         &mut code,
         &mut lengths,
         &mut rows,
+        &mut kept,
         table,
     )
 }

@@ -1,6 +1,7 @@
 -- `judge_method` emits the method and asks for its limits.
 use borrow.Author.Tests.{not-true, not-false}
-use Rattle.text_limits.proofs.Emission.{is-emitted, refused, answered}
+use Rattle.lists.proofs.Tests.{never}
+use Rattle.text_limits.proofs.Emission.{is-emitted, its-code, refused, answered}
 use borrow.Author.Needs.{needs}
 use Rattle.text_limits.proofs.method.judge_method.Statement.{statement}
 use Rattle.text_limits.proofs.method.judge_method.Tie as tie
@@ -19,9 +20,12 @@ returns c =
     let emission = c .before .before .before .before .before .before in
     let start = emission .before .before .before .before .before .before .before .before .before in
     let k = start .pre in
-    λ h. refused _ _ _ h _ _ _ _ _ _ _ _ (start .args .before) (start .args .total) (k .4)
-    (emission .emit-method .ensures (h .named .program) (h .named .left) (h .named .reads) (k .3) (k .4) (k .5) (k .6))
-    (not-true _ (c .if1 .taken))
+    λ h. let w = h .named in
+    let written = emission .emit-method .ensures (w .program) (w .left) (w .reads) (k .3) (k .4) (k .5) (k .6) in (
+      refused _ _ _ h _ _ _ _ _ _ _ _ (start .args .before) (start .args .total) (k .4) written
+          (not-true _ (c .if1 .taken)),
+      λ t. never t,
+    )
 
 within-limits-requires : tie.Need-within-limits-requires
 within-limits-requires c κs =
@@ -48,9 +52,13 @@ returns-2 c =
     let emission = c .before .before .before .before .before .before .before .before .before .before in
     let start = emission .before .before .before .before .before .before .before .before .before in
     let k = start .pre in
-    λ h. answered _ _ _ h _ _ _ _ _ _ _ _ (start .args .before) (start .args .total) (k .4)
-    (emission .emit-method .ensures (h .named .program) (h .named .left) (h .named .reads) (k .3) (k .4) (k .5) (k .6))
-    (not-false _ (c .before .before .before .before .if1 .left)) _ (c .within-limits .ensures)
+    let ok = not-false _ (c .before .before .before .before .if1 .left) in
+    λ h. let w = h .named in
+    let written = emission .emit-method .ensures (w .program) (w .left) (w .reads) (k .3) (k .4) (k .5) (k .6) in (
+      answered _ _ _ h _ _ _ _ _ _ _ _ (start .args .before) (start .args .total) (k .4) written ok _
+          (c .within-limits .ensures),
+      λ t. its-code _ _ _ h _ _ _ _ _ _ _ _ 0 0 (k .4) written ok,
+    )
 
 pub judge-method-spec : {M : Type 1} → statement M
 judge-method-spec =
