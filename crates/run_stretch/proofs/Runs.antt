@@ -173,9 +173,9 @@ place-fits i first end e = go (ltb i first) (leb end i) refl refl e
 
 -- parts of the store
 
-pub part-length : (w : List ℕ) (n : ℕ) → n < 8 → 8192 ≤ length w → length (midOf (512 + 512 * n) (512 + 512 * n + 512 -
-    (512 + 512 * n)) w) ≡ 512
-part-length w n l long = ap length (part-lent w n {from = 512 + 512 * n} refl) ∙ part-long w long n l
+pub part-length : (w : List ℕ) (n : ℕ) → n < 8 → 8192 ≤ length w → {first : ℕ} → first ≡ partAt n
+    → length (midOf first (first + 512 - first) w) ≡ 512
+part-length w n l long at = ap length (part-lent w n at) ∙ part-long w long n l
 
 module _ (w : List ℕ) (long : 8192 ≤ length w) (n : ℕ) (l : n < 8) where
   front : length (take (partAt n) w) ≡ partAt n
@@ -188,14 +188,13 @@ module _ (w : List ℕ) (long : 8192 ≤ length w) (n : ℕ) (l : n < 8) where
       ∙ take-at ws (drop 512 (drop (partAt n) w)) 512 e
 
   -- the entries of a part that was lent
-  pub stretched : {p schedule : List ℕ} {from k : ℕ} {ys : List ℕ} → length ys ≡ 512
-      → PlainSteps p schedule n from (midOf (512 + 512 * n) (512 + 512 * n + 512 - (512 + 512 * n)) w) k ys
-      → {v : List ℕ} → v ≡ putMid (512 + 512 * n) (512 + 512 * n + 512 - (512 + 512 * n)) w ys
+  pub stretched : {first : ℕ} → first ≡ partAt n → {p schedule : List ℕ} {from k : ℕ} {ys : List ℕ} → length ys ≡ 512
+      → PlainSteps p schedule n from (midOf first (first + 512 - first) w) k ys
+      → {v : List ℕ} → v ≡ putMid first (first + 512 - first) w ys
       → PlainSteps p schedule n from (partOf w n) k (partOf v n) × (v ≡ withPart w n (partOf v n))
-  stretched {p} {schedule} {from} {k} {ys} e r {v} q =
-      let put : v ≡ withPart w n ys = q ∙ lifted-words w n {from = 512 + 512 * n} refl ys (λ us. ys) refl in
+  stretched at {p} {schedule} {from} {k} {ys} e r {v} q =
+      let put : v ≡ withPart w n ys = q ∙ lifted-words w n at ys (λ us. ys) refl in
       let back : partOf v n ≡ ys = ap (λ (u : List ℕ). partOf u n) put ∙ part-back ys e in (
-        ran-same (subst (λ (u : List ℕ). PlainSteps p schedule n from u k ys) (part-lent w n {from = 512 + 512 * n}
-            refl) r) back,
+        ran-same (subst (λ (u : List ℕ). PlainSteps p schedule n from u k ys) (part-lent w n at) r) back,
         put ∙ ap (withPart w n) (sym back),
       )

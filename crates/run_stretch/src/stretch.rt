@@ -17,8 +17,10 @@ use run_cursor::cursor::Cursor;
 use run_frames::frames::call;
 use run_frames::frames::head_of;
 use run_frames::frames::ret;
+use run_parts::part::part_at;
 use run_store::head::Head;
 use run_store::head::put_top;
+use run_store::references::ProcessNo;
 
 // The first entry that is not done, and where the top frame stands; halted where that entry names the process.
 pub struct StretchEnd {
@@ -241,7 +243,7 @@ pub fn stretch(
         × (now (work .exit) ≡ withPart (now (work .entry)) n (partOf (now (work .exit)) n)) × (r ≤ length (now
         (schedule .entry))) ⌝ }
 {
-    let first = 512 + 512 * (n as usize);
+    let first = part_at(ProcessNo(n as u16));
     let end = first + 512;
     run_frames(p, start, &mut work[first..end], schedule, from, n)
 }

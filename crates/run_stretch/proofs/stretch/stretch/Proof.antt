@@ -5,11 +5,8 @@ use borrow.Author.Needs.{needs}
 use Rattle.run_stretch.proofs.stretch.stretch.Statement.{statement}
 use Rattle.run_stretch.proofs.stretch.stretch.Tie as tie
 
-mul-first : tie.Need-mul-first
-mul-first c = search needs
-
-add-first : tie.Need-add-first
-add-first c = search needs
+part-at-requires : tie.Need-part-at-requires
+part-at-requires c κs = search needs
 
 add-end : tie.Need-add-end
 add-end c = search needs
@@ -34,21 +31,21 @@ same-length c = search needs
 
 returns : tie.Need-returns
 returns c =
-    let work = c .before .before .before .before .before .before .before .args .work .now in
-    let long = c .before .before .before .before .before .before .before .pre .1 in
-    let n = c .before .before .before .before .before .before .before .args .n in
-    let part = stretched work long n (c .before .before .before .before .before .before .before .pre .3)
-    (c .before .before .run-frames .kept .1 .1 .0 ∙ part-length work n
-    (c .before .before .before .before .before .before .before .pre .3) long)
-    (c .before .before .run-frames .ensures .0) refl in
-    (part .0, part .1, c .before .before .run-frames .ensures .1)
+    let frames = c .before .before .run-frames in
+    let at = c .before .before .before .before .part-at .ensures in
+    let entry = c .before .before .before .before .before .before .before .before in
+    let pre = entry .pre in
+    let work = entry .args .work .now in
+    let n = entry .args .n in
+    let part = stretched work (pre .1) n (pre .3) at
+    (frames .kept .1 .1 .0 ∙ part-length work n (pre .3) (pre .1) at) (frames .ensures .0) refl in
+    (part .0, part .1, frames .ensures .1)
 
 pub stretch-spec : {M : Type 1} → statement M
 stretch-spec =
     tie.close
     (tie.spec
-    mul-first
-    add-first
+    part-at-requires
     add-end
     mul-run-frames
     sub-run-frames
