@@ -1,5 +1,7 @@
 // Question 4: the first instruction at fault, by its op and its argument. On the way the jumps' targets are marked, for
 // question 5. Asked is that questions 1 and 2 are passed.
+#![tactic(auto)]
+
 ghost use Rattle.std.specs.Prelude.{◌≡◌, ◌≤◌, ◌<◌, T, length};
 ghost use Rattle.lists.specs.Lists.{first_false};
 ghost use Rattle.table.specs.Table.{methods, instructions};

@@ -7,7 +7,7 @@ ghost use Rattle.check_instructions.specs.OwnersCode.{owner_in, owner_at};
 use table::words::word_at;
 
 // Its number, where its row starts, its first instruction, and the first after it.
-#[derive(Drop)]
+#[derive(Clone, Copy)]
 pub struct Owner {
     pub method: usize,
     pub row: usize,

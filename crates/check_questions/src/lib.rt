@@ -1,6 +1,8 @@
 // The check: the eight questions of document 01. `ask` puts them in their order and answers the first no, with its
 // place. Its contract is the definition of the questions, for inputs of any content and length. It says nothing of the
 // time taken: the table is read a constant number of times.
+#![tactic(auto)]
+
 ghost use Rattle.std.specs.Prelude.{◌≡◌};
 ghost use Rattle.table.specs.Table.{methods, instructions};
 ghost use Rattle.table.specs.Questions.{questions};

@@ -1,5 +1,7 @@
 // Question 5: the methods read from first to last with types alone, and the first instruction at fault. Asked is that
 // questions 1 to 4 are passed and the targets of jumps marked.
+#![tactic(auto)]
+
 ghost use Rattle.std.specs.Prelude.{◌≡◌};
 ghost use Rattle.lists.specs.Lists.{first_false};
 ghost use Rattle.table.specs.Ops.{op_of};

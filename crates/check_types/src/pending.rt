@@ -4,7 +4,7 @@ ghost use Rattle.std.specs.Prelude.{◌≡◌, ◌≤◌, ◌<◌, []};
 ghost use Rattle.check_types.specs.PendingCode.{Held, result_in, top_of, take_off, put_on, bared, dropped_one};
 ghost use Rattle.std.proofs.Math.Option.{none, some};
 
-#[derive(Drop)]
+#[derive(Clone, Copy)]
 pub struct Pending {
     pub types: u64,
     pub count: usize,

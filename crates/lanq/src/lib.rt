@@ -1,6 +1,8 @@
 // The C interface, include/lanq.h. Each exported function has the contract of the function that it hands on to, the
 // answers of the check, of the runs, of the translation and of the look-up as a struct of numbers. But for the
 // translation's, these structs are of the crate lanq_answers.
+#![tactic(auto)]
+
 ghost use Rattle.std.specs.Prelude.{◌≡◌, length};
 ghost use Rattle.table.specs.Questions.{questions};
 ghost use Rattle.trace.specs.Trace.{look_up, count_read, same_lines};

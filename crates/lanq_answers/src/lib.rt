@@ -1,6 +1,8 @@
 // The answers of the C interface as structs of numbers: `check_numbers` for the check's, `refusal` and `ended` for a
 // run's, `holder_numbers` for the look-up's. Each contract gives the result by equation, and nothing is asked of the
 // caller. They stand apart from lanq, which is over every other crate, so that they are proved in seconds.
+#![tactic(auto)]
+
 ghost use Rattle.std.specs.Prelude.{◌≡◌};
 ghost use Rattle.machine.specs.Answer.{ran};
 ghost use Rattle.check_questions.specs.Check.{verdict_of};

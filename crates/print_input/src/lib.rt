@@ -1,6 +1,8 @@
 // The input file: "at most 65,536 bytes: three pairs (offset, length) of 32-bit numbers, lowest byte first". Answered
 // are whether a file is well built, the numbers in it, and the words of a part of it, for any bytes: a byte past the
 // end reads as 0, so that nothing is asked of the caller.
+#![tactic(auto)]
+
 ghost use Rattle.std.specs.Prelude.{◌≡◌, ◌+◌, ◌*◌, ◌<◌, get_or, set, take, drop, length};
 ghost use Rattle.print_format.specs.Format.{number_at, well_built, words_of};
 ghost use Rattle.lists.specs.Lists.{put_from};

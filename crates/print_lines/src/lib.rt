@@ -5,5 +5,7 @@
 // lines of a trace, as many as the caller knows to be there. What does not fit the lent buffer is left out, and the
 // answer counts it all the same: the caller compares it with the buffer's length (`put_from-take` says what stands there
 // if it fits). The contracts say nothing of the time taken.
+#![tactic(auto)]
+
 pub mod traces;
 pub mod writing;

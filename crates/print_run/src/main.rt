@@ -1,5 +1,7 @@
 // The printing program: reads standard input and prints the run that it gives. A buffer of one byte more than a file
 // may have shows a longer one as too long. Every text fits the other buffer.
+#![tactic(auto)]
+
 use libc::{STDIN_FILENO, STDOUT_FILENO};
 use print_text::print_text;
 

@@ -1,6 +1,8 @@
 // What the printing program prints for the bytes of a file, "A run given whole": `print_text` writes it into a lent
 // buffer, for any bytes, and answers how long it is. What does not fit the buffer is left out, and counted.
 // The contracts say nothing of the time taken.
+#![tactic(auto)]
+
 mod answer;
 
 ghost use Rattle.std.specs.Prelude.{◌≡◌, true, length};

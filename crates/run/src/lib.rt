@@ -4,6 +4,8 @@
 // definitions (specs/Answers.antt), where a question says no both buffers as they were. Nothing is asked of the caller.
 // What follows for the buffers, ownership with it, is in proofs/Demands.antt. The contract says nothing of the time
 // taken.
+#![tactic(auto)]
+
 ghost use Rattle.std.specs.Prelude.{◌≡◌, length};
 ghost use Rattle.machine.specs.Answer.{answer_of, lines_in};
 ghost use Rattle.check_questions.specs.Check.{verdict_of};

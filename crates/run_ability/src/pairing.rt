@@ -12,7 +12,7 @@ use run_store::values::{Val, empty};
 use run_values::steps::StepResult;
 
 // What an offer comes to: there is none; it waits; it meets its partner; its partner has gone.
-#[derive(Drop)]
+#[derive(Clone, Copy)]
 pub enum PairingKind {
     NoOffer,
     Waits,
@@ -30,7 +30,7 @@ pub fn waits(kind: PairingKind) -> bool
 }
 
 // A meeting has its sender's end and value.
-#[derive(Drop)]
+#[derive(Clone, Copy)]
 pub struct Pairing {
     pub kind: PairingKind,
     pub sender: ProcessNo,

@@ -16,7 +16,7 @@ use run_values::steps::{StepResult, not_running, went_on};
 
 // The first entry that needs more, with what its step answered, what its offer comes to, and what is known before it;
 // `WentOn` where the schedule is used up.
-#[derive(Drop)]
+#[derive(Clone, Copy)]
 pub struct Burst {
     pub at: usize,
     pub step: StepResult,

@@ -3,7 +3,7 @@ ghost use Rattle.std.specs.Prelude.{◌≡◌, ◌<◌};
 ghost use Rattle.run_burst.specs.KnowledgeCode.{nothing_known, marked, is_idle, with_idle, unless_changed};
 
 // Some process is able to move; and, where that is known, these are not.
-#[derive(Drop)]
+#[derive(Clone, Copy)]
 pub struct Knowledge {
     pub some: bool,
     pub idle: [bool; 8],

@@ -6,7 +6,7 @@ ghost use Rattle.run_cursor.specs.CursorCode.{halted_at, HeadFits, TopRead, TwoR
 use run_store::head::Head;
 
 // The place and the number of pending values; halted where the next step is not taken here.
-#[derive(Drop)]
+#[derive(Clone, Copy)]
 pub struct Cursor {
     pub place: u32,
     pub pending: u32,

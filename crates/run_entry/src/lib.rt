@@ -3,6 +3,8 @@
 // leaves all as it was. The contracts are equations on the words of trace and store; that they are the definitions'
 // entry is `entry-law` (proofs/Stepped.antt). Asked is what the crate run_ability asks, and fewer than 16,000,000 lines
 // so far.
+#![tactic(auto)]
+
 pub mod entry;
 pub mod forking;
 pub mod meeting;

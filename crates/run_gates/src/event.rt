@@ -3,7 +3,7 @@ ghost use Rattle.std.specs.Prelude.{◌≡◌};
 ghost use Rattle.run_gates.specs.GatesCode.{fault_event, line_event, measured_event};
 
 // The fault, 0 for none; how many outcomes are used; and the line after its entry and process.
-#[derive(Drop)]
+#[derive(Clone, Copy)]
 pub struct EventResult {
     pub code: u32,
     pub used: u32,

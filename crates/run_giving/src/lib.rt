@@ -1,5 +1,7 @@
 // What a giving does within one process's part: to the process that gives, to the one that receives, and to one that
 // begins. Each function's contract is an equation on the part's words.
+#![tactic(auto)]
+
 ghost use Rattle.std.specs.Prelude.{◌≡◌, ◌+◌, ◌*◌};
 ghost use Rattle.run_giving.specs.GivingCode.{thing_given, given_words, sent_words, received_words, began_words, popped_once, popped_by, arguments_popped};
 

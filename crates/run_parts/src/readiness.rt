@@ -12,7 +12,7 @@ use table::words::word_at;
 
 // What a process can do: it is over or not made; it moves by itself, by a step or a fault; it offers to send; it offers
 // to receive.
-#[derive(Drop)]
+#[derive(Clone, Copy)]
 pub enum ReadinessKind {
     Idle,
     Moves,
@@ -59,7 +59,7 @@ pub fn is_offering(kind: ReadinessKind) -> bool
 }
 
 // An offer has its end, and to send also its value.
-#[derive(Drop)]
+#[derive(Clone, Copy)]
 pub struct Readiness {
     pub kind: ReadinessKind,
     pub end: Val,

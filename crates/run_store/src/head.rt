@@ -4,7 +4,7 @@ ghost use Rattle.run_store.specs.StoreCode.{head_of, put_top, slot_at, top_at, s
 
 use super::values::{get, low, put};
 
-#[derive(Drop)]
+#[derive(Clone, Copy)]
 pub struct Head {
     pub status: u32,
     pub fault: u32,

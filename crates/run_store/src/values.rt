@@ -4,7 +4,7 @@ ghost use Rattle.std.specs.Prelude.{◌≡◌, ◌+◌, ◌%◌, get_or, set};
 ghost use Rattle.run_store.specs.StoreCode.{value_at, put_value};
 
 // A value as the store has it: its tag and its number (docs/LAYOUT.md).
-#[derive(Drop)]
+#[derive(Clone, Copy)]
 pub struct Val {
     pub tag: u32,
     pub number: u32,

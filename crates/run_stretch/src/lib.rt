@@ -3,5 +3,7 @@
 // frame, and at the end. Whatever is not done here, a fault, a limit, an op with a line, is left undone: a stretch may
 // stop before any entry, and the entry is taken the usual way. So the contracts say only that the entries passed are
 // plain steps.
+#![tactic(auto)]
+
 pub mod stretch;
 pub mod turn;

@@ -2,6 +2,8 @@
 // for texts, schedules and outcome lists of any content and length and whatever trace and work store held: the answer,
 // the trace and the work store are those of the definitions (specs/RunText.antt). Nothing is asked of the caller. What
 // follows for the buffers, by the text's meaning, is in proofs/TextDemands.antt.
+#![tactic(auto)]
+
 ghost use Rattle.std.specs.Prelude.{◌≡◌, ◌≤◌, length, take};
 ghost use Rattle.machine.specs.Answer.{refusal, answer_of, lines_in};
 ghost use Rattle.run.specs.Answers.{answer_numbers, trace_left, store_left};

@@ -7,7 +7,7 @@ ghost use Rattle.run_values.specs.ValuesCode.{went_on, not_running, is_send, is_
 // .. is empty", "25 frame beyond 8", "26 int out of range". A case has no number of its own beside it: that would cost
 // four instructions in every step, and the cases after which a process may wait come first: that saves two
 // (docs/DECISIONS.md).
-#[derive(Drop)]
+#[derive(Clone, Copy)]
 pub enum StepResult {
     WentOn,
     NotRunning,

@@ -1,6 +1,8 @@
 // What is read from a work store that a run has left: the holder of a thing, from the word where it is stored, in
 // constant time. `stored_holder` answers for any words, of any length; that after a run it is the holder that the lines
 // give is proved in the crate run (proofs/Holders.antt).
+#![tactic(auto)]
+
 ghost use Rattle.std.specs.Prelude.{◌≡◌};
 ghost use Rattle.store_read.specs.Stored.{word_of, stored_holder};
 

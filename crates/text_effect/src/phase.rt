@@ -1,6 +1,6 @@
 // What may come next in an expression, and what a token does there. The cases are those of crate text_expr
 // (specs/PhasesCode.antt, specs/LevelsCode.antt).
-#[derive(Drop)]
+#[derive(Clone, Copy)]
 pub enum Phase {
     Operand,
     Whole,
@@ -24,7 +24,7 @@ pub enum Phase {
     New6,
 }
 
-#[derive(Drop)]
+#[derive(Clone, Copy)]
 pub enum Effect {
     // The next phase; brackets and assignments stay.
     Stay(Phase),

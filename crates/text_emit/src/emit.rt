@@ -8,7 +8,7 @@ use text_emit_expr::state::{put as put_words, write};
 use text_tokens::next::{TokenAt, next_token};
 
 // Whether all fits so far, the place in the text, the slots given out, and the instructions in the buffer.
-#[derive(Drop)]
+#[derive(Clone, Copy)]
 pub struct Emit {
     pub ok: bool,
     pub at: usize,

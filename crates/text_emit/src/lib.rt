@@ -1,5 +1,7 @@
 // The code of statements that hold no other, written into a lent buffer while a text is gone over (Paper 1). Each step
 // takes where the emission stands and hands it on; once something does not fit, the steps after it do nothing.
+#![tactic(auto)]
+
 pub mod calls;
 pub mod emit;
 pub mod parts;

@@ -9,7 +9,7 @@ use crate::state::StateAt;
 use text_tokens::next::next_token;
 
 // Whether the code fits, the place after the expression, and the instructions in the buffer.
-#[derive(Drop)]
+#[derive(Clone, Copy)]
 pub struct EmitAt {
     pub ok: bool,
     pub at: usize,

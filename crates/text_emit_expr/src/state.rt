@@ -6,7 +6,7 @@ ghost use Rattle.text_emit_expr.specs.EndsCode.{gave_up, gone, Emission};
 
 // The phase (specs/RestCode.antt), the place in the text, the brackets that are open above the last entry of the stack,
 // the entries of the stack, and the instructions that are written.
-#[derive(Drop)]
+#[derive(Clone, Copy)]
 pub struct StateAt {
     pub phase: u8,
     pub at: usize,

@@ -13,7 +13,7 @@ use check_types::steps::step;
 
 // How many instructions the method has, how many methods the text has, and of how many of them, by number, the rows are
 // at hand.
-#[derive(Drop)]
+#[derive(Clone, Copy)]
 pub struct Counts {
     pub long: usize,
     pub methods: usize,

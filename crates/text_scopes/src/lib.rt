@@ -1,4 +1,6 @@
 // Whether a name means a channel with ends, by the blocks that are open around it.
+#![tactic(auto)]
+
 ghost use Rattle.std.specs.Prelude.{◌≡◌, List, ◌≤◌, ◌<◌, get_or};
 ghost use Rattle.std.proofs.Math.Seq.{slice};
 ghost use Rattle.text.specs.Tree.{Name, Declared};

@@ -9,7 +9,7 @@ use crate::kind::{mark_of_one, word_kind};
 use crate::kinds::{END, EQUALS, NUMBER};
 
 // A token by its places and its kind: its bytes stand from start up to end.
-#[derive(Drop)]
+#[derive(Clone, Copy)]
 pub struct TokenAt {
     pub start: usize,
     pub end: usize,

@@ -2,6 +2,8 @@
 // the buffer is long enough, writes the table. Its contract is two equations, for texts of any bytes and length and
 // buffers of any length: the answer and the buffer are those of the definitions (specs/Translate.antt). Nothing is
 // asked of the caller. That every table given out passes questions 1 to 5 is proved (proofs/Given.antt).
+#![tactic(auto)]
+
 ghost use Rattle.std.specs.Prelude.{◌≡◌, ◌≤◌, true, length};
 ghost use Rattle.text_parse.specs.Tokens.{tokens_of};
 ghost use Rattle.text_parse.specs.Grammar.{program_of};

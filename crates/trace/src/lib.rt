@@ -5,6 +5,8 @@
 // much. Each answer is its definition's (specs/Trace.antt), for any words, and nothing is asked of the caller. The
 // contracts say nothing of the time taken: the look-up goes through the lines that it counts, the comparison through
 // the lines up to the first difference.
+#![tactic(auto)]
+
 pub mod lookup;
 pub mod read;
 pub mod same;

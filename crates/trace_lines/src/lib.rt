@@ -1,11 +1,13 @@
 // Lines written into a lent trace: `write_line` leaves it with one line written and every other word kept, `write_two`
 // with two. A write past its end does nothing, so that nothing is asked of the caller but an index that can be computed
 // with.
+#![tactic(auto)]
+
 ghost use Rattle.std.specs.Prelude.{◌≡◌, ◌+◌, ◌*◌, ◌<◌, length, set};
 ghost use Rattle.trace_lines.specs.WrittenCode.{with_three, with_six, with_line};
 
 // "Six 16-bit numbers: entry (from 0), process, kind, a, b, c; unused ones 65535."
-#[derive(Drop)]
+#[derive(Clone, Copy)]
 pub struct TraceLine {
     pub entry: u16,
     pub process: u16,
