@@ -35,12 +35,12 @@ module _ {A B : Type 0} {R : A → B → Type 0} where
   pub both-take : {xs : List A} {ys : List B} (n : ℕ) → Both R xs ys → Both R (take n xs) (take n ys)
   both-take zero h = nil
   both-take (suc n) nil = nil
-  both-take (suc n) (cons r h) = cons r (both-take n h)
+  both-take (suc n) (cons {x = x} {y = y} {xs = xs} {ys = ys} r h) = cons r (both-take {xs = xs} {ys = ys} n h)
 
   pub both-drop : {xs : List A} {ys : List B} (n : ℕ) → Both R xs ys → Both R (drop n xs) (drop n ys)
   both-drop zero h = h
   both-drop (suc n) nil = nil
-  both-drop (suc n) (cons r h) = both-drop n h
+  both-drop (suc n) (cons {x = x} {y = y} {xs = xs} {ys = ys} r h) = both-drop {xs = xs} {ys = ys} n h
 
   pub both-append : {xs zs : List A} {ys ws : List B} → Both R xs ys → Both R zs ws → Both R (xs ++ zs) (ys ++ ws)
   both-append nil k = k
