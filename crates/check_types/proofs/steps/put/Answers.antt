@@ -1,0 +1,11 @@
+-- `put` wants the slot's type on top, and leaves it there.
+use native.Mathlib.Omega.{arith}
+use Rattle.check_types.proofs.steps.put.Goals as goal
+
+pub one-requires : goal.one-requires
+one-requires c =
+    let pre = c.requires in
+    (pre.1, omega (arith, c.slot_type-t.ensures), omega (arith, c.slot_type-t.ensures))
+
+pub returns : goal.returns
+returns c = (cc, c.one.ensures.1)

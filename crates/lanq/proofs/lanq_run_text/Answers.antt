@@ -1,0 +1,9 @@
+-- `lanq_run_text` gives the answer of a text's run its numbers.
+use mathlib.Core.Path.{◌∙◌, ap}
+use Rattle.lanq_answers.specs.Answers.{run_answer}
+use Rattle.lanq.proofs.lanq_run_text.Goals as goal
+
+pub returns : goal.returns
+returns c =
+    let e = c.run_text.ensures in
+    (c.run_numbers.ensures ∙ ap run_answer e.0, e.1, e.2)

@@ -1,0 +1,13 @@
+-- `one_line` goes by what the step left of the entry.
+use Rattle.run_entry.proofs.Returns.{line-left, no_line}
+use Rattle.run_entry.proofs.entry.one_line.Goals as goal
+
+pub returns-in-Line : goal.returns-in-Line
+returns-in-Line c =
+    let args = c.args in
+    line-left args.step c.rest_of-rest.ensures c.in-Line.keys1
+
+pub returns-in_default : goal.returns-in_default
+returns-in_default c =
+    let args = c.args in
+    no_line args.step c.rest_of-rest.ensures c.in_default.keys2

@@ -1,0 +1,12 @@
+-- `clear_frame` goes up: the words before number i are 0.
+use Rattle.run_store.specs.StoreCode.{cleared_from}
+use lib.ListN.{length}
+use mathlib.Core.Path.{◌≡◌}
+use Prim.Native.Nat.{◌≤◌, ◌-◌}
+use Rattle.run_frames.proofs.frames.clear_frame.Given as goal
+
+abbrev pub invariant-loop-i : goal.invariant-loop-i
+invariant-loop-i l = (l.i ≤ 48) × (l.w ≡ cleared_from l.initial.w l.from l.i) × (length l.w ≡ length l.initial.w)
+
+abbrev pub decreases-loop-i : goal.decreases-loop-i
+decreases-loop-i l = 48 - l.i

@@ -1,0 +1,24 @@
+-- `op_put` goes by whether the top value is emptied.
+use Rattle.run_values.specs.ValuesCode.{after_step, in_slot}
+use Rattle.run_moves.specs.MovesCode.{put_op}
+use Rattle.run_values.specs.declared.steps.StepResult.TheVariants.{WentOn}
+use Rattle.run_values.proofs.Returns.{empty-stops, full-goes}
+use Rattle.run_store.specs.StoreCode.{value_at}
+use mathlib.Core.Path.{◌∙◌, ap}
+use Rattle.run_moves.proofs.moves.op_put.Goals as goal
+
+pub returns-then-v-eq0 : goal.returns-then-v-eq0
+unfolding put_op
+returns-then-v-eq0 c =
+    let args = c.args in
+    empty-stops _ _ _ (c.value-v.ensures ∙ ap (value_at args.w.now) c.top.ensures) c.if-v-eq0.true
+
+pub returns : goal.returns
+unfolding put_op
+returns c =
+    let args = c.args in
+    full-goes _ _ _ (c.value-v.ensures ∙ ap (value_at args.w.now) c.top.ensures) c.if-v-eq0.false
+    (ap (after_step WentOn)
+    (c.store_slot.ensures
+    ∙ ap (in_slot args.w.now args.h args.a)
+    (c.value-v.ensures ∙ ap (value_at args.w.now) c.top.ensures)))

@@ -1,0 +1,8 @@
+-- `flag` makes a boolean of a test.
+use Rattle.run_numbers.proofs.numbers.flag.Goals as goal
+
+pub returns-then-b : goal.returns-then-b
+returns-then-b c = rw c.if-b.true
+
+pub returns : goal.returns
+returns c = rw c.if-b.false

@@ -1,0 +1,22 @@
+-- `op_add` goes by whether an operand is emptied, and leaves the range to `result`.
+use Rattle.run_numbers.specs.NumbersCode.{add_op, result_op}
+use Rattle.run_numbers.proofs.Returns.{two-stop, two-go}
+use Prim.Native.Nat.{ℕ, ◌+◌}
+use mathlib.Core.Path.{◌∙◌, ap₂}
+use Rattle.run_numbers.proofs.numbers.op_add.Goals as goal
+
+pub returns-then-two_empty : goal.returns-then-two_empty
+unfolding add_op
+returns-then-two_empty c =
+    let args = c.args in
+    two-stop args.w.now args.h _ c.two_empty.ensures c.if-two_empty.true
+
+pub returns : goal.returns
+unfolding add_op
+returns c =
+    let args = c.args in
+    two-go args.w.now args.h _ c.two_empty.ensures c.if-two_empty.false
+    c.number-x.ensures c.number-y.ensures
+    (c.result.ensures
+    ∙ ap₂ (λ (a b : ℕ). result_op args.w.now args.h (a + b)) c.bias.ensures.0
+    c.bias-2.ensures.0)

@@ -1,0 +1,13 @@
+-- `run_frames` goes from frame to frame.
+use Prim.Native.Nat.{◌≤◌, ◌-◌}
+use mathlib.Core.Path.{◌≡◌}
+use lib.ListN.{length}
+use Rattle.run_stretch.specs.StretchCode.{PlainSteps}
+use Rattle.run_stretch.proofs.stretch.run_frames.Given as goal
+
+abbrev pub invariant-loop-r : goal.invariant-loop-r
+invariant-loop-r l = (l.k ≤ length l.schedule) × PlainSteps l.p l.schedule l.n l.from l.initial.w l.k l.w
+    × (length l.w ≡ length l.initial.w)
+
+abbrev pub decreases-loop-r : goal.decreases-loop-r
+decreases-loop-r l = length l.schedule - l.k

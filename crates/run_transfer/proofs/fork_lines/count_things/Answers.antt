@@ -1,0 +1,43 @@
+-- `count_things` goes through the operands: `count` has the things among those before number j.
+use Rattle.run_transfer.proofs.Laws.{thing-more, thing-passed}
+use Rattle.run_transfer.specs.ForkLinesCode.{things_in}
+use native.Mathlib.Omega.{arith}
+use mathlib.Core.Logic.{⊎_elim}
+use mathlib.Core.Path.{◌≡◌, refl, ◌∙◌, subst}
+use Prim.Native.Nat.{ℕ, ◌-◌}
+use borrow.Author.Rules.{rules}
+use Rattle.run_transfer.proofs.fork_lines.count_things.Goals as goal
+
+pub loop-j-init : goal.loop-j-init
+unfolding things_in
+loop-j-init c = (search rules, refl, search rules)
+
+pub loop-j-preserved : goal.loop-j-preserved
+loop-j-preserved c =
+    let args = c.args in
+    let loop = c.loop-j in
+    ⊎_elim
+    (λ w. (
+      search rules,
+      w.1
+          ∙ thing-more args.work.now args.n.0 args.args loop.j loop.invariant.1
+          c.operand_of-v.ensures w.0.taken,
+      search rules,
+    ))
+    (λ w. (
+      search rules,
+      w.1
+          ∙ thing-passed args.work.now args.n.0 args.args loop.j loop.invariant.1
+          c.operand_of-v.ensures w.0.left,
+      search rules,
+    )) c.if-v-ge3.branch
+
+pub returns : goal.returns
+returns c =
+    let args = c.args in
+    let loop = c.loop-j in
+    let e : loop.j ≡ args.args = omega arith in (
+      subst (λ (i : ℕ). loop.count ≡ things_in args.work.now args.n.0 args.args i) e loop.invariant.1,
+      search
+          rules,
+    )

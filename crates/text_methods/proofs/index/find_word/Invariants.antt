@@ -1,0 +1,11 @@
+-- `find_word`: the entries before the one that is looked at have another name.
+use Prim.Native.Nat.{◌-◌}
+use Rattle.text_methods.specs.RowsCode.{rows_of}
+use Rattle.text_methods.proofs.Looking.{Unlike}
+use Rattle.text_methods.proofs.index.find_word.Given as goal
+
+abbrev pub invariant-loop-i : goal.invariant-loop-i
+invariant-loop-i l = Unlike l.word (rows_of l.text) l.i
+
+abbrev pub decreases-loop-i : goal.decreases-loop-i
+decreases-loop-i l = 32 - l.i

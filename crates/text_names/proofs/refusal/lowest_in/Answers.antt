@@ -1,0 +1,57 @@
+-- `lowest_in`: before each token the pass finds the same lowest fault.
+use native.Mathlib.Omega.{arith}
+use mathlib.Core.Path.{sym, ◌∙◌}
+use Prim.Native.Nat.{◌-◌}
+use Rattle.text_open.specs.ClassCode.{in_class}
+use Rattle.text_names.proofs.Passes.{class-fits}
+use Rattle.text_names.proofs.Scanning.{scan_begins, scan-ends, scan-turn, scan-goes}
+use Rattle.text_names.proofs.refusal.lowest_in.Goals as goal
+
+pub loop-kind-init : goal.loop-kind-init
+loop-kind-init c =
+    let g = c.args in
+    scan_begins (in_class g.all g.class) g.all g.text.now g.words.now _ c.requires.0
+    c.next_token-t.ensures
+
+pub in_class-mine-requires : goal.in_class-mine-requires
+in_class-mine-requires c =
+    let l = c.loop-kind in
+    (l.invariant.next.ends, (scan-turn l.invariant c.loop-kind-test.true).within)
+
+pub fault_here-fault-requires : goal.fault_here-fault-requires
+fault_here-fault-requires c =
+    let l = c.loop-kind in
+    (c.requires.1, l.invariant.next.ends, (scan-turn l.invariant c.loop-kind-test.true).within)
+
+pub open_after-n-requires : goal.open_after-n-requires
+open_after-n-requires c = (c.loop-kind.invariant.room, c.loop-kind.invariant.count_low)
+
+pub index_after-index-requires : goal.index_after-index-requires
+index_after-index-requires c = omega (arith, (scan-turn c.loop-kind.invariant c.loop-kind-test.true).index-less, c.well-formed.0.1)
+
+pub braces_after-braces-requires : goal.braces_after-braces-requires
+braces_after-braces-requires c = omega (arith, (scan-turn c.loop-kind.invariant c.loop-kind-test.true).braces-less, c.well-formed.0.1)
+
+pub loop-kind-smaller : goal.loop-kind-smaller
+loop-kind-smaller c =
+    let p = scan-turn c.loop-kind.invariant c.loop-kind-test.true in
+    omega (arith, p.begun, p.onward, c.next_token-u.ensures.starts)
+
+pub loop-kind-preserved : goal.loop-kind-preserved
+loop-kind-preserved c =
+    scan-goes c.loop-kind.invariant c.loop-kind-test.true _ c.next_token-u.ensures
+    c.role-r.ensures c.in_class-mine.ensures c.role_if-asked.ensures
+    c.fault_here-fault.ensures c.declared_if.ensures c.open_after-n.auto.0
+    c.open_after-n.ensures c.lower_place-low.ensures c.from_after-from.ensures
+    c.index_after-index.ensures c.mode_after-mode.ensures c.braces_after-braces.ensures
+    c.keeps.ensures c.kind_if-kind.ensures
+
+pub shape_of-words : goal.shape_of-words
+shape_of-words c = c.loop-kind.invariant.room ∙ sym c.requires.0
+
+pub returns : goal.returns
+returns c =
+    (
+      λ e. scan-ends c.loop-kind.invariant c.loop-kind-test.false (sym c.keeps-2.ensures ∙ e),
+      λ e. c.keeps-2.ensures ∙ class-fits c.args.all c.loop-kind.n e,
+    )

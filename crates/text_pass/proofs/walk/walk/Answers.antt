@@ -1,0 +1,139 @@
+-- `walk`: at each token the pass stands where the pass over the tokens does.
+use mathlib.Core.Path.{◌≡◌, refl, sym, ap, ◌∙◌, subst}
+use Prim.Native.Nat.{ℕ, suc, ◌-◌, ◌≤◌, ◌<◌}
+use native.Mathlib.Omega.{arith}
+use mathlib.Core.Bool.{Bool, ◌||◌}
+use borrow.Author.Tests.{not-true, not-false, eqb-false}
+use lib.Dec.{eqb}
+use lib.ListN.{length, length-set}
+use Rattle.lists.proofs.Tests.{clash, passes, never}
+use Rattle.text.specs.Tree.{Expr}
+use Rattle.text_parse.specs.Equations.{expr_from}
+use Rattle.text_tokens.specs.Places.{tokens_at}
+use Rattle.text_types.specs.SaysCode.{Says}
+use Rattle.text_pass.specs.declared.walk.WalkAt.{WalkAt}
+use Rattle.text_pass.proofs.RestLaws.{answer-known}
+use Rattle.text_types.proofs.Answers.{passed-next}
+use Rattle.text_window.specs.WindowCode.{slot_of, put}
+use Rattle.text_pass.proofs.SeenLaws.{or-false}
+use Rattle.text_pass.proofs.ExprLaws.{stands_on}
+use Rattle.text_pass.proofs.StandLaws.{goes-effect, counts-kept, brackets-kept, stands-first, effect-doing, ends-says, in-room}
+use Rattle.text_pass.proofs.walk.walk.Goals as goal
+
+pub loop-phase-init : goal.loop-phase-init
+loop-phase-init c =
+    let g = c.args in
+    let kept : length (put 0 0 0 g.counts.now) ≡ length g.counts.now =
+    length-set g.counts.now (slot_of (length g.counts.now) 0 0) 0 in
+    rw c.put_count.ensures (
+      refl,
+      c.requires.0 ∙ sym kept,
+      subst (λ (m : ℕ). 2 ≤ m) (sym kept) c.requires.1,
+      (λ scopes o le.
+          stands-first scopes g.text.now g.from _ 0 g.counts.now g.brackets.now (sym kept)
+          (c.requires.0 ∙ sym kept)),
+    )
+
+pub ready-levels-requires : goal.ready-levels-requires
+ready-levels-requires c =
+    let inv = c.loop-phase.invariant in
+    (inv.1 ∙ sym inv.0, subst (λ (m : ℕ). 2 ≤ m) (sym inv.0) inv.2)
+
+pub shape_of-counts-then-not-levels : goal.shape_of-counts-then-not-levels
+shape_of-counts-then-not-levels c =
+    let l = c.loop-phase in
+    let levels = c.ready-levels in
+    let kept : length levels.new.1.1.1.1.1.1.1.1.1.1.0 ≡ length l.counts = levels.auto.1.1.1.1.1.1.1.1.1.1.0 in
+    kept ∙ l.invariant.0 ∙ c.put_count.auto.0
+
+pub shape_of-brackets-then-not-levels : goal.shape_of-brackets-then-not-levels
+shape_of-brackets-then-not-levels c =
+    let l = c.loop-phase in
+    let levels = c.ready-levels in
+    let kept : length levels.new.1.1.1.1.1.1.1.1.1.1.1.0 ≡ length l.brackets = levels.auto.1.1.1.1.1.1.1.1.1.1.1.0 in
+    kept ∙ l.invariant.1 ∙ c.put_count.auto.0 ∙ sym c.requires.0
+
+pub returns-then-not-levels : goal.returns-then-not-levels
+returns-then-not-levels c =
+    (
+      (λ scopes o le k. never (sym c.no_answer.ensures ∙ k)),
+      (λ a. absurd (clash (not-true c.ready-levels.result.known c.if-not-levels.true)
+          (passes (c.ready-levels.ensures.2 a)))),
+    )
+
+pub shape_of-counts-then-stops-t : goal.shape_of-counts-then-stops-t
+shape_of-counts-then-stops-t c =
+    let l = c.loop-phase in
+    let levels = c.ready-levels in
+    let kept : length levels.last.1.1.1.1.1.1.1.1.1.1.0 ≡ length l.counts = levels.kept.1.1.1.1.1.1.1.1.1.1.0 in
+    kept ∙ l.inv.0 ∙ c.put_count.kept.0
+
+pub shape_of-brackets-then-stops-t : goal.shape_of-brackets-then-stops-t
+shape_of-brackets-then-stops-t c =
+    let l = c.loop-phase in
+    let levels = c.ready-levels in
+    let kept : length levels.last.1.1.1.1.1.1.1.1.1.1.1.0 ≡ length l.brackets = levels.kept.1.1.1.1.1.1.1.1.1.1.1.0 in
+    kept ∙ l.inv.1 ∙ c.put_count.kept.0 ∙ sym c.requires.0
+
+pub returns-then-stops-t : goal.returns-then-stops-t
+returns-then-stops-t c =
+    let g = c.args in
+    let l = c.loop-phase in
+    let levels = c.ready-levels in
+    let token = c.next_token-t in
+    let effect = c.effect_at-e in (
+      (λ scopes o le k.
+          let st = levels.ensures.0 scopes o le
+          (in-room scopes g.text.now g.from (sym l.invariant.0) (l.invariant.3 scopes o le)) in
+          let q = effect-doing scopes g.text.now g.from _ _ _ _ _ _ _ st _ token.ensures effect.result _ _
+          (levels.ensures.1 (not-false _ c.if-not-levels.false)) c.assigning-within.ensures
+          c.innermost-bracket.ensures
+          (effect.ensures scopes o le token.ensures.kind) in
+          subst
+          (λ (r : WalkAt). Says g.text.now (suc g.from) (λ (e : Expr). Unit {0}) r.ok r.at
+          (expr_from scopes (tokens_at g.text.now g.from))) (sym c.answer.ensures)
+          (ends-says scopes g.text.now g.from _ _ _ _ _ _ _ st _ token.ensures effect.result
+          (ap (λ (b : Bool). b || eqb token.result.kind 32) (sym c.stops.ensures) ∙ c.if-stops-t.true) q)),
+      (λ a. ap (λ (r : WalkAt). r.known) c.answer.ensures ∙ answer-known c.loop-phase.at
+          c.effect_at-e.result),
+    )
+
+pub loop-phase-smaller : goal.loop-phase-smaller
+loop-phase-smaller c =
+    let g = c.args in
+    let l = c.loop-phase in
+    let token = c.next_token-t in
+    let more = or-false c.stops.result (eqb token.result.kind 32) c.if-stops-t.false in
+    let p = passed-next g.text.now l.at _ token.ensures (eqb-false token.result.kind 32 more.1) in
+    let begun : l.at < length g.text.now = p.begun in omega arith
+
+pub loop-phase-preserved : goal.loop-phase-preserved
+loop-phase-preserved c =
+    let g = c.args in
+    let l = c.loop-phase in
+    let levels = c.ready-levels in
+    let token = c.next_token-t in
+    let effect = c.effect_at-e in
+    let kept : length levels.new.1.1.1.1.1.1.1.1.1.1.0 ≡ length l.counts = levels.auto.1.1.1.1.1.1.1.1.1.1.0 in
+    let kept-too : length levels.new.1.1.1.1.1.1.1.1.1.1.1.0 ≡ length l.brackets = levels.auto.1.1.1.1.1.1.1.1.1.1.1.0 in
+    let more = or-false c.stops.result (eqb token.result.kind 32) c.if-stops-t.false in
+    rw (
+      c.note_counts.ensures,
+      c.note_brackets.ensures,
+      c.depth_after-depth.ensures,
+    ) (
+      counts-kept levels.result.low l.depth effect.result _ ∙ kept ∙ l.invariant.0,
+      brackets-kept levels.result.low l.depth effect.result _ ∙ kept-too ∙ l.invariant.1,
+      l.invariant.2,
+      (λ scopes o le.
+          let st = levels.ensures.0 scopes o le
+          (in-room scopes g.text.now g.from (sym l.invariant.0) (l.invariant.3 scopes o le)) in
+          let q = effect-doing scopes g.text.now g.from _ _ _ _ _ _ _ st _ token.ensures effect.result _ _
+          (levels.ensures.1 (not-false _ c.if-not-levels.false)) c.assigning-within.ensures
+          c.innermost-bracket.ensures
+          (effect.ensures scopes o le token.ensures.kind) in
+          in-room scopes g.text.now g.from l.invariant.0
+          (stands_on scopes g.text.now g.from _ _ _ _ _ _ _ st _ token.ensures effect.result q
+          (goes-effect g.text.now effect.result (sym c.stops.ensures ∙ more.0)) c.well-formed.0.0
+          c.phase_after-phase.result (c.phase_after-phase.ensures g.text.now))),
+    )

@@ -1,0 +1,90 @@
+-- `simple`: by the first token.
+use native.Mathlib.Omega.{arith}
+use mathlib.Core.Path.{sym, ◌∙◌}
+use Rattle.text_types.proofs.Answers.{kind-next, passed-next}
+use Rattle.text_statements.proofs.SimpleLaws.{simple-skip, simple-measure, simple-fork, simple-send, simple-recv, simple-return, simple-named}
+use Rattle.text_statements.proofs.simple.simple.Goals as goal
+
+pub returns-then-t-eq-SEMICOLON : goal.returns-then-t-eq-SEMICOLON
+returns-then-t-eq-SEMICOLON c =
+    let g = c.args in
+    let nt = c.next_token-t.ensures in
+    let text = g.text.now in
+    let same = kind-next text g.from _ nt in
+    let kind = c.if-t-eq-SEMICOLON.true in
+    simple-skip text g.starts.now g.n g.from (same ∙ kind)
+    (passed-next text g.from _ nt (λ e. omega arith))
+
+pub returns-then-t-eq-MEASURE : goal.returns-then-t-eq-MEASURE
+returns-then-t-eq-MEASURE c =
+    let g = c.args in
+    let nt = c.next_token-t.ensures in
+    let text = g.text.now in
+    let same = kind-next text g.from _ nt in
+    let kind = c.if-t-eq-MEASURE.true in
+    simple-measure text g.starts.now g.n g.from _ (same ∙ kind)
+    (passed-next text g.from _ nt (λ e. omega arith))
+    c.measured_name-name.ensures c.expect_after.ensures
+
+pub returns-then-t-eq-FORK : goal.returns-then-t-eq-FORK
+returns-then-t-eq-FORK c =
+    let g = c.args in
+    let nt = c.next_token-t.ensures in
+    let text = g.text.now in
+    let same = kind-next text g.from _ nt in
+    let kind = c.if-t-eq-FORK.true in
+    simple-fork text g.starts.now g.n g.from _ (same ∙ kind)
+    (passed-next text g.from _ nt (λ e. omega arith))
+    c.fork_rest.ensures
+
+pub returns-then-t-eq-SEND : goal.returns-then-t-eq-SEND
+returns-then-t-eq-SEND c =
+    let g = c.args in
+    let nt = c.next_token-t.ensures in
+    let text = g.text.now in
+    let same = kind-next text g.from _ nt in
+    let kind = c.if-t-eq-SEND.true in
+    simple-send text g.starts.now g.n g.from _ (same ∙ kind)
+    (passed-next text g.from _ nt (λ e. omega arith))
+    c.send_rest.ensures
+
+pub returns-then-t-eq-RECV : goal.returns-then-t-eq-RECV
+returns-then-t-eq-RECV c =
+    let g = c.args in
+    let nt = c.next_token-t.ensures in
+    let text = g.text.now in
+    let same = kind-next text g.from _ nt in
+    let kind = c.if-t-eq-RECV.true in
+    simple-recv text g.starts.now g.n g.from _ (same ∙ kind)
+    (passed-next text g.from _ nt (λ e. omega arith))
+    c.recv_rest.ensures
+
+pub returns-then-t-eq-RETURN : goal.returns-then-t-eq-RETURN
+returns-then-t-eq-RETURN c =
+    let token =
+    c in
+    let g = token.before.before.args in
+    let nt = token.next-token.ensures in
+    let text = g.text.now in
+    let same = kind-next text g.from _ nt in
+    let kind = c.if-t-eq-RETURN.true in
+    simple-return text g.starts.now g.n g.from _ (same ∙ kind)
+    (passed-next text g.from _ nt (λ e. omega arith))
+    c.expression-e.ensures c.expect_after-then-t-eq-RETURN.ensures
+
+pub returns : goal.returns
+returns c =
+    let token =
+    c in
+    let g = token.before.before.args in
+    let nt = token.next-token.ensures in
+    let text = g.text.now in
+    let same = kind-next text g.from _ nt in
+    simple-named text g.starts.now g.n g.from
+    (λ e. c.if-t-eq-SEMICOLON.false
+    (sym same ∙ e))
+    (λ e. c.if-t-eq-MEASURE.false (sym same ∙ e))
+    (λ e. c.if-t-eq-FORK.false (sym same ∙ e))
+    (λ e. c.if-t-eq-SEND.false (sym same ∙ e))
+    (λ e. c.if-t-eq-RECV.false (sym same ∙ e)) (λ e. c.if-t-eq-RETURN.false (sym same ∙ e))
+    c.named.ensures

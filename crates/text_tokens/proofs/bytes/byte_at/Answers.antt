@@ -1,0 +1,7 @@
+-- `byte_at` reads a byte, and 0 past the end.
+use mathlib.Core.Path.{sym}
+use lib.ListN.{get_or-eq_default}
+use Rattle.text_tokens.proofs.bytes.byte_at.Goals as goal
+
+pub returns : goal.returns
+returns c = sym (get_or-eq_default c.args.text.now 0 c.if-i-text.false)

@@ -1,0 +1,13 @@
+-- `number_end`: from each place reached the search ends at the same place.
+use Prim.Native.Nat.{◌-◌}
+use mathlib.Core.Path.{◌≡◌}
+use lib.ListN.{length}
+use Rattle.text_parse.specs.Tokens.{is_digit}
+use Rattle.text_tokens.specs.PlacesCode.{passed}
+use Rattle.text_tokens.proofs.ends.number_end.Given as goal
+
+abbrev pub invariant-loop-i : goal.invariant-loop-i
+invariant-loop-i l = passed is_digit l.text l.i ≡ passed is_digit l.text l.from
+
+abbrev pub decreases-loop-i : goal.decreases-loop-i
+decreases-loop-i l = length l.text - l.i

@@ -1,0 +1,19 @@
+-- `depth_after`, effect by effect.
+use Rattle.text_window.specs.WindowCode.{depth_after}
+use Rattle.text_window.proofs.RestLaws.{depth-rest}
+use Rattle.text_window.proofs.window.depth_after.Goals as goal
+
+pub returns-in-OpensBracket : goal.returns-in-OpensBracket
+unfolding depth_after
+returns-in-OpensBracket c = rw c.in-OpensBracket.is c.one_more.ensures
+
+pub returns-in-OpensCall : goal.returns-in-OpensCall
+unfolding depth_after
+returns-in-OpensCall c = rw c.in-OpensCall.is c.one_more-in-OpensCall.ensures
+
+pub returns-in-Closes : goal.returns-in-Closes
+unfolding depth_after
+returns-in-Closes c = rw c.in-Closes.is c.one_less.ensures
+
+pub returns-in_default : goal.returns-in_default
+returns-in_default c = depth-rest c.args.e c.args.depth c.in_default.keys4
