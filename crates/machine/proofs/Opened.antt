@@ -8,7 +8,7 @@ use Rattle.machine.specs.Run.{all_over, none_able, fits, after_effect, run_from,
 use Rattle.machine.specs.Owner.{names, values_of, reaches, holder_after, holder, lines_before, count_kind}
 use Rattle.machine.specs.Answer.{result_answer, unless_refused, answer_of, line_words, trace_words, trace_after}
 use Rattle.machine.specs.Cases.{table_of, worked_table, worked_schedule, worked_trace, making_qubits, largest_plus, twice_one_qubit, given_during_call, send_to_gone, silent_loop}
-use Rattle.machine.specs.Examples.{measuring_once, given_twice, send_to_itself, receive_from, kept_unreached, stopped_child}
+use Rattle.machine.specs.Examples.{measuring_once, given_twice, send_to_itself, receive_from, kept_unreached, stopped_child, on_ints, negating, making_channels, making_processes, making_frames, jumping_on_false, reading_emptied}
 
 unfoldable pub machine-opened : Unit {0}
 unfolding table-opened covers thing_kind thing_no in_range word32 signed16 eq_z value_word process_at set_process started
@@ -19,5 +19,6 @@ unfolding table-opened covers thing_kind thing_no in_range word32 signed16 eq_z 
     effect_in faulted fault_in is_meeting moves_in able_in all_over none_able_in fits after_effect run_from_in run_in names
     values_of reaches holder_after holder result_answer unless_refused answer_of line_words trace_words trace_after table_of
     worked_table worked_schedule worked_trace making_qubits largest_plus twice_one_qubit given_during_call send_to_gone silent_loop
-    lines_before count_kind measuring_once given_twice send_to_itself receive_from kept_unreached stopped_child
+    lines_before count_kind measuring_once given_twice send_to_itself receive_from kept_unreached stopped_child on_ints negating
+    making_channels making_processes making_frames jumping_on_false reading_emptied
 machine-opened = tt
