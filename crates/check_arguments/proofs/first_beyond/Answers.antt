@@ -77,7 +77,7 @@ mark-requires c =
     let within =
     target-within _ _ _ _ _ op-at.ensures.0 arg-at.ensures.0 at.ensures pre.0 pre.1 (omega arith)
     in
-    let kept = sym argument-kept.ensures ∙ not-false _ if1.false in
+    let kept = sym argument-kept.ensures ∙ not-false _ if1.false-raw in
     let long = ap length loop.invariant.3 ∙ marked-length _ _ _ in
     (λ t. omega (arith, within t kept, long, pre.4), omega (arith, long, pre.4, pre.3, pre.0.instructions-most))
 
@@ -94,7 +94,7 @@ loop-i-preserved c =
     instruction-kept _ _ _ _ _ op-at.ensures.0 arg-at.ensures.0 at.ensures argument-kept.ensures in
     let next = marked_next _ _ _ _ _ op-at.ensures.0 arg-at.ensures.0 at.ensures _ _ loop.invariant.3 in (
       search rules,
-      first-goes-on _ _ loop.invariant.1 (kept ∙ not-false _ if1.false),
+      first-goes-on _ _ loop.invariant.1 (kept ∙ not-false _ if1.false-raw),
       owner-passed _ _ at.ensures,
       mark.ensures
           ∙ next,

@@ -18,7 +18,7 @@ unfolding methods
 first_pair-pair-requires c =
     let sizes-kept = c.sizes_kept in
     let if1 = c.if-not-sizes_kept in
-    let sizes = sizes-known _ sizes-kept.ensures (not-false _ if1.false) in
+    let sizes = sizes-known _ sizes-kept.ensures (not-false _ if1.false-raw) in
     omega (arith, c.word_at-count.ensures.0, sizes.methods-most)
 
 pub returns-then-pair-count : goal.returns-then-pair-count
@@ -28,7 +28,7 @@ returns-then-pair-count c =
     let if1 = c.if-not-sizes_kept in
     let word_at = c.word_at-count in
     let word-at2 = c.word_at-n in
-    let passed = sym sizes-kept.ensures ∙ not-false _ if1.false in
+    let passed = sym sizes-kept.ensures ∙ not-false _ if1.false-raw in
     pair-fails _ _ _ _ word_at.ensures.0 word-at2.ensures.0 c.first_pair-pair.ensures _ c.if-pair-count.true
     ∙ whole-yes 1 0 _ passed ∙ in_a_row _ _ _ _
 
@@ -38,7 +38,7 @@ sum_kept-requires c =
     let sizes-kept = c.sizes_kept in
     let if1 = c.if-not-sizes_kept in
     let word_at = c.word_at-count in
-    let sizes = sizes-known _ sizes-kept.ensures (not-false _ if1.false) in
+    let sizes = sizes-known _ sizes-kept.ensures (not-false _ if1.false-raw) in
     omega (arith, word_at.ensures.0, sizes.methods-some, sizes.methods-most)
 
 pub overflow_sub-result : goal.overflow_sub-result
@@ -47,7 +47,7 @@ overflow_sub-result c =
     let sizes-kept = c.sizes_kept in
     let if1 = c.if-not-sizes_kept in
     let word_at = c.word_at-count in
-    let sizes = sizes-known _ sizes-kept.ensures (not-false _ if1.false) in
+    let sizes = sizes-known _ sizes-kept.ensures (not-false _ if1.false-raw) in
     omega (arith, word_at.ensures.0, sizes.methods-some)
 
 pub returns-then-not-sum_kept : goal.returns-then-not-sum_kept
@@ -59,7 +59,7 @@ returns-then-not-sum_kept c =
     let word-at2 = c.word_at-n in
     let first-pair = c.first_pair-pair in
     let if2 = c.if-pair-count in
-    let passed = sym sizes-kept.ensures ∙ not-false _ if1.false in
+    let passed = sym sizes-kept.ensures ∙ not-false _ if1.false-raw in
     sum-fails _ _ _ _ word_at.ensures.0 word-at2.ensures.0 first-pair.ensures _ _ if2.false
     c.sum_kept.ensures (not-true _ c.if-not-sum_kept.true-raw)
     ∙ whole-yes 1 0 _ passed
@@ -71,7 +71,7 @@ first_row-row-requires c =
     let sizes-kept = c.sizes_kept in
     let if1 = c.if-not-sizes_kept in
     let word_at = c.word_at-count in
-    let sizes = sizes-known _ sizes-kept.ensures (not-false _ if1.false) in
+    let sizes = sizes-known _ sizes-kept.ensures (not-false _ if1.false-raw) in
     (word_at.ensures.0, omega (arith, word_at.ensures.0, sizes.methods-most))
 
 pub returns-then-row-count : goal.returns-then-row-count
@@ -85,8 +85,8 @@ returns-then-row-count c =
     let first-pair = c.first_pair-pair in
     let if2 = c.if-pair-count in
     let sum_kept = c.sum_kept in
-    let passed = sym sizes-kept.ensures ∙ not-false _ if1.false in
-    let sum = not-false _ if3.false in
+    let passed = sym sizes-kept.ensures ∙ not-false _ if1.false-raw in
+    let sum = not-false _ if3.false-raw in
     place_found 3 _ _ _ _ word_at.ensures.0 c.first_row-row.ensures _ c.if-row-count.true
     ∙ pairs-pass _ _ _ _ word_at.ensures.0 word-at2.ensures.0 first-pair.ensures _ _ if2.false
     sum_kept.ensures sum
@@ -104,8 +104,8 @@ ask_code-requires c =
     let first-pair = c.first_pair-pair in
     let if2 = c.if-pair-count in
     let sum_kept = c.sum_kept in
-    let sizes = sizes-known _ sizes-kept.ensures (not-false _ if1.false) in
-    let sum = not-false _ if3.false in (
+    let sizes = sizes-known _ sizes-kept.ensures (not-false _ if1.false-raw) in
+    let sum = not-false _ if3.false-raw in (
       sizes,
       pairs-known _ sizes _ _ word_at.ensures.0 word-at2.ensures.0 _ first-pair.ensures if2.false
           sum_kept.ensures sum,
@@ -127,8 +127,8 @@ returns c =
     let first-pair = c.first_pair-pair in
     let if2 = c.if-pair-count in
     let sum_kept = c.sum_kept in
-    let passed = sym sizes-kept.ensures ∙ not-false _ if1.false in
-    let sum = not-false _ if3.false in
+    let passed = sym sizes-kept.ensures ∙ not-false _ if1.false-raw in
+    let sum = not-false _ if3.false-raw in
     c.ask_code.ensures
     ∙ place_none 3 _ _ _ _ word_at.ensures.0 first-row.ensures _ c.if-row-count.false
     ∙ pairs-pass _ _ _ _ word_at.ensures.0 word-at2.ensures.0 first-pair.ensures _ _ if2.false

@@ -12,7 +12,7 @@ returns-then-at-t c =
     let i = args.i in
     let next : 6 * i + 6 ≡ 6 * (i + 1) = omega arith in
     c.put_six-then-at-t.ensures
-    ∙ ap (λ (k : ℕ). with_six c.put_six.new.0 k args.m) next
+    ∙ ap (λ (k : ℕ). with_six c.put_six.new.t k args.m) next
     ∙ ap (λ l. with_six l (6 * (i + 1)) args.m) c.put_six.ensures
 
 pub returns : goal.returns

@@ -144,8 +144,8 @@ returns-in-12 c =
     let pre = c.requires in
     let match = c.in-12 in
     let args = c.args in
-    let callee = ready-callee _ _ _ _ _ _ pre (rw match.keys12 at pre.argument) c.row_of.ensures in
-    (rw match.keys12 (c.call.ensures.0 ∙ calls args.q pre.few _ _ _ callee), c.call.ensures.1)
+    let callee = ready-callee _ _ _ _ _ _ pre (rw match.is at pre.argument) c.row_of.ensures in
+    (rw match.is (c.call.ensures.0 ∙ calls args.q pre.few _ _ _ callee), c.call.ensures.1)
 
 pub returns-in-13 : goal.returns-in-13
 unfolding stepped ops-opened
@@ -160,8 +160,8 @@ returns-in-14 c =
     let pre = c.requires in
     let match = c.in-14 in
     let args = c.args in
-    let callee = ready-callee _ _ _ _ _ _ pre (rw match.keys14 at pre.argument) c.row_of-in-14.ensures in
-    (rw match.keys14 (c.fork.ensures.0 ∙ forks args.q pre.few _ _ _ callee), c.fork.ensures.1)
+    let callee = ready-callee _ _ _ _ _ _ pre (rw match.is at pre.argument) c.row_of-in-14.ensures in
+    (rw match.is (c.fork.ensures.0 ∙ forks args.q pre.few _ _ _ callee), c.fork.ensures.1)
 
 pub returns-in-15 : goal.returns-in-15
 unfolding stepped ops-opened
@@ -240,4 +240,4 @@ pub returns-in_default : goal.returns-in_default
 unfolding ops-opened
 returns-in_default c =
     let pre = c.requires in
-    absurd (rw (none-listed _ c.in_default.rest) at pre.argument)
+    absurd (rw (none-listed _ c.in_default.in_default-own.rest) at pre.argument)

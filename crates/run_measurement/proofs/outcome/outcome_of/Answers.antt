@@ -20,5 +20,5 @@ pub returns-in_default : goal.returns-in_default
 unfolding outcome_no clipped
 returns-in_default c =
     sym
-    (ap₂ (λ (a b : Bool). some (cond {A = ℕ} a 0 (cond b 1 2))) (ne_eqb _ 0 c.in_default.rest.0.1)
-    (ne_eqb _ 1 c.in_default.rest.1))
+    (ap₂ (λ (a b : Bool). some (cond {A = ℕ} a 0 (cond b 1 2))) (ne_eqb _ 0 c.in_default.in_default-own.rest.0.1)
+    (ne_eqb _ 1 c.in_default.in_default-own.rest.1))

@@ -162,4 +162,4 @@ returns-in-23 c =
 pub returns-in_default : goal.returns-in_default
 returns-in_default c =
     let args = c.args in
-    unlisted args.p.now args.w.now args.h args.op args.a c.in_default.rest
+    unlisted args.p.now args.w.now args.h args.op args.a c.in_default.in_default-own.rest

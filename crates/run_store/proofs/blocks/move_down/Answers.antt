@@ -18,7 +18,7 @@ loop-j-preserved c =
       moved_more args.w.now args.top args.to args.n c.loop-j.j
           c.loop-j-test.true c.loop-j.invariant.1 c.below.ensures
           c.move_one.ensures,
-      c.move_one.auto.0
+      c.move_one.auto.w
           ∙ c.loop-j.invariant.2,
     )
 

@@ -17,7 +17,7 @@ loop-j-preserved c =
       search rules,
       emptied-more args.w.now args.t c.loop-j.j c.loop-j.invariant.1
           c.empty_one.ensures,
-      c.empty_one.auto.0
+      c.empty_one.auto.w
           ∙ c.loop-j.invariant.2,
     )
 

@@ -17,7 +17,7 @@ loop-j-preserved c =
       search rules,
       emptied-eight args.w.now (record { tag = 3; number = args.number }) c.loop-j.j
           c.loop-j.invariant.1 c.lose_eight.ensures,
-      c.lose_eight.auto.0
+      c.lose_eight.auto.w
           ∙ c.loop-j.invariant.2,
     )
 

@@ -15,7 +15,7 @@ returns-then-not-argument_kept c =
     let fault = c.fault in
     let if1 = c.if-not-argument_kept in
     let argument-kept = c.argument_kept in
-    (fault.ensures.0 ∙ no-argument _ _ _ _ _ _ _ argument-kept.ensures if1.true, fault.ensures.1)
+    (fault.ensures.0 ∙ no-argument _ _ _ _ _ _ _ argument-kept.ensures if1.true-raw, fault.ensures.1)
 
 pub returns-then-s-q : goal.returns-then-s-q
 returns-then-s-q c = (c.fault-then-s-q.ensures.0 ∙ no_target _ _ _ _ _ _ c.if-s-q.true, c.fault-then-s-q.ensures.1)
@@ -33,7 +33,7 @@ step-requires c =
     let argument-kept = c.argument_kept in
     let pre = c.requires in
     let h = pre.0 in
-    two_ready _ _ _ _ _ _ _ h (two-owner _ _ h) refl argument-kept.ensures if1.false pre.2 pre.3
+    two_ready _ _ _ _ _ _ _ h (two-owner _ _ h) refl argument-kept.ensures if1.false-raw pre.2 pre.3
 
 pub returns : goal.returns
 returns c =
@@ -44,6 +44,6 @@ returns c =
     let if1 = c.if-not-argument_kept in
     let argument-kept = c.argument_kept in (
       step.ensures.0
-          ∙ all-kept _ _ _ _ _ _ _ _ argument-kept.ensures if1.false if2.false closes.ensures if3.false,
+          ∙ all-kept _ _ _ _ _ _ _ _ argument-kept.ensures if1.false-raw if2.false closes.ensures if3.false,
       step.ensures.1,
     )

@@ -55,4 +55,4 @@ unfolding mark_kind place_from
 returns-in-60 c = ap (λ (b : ℕ). mark_kind (b ∷ [])) (sym c.in-60.is)
 
 pub returns-in_default : goal.returns-in_default
-returns-in_default c = mark-other c.args.b c.in_default.rest
+returns-in_default c = mark-other c.args.b c.in_default.in_default-own.rest

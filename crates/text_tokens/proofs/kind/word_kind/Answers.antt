@@ -64,4 +64,4 @@ pub returns-in_default : goal.returns-in_default
 returns-in_default c =
     let g = c.args in
     let n = c.size in
-    word-no-length n.result (slice g.start g.end g.text.now) (sym n.ensures) c.in_default.rest
+    word-no-length n.result (slice g.start g.end g.text.now) (sym n.ensures) c.in_default.in_default-own.rest
