@@ -38,7 +38,7 @@ loop-i-preserved c =
           ∙ noted-next args.t.now args.trace.now args.from loop.i loop.invariant.0 loop.invariant.2 line,
       stored_next args.work.now args.trace.now args.from loop.i loop.invariant.0 loop.invariant.3 line
           c.store_line.ensures,
-      c.store_line.auto.0 ∙ loop.invariant.4,
+      c.store_line.auto.work ∙ loop.invariant.4,
       ⊎_elim
           (λ x. x.1 ∙ changed-so loop.changed x.0.taken) (λ x. x.1 ∙ changed-not loop.changed x.0.left)
           c.if-note_line.branch
