@@ -11,9 +11,9 @@ returns-then-d-lt2 c = refl
 pub returns-else-d-lt2 : goal.returns-else-d-lt2
 returns-else-d-lt2 c =
     let e = c.args.e in
-    no-side-given (shaped c.well-formed.0) e.0 e.1 c.args.q.0 c.if-c-lt16.true c.if-d-lt2.false
+    no-side-given (shaped c.well_formed.0) e.0 e.1 c.args.q.0 c.if-c-lt16.true c.if-d-lt2.false
 
 pub returns-else-c-lt16 : goal.returns-else-c-lt16
 returns-else-c-lt16 c =
     let e = c.args.e in
-    no-channel-given (shaped c.well-formed.0) e.0 e.1 c.args.q.0 c.if-c-lt16.false
+    no-channel-given (shaped c.well_formed.0) e.0 e.1 c.args.q.0 c.if-c-lt16.false

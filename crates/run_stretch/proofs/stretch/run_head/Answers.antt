@@ -50,7 +50,7 @@ overflow_add-result c =
       rules,
       (c.run_frame-r.ensures.3
           (not-false c.run_frame-r.result.halted c.if-not-r.false)).ahead,
-      c.well-formed.1.1.1.1.1,
+      c.well_formed.1.1.1.1.1,
     )
 
 pub returns-then-change_frame : goal.returns-then-change_frame

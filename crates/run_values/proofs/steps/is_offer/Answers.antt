@@ -15,4 +15,4 @@ returns-in-AtRecv c = sym (ap is_offer c.in-AtRecv.is)
 pub returns-in_default : goal.returns-in_default
 returns-in_default c =
     let args = c.args in
-    no-offer args.step c.in_default.in_default-own.keys3
+    no-offer args.step c.in_default.not-AtSend c.in_default.not-AtRecv

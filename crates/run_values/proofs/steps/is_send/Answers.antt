@@ -11,4 +11,4 @@ returns-in-AtSend c = sym (ap is_send c.in-AtSend.is)
 pub returns-in_default : goal.returns-in_default
 returns-in_default c =
     let args = c.args in
-    no-send args.step c.in_default.in_default-own.keys2
+    no-send args.step c.in_default.not-AtSend

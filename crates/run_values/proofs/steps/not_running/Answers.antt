@@ -11,4 +11,4 @@ returns-in-NotRunning c = sym (ap not_running c.in-NotRunning.is)
 pub returns-in_default : goal.returns-in_default
 returns-in_default c =
     let args = c.args in
-    is-running args.step c.in_default.in_default-own.keys2
+    is-running args.step c.in_default.not-NotRunning

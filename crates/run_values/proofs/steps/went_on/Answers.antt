@@ -11,4 +11,4 @@ returns-in-WentOn c = sym (ap went_on c.in-WentOn.is)
 pub returns-in_default : goal.returns-in_default
 returns-in_default c =
     let args = c.args in
-    not_on args.step c.in_default.in_default-own.keys2
+    not_on args.step c.in_default.not-WentOn

@@ -18,7 +18,7 @@ count_after-n-requires c =
     (not-true l.ended c.loop-ended-test.true-raw) _ c.next_token-t.ensures in
     let begun : l.at < length text = p.begun in
     let low : l.n ≤ l.at + 1 = l.invariant.count_low in
-    let short : length text * 1 < 2 ^ 63 = c.well-formed.0.1 in
+    let short : length text * 1 < 2 ^ 63 = c.well_formed.0.1 in
     omega arith
 
 pub depth_after-depth-requires : goal.depth_after-depth-requires
@@ -30,7 +30,7 @@ depth_after-depth-requires c =
     (not-true l.ended c.loop-ended-test.true-raw) _ c.next_token-t.ensures in
     let begun : l.at < length text = p.begun in
     let low : l.depth ≤ l.at = l.invariant.depth_low in
-    let short : length text * 1 < 2 ^ 63 = c.well-formed.0.1 in
+    let short : length text * 1 < 2 ^ 63 = c.well_formed.0.1 in
     omega arith
 
 pub loop-ended-smaller : goal.loop-ended-smaller

@@ -28,7 +28,7 @@ add_if-index-requires c =
     let p = search-passes text x l.at l.header l.braces l.index l.kind l.invariant
     c.loop-kind-test.true _ _ c.next_token-t.ensures c.next_token-u.ensures in
     let begun : l.at < length text = p.begun in
-    let short : length text * 1 < 2 ^ 63 = c.well-formed.0.1 in
+    let short : length text * 1 < 2 ^ 63 = c.well_formed.0.1 in
     let low : l.index ≤ l.at = l.invariant.index-low in
     omega arith
 
@@ -40,7 +40,7 @@ braces_after-braces-requires c =
     let p = search-passes text x l.at l.header l.braces l.index l.kind l.invariant
     c.loop-kind-test.true _ _ c.next_token-t.ensures c.next_token-u.ensures in
     let begun : l.at < length text = p.begun in
-    let short : length text * 1 < 2 ^ 63 = c.well-formed.0.1 in
+    let short : length text * 1 < 2 ^ 63 = c.well_formed.0.1 in
     let low : l.braces ≤ l.at = l.invariant.braces-low in
     omega arith
 

@@ -17,10 +17,10 @@ pub enter-requires : goal.enter-requires
 enter-requires c = c.loop-t.invariant.0.long
 
 pub add_if-i-requires : goal.add_if-i-requires
-add_if-i-requires c = omega (arith, (index-turn c.loop-t.invariant.0 c.loop-t-test.true).index-less, c.well-formed.0.1)
+add_if-i-requires c = omega (arith, (index-turn c.loop-t.invariant.0 c.loop-t-test.true).index-less, c.well_formed.0.1)
 
 pub braces_after-braces-requires : goal.braces_after-braces-requires
-braces_after-braces-requires c = omega (arith, (index-turn c.loop-t.invariant.0 c.loop-t-test.true).braces-less, c.well-formed.0.1)
+braces_after-braces-requires c = omega (arith, (index-turn c.loop-t.invariant.0 c.loop-t-test.true).braces-less, c.well_formed.0.1)
 
 pub loop-t-smaller : goal.loop-t-smaller
 loop-t-smaller c =

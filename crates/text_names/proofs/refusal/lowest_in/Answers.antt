@@ -27,10 +27,10 @@ pub open_after-n-requires : goal.open_after-n-requires
 open_after-n-requires c = (c.loop-kind.invariant.room, c.loop-kind.invariant.count_low)
 
 pub index_after-index-requires : goal.index_after-index-requires
-index_after-index-requires c = omega (arith, (scan-turn c.loop-kind.invariant c.loop-kind-test.true).index-less, c.well-formed.0.1)
+index_after-index-requires c = omega (arith, (scan-turn c.loop-kind.invariant c.loop-kind-test.true).index-less, c.well_formed.0.1)
 
 pub braces_after-braces-requires : goal.braces_after-braces-requires
-braces_after-braces-requires c = omega (arith, (scan-turn c.loop-kind.invariant c.loop-kind-test.true).braces-less, c.well-formed.0.1)
+braces_after-braces-requires c = omega (arith, (scan-turn c.loop-kind.invariant c.loop-kind-test.true).braces-less, c.well_formed.0.1)
 
 pub loop-kind-smaller : goal.loop-kind-smaller
 loop-kind-smaller c =

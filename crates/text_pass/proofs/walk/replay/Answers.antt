@@ -65,7 +65,7 @@ loop-at-preserved c =
           l.brackets
           (l.invariant.2 scopes o le q s e)
           (subst (λ (m : ℕ). l.at < m) (sym e) c.loop-at-test.true) _ token.ensures effect.result
-          (effect.ensures scopes o le token.ensures.kind) c.well-formed.0.0 c.phase_after-phase.result
+          (effect.ensures scopes o le token.ensures.kind) c.well_formed.0.0 c.phase_after-phase.result
           (c.phase_after-phase.ensures g.text.now)),
     )
 

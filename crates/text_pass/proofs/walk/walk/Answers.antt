@@ -134,6 +134,6 @@ loop-phase-preserved c =
           (effect.ensures scopes o le token.ensures.kind) in
           in-room scopes g.text.now g.from l.invariant.0
           (stands_on scopes g.text.now g.from _ _ _ _ _ _ _ st _ token.ensures effect.result q
-          (goes-effect g.text.now effect.result (sym c.stops.ensures ∙ more.0)) c.well-formed.0.0
+          (goes-effect g.text.now effect.result (sym c.stops.ensures ∙ more.0)) c.well_formed.0.0
           c.phase_after-phase.result (c.phase_after-phase.ensures g.text.now))),
     )

@@ -23,7 +23,7 @@ braces_after-braces-requires c =
     c.loop-more-test.true _ c.next_token-t.ensures in
     let begun : l.at < length text = p.begun in
     let low : l.braces ≤ l.at = l.invariant.braces-low in
-    let short : length text * 1 < 2 ^ 63 = c.well-formed.0.1 in
+    let short : length text * 1 < 2 ^ 63 = c.well_formed.0.1 in
     omega arith
 
 pub loop-more-smaller : goal.loop-more-smaller
