@@ -3,8 +3,6 @@ use Prim.Native.Nat.{ℕ, ◌+◌, ◌*◌, ◌%◌, ◌≤◌, ◌<◌}
 use mathlib.Core.Path.{◌≡◌, refl, sym, ◌∙◌, ap, ap₂}
 use mathlib.Core.Bool.{Bool, true, false, cond, not, ◌||◌, true≢false}
 use mathlib.Core.List.{List, [], ◌∷◌}
-use types.Run.{OneOf, miss}
-use denote.Enum.Declared.{tag_of}
 use native.Mathlib.Omega.{arith}
 use lib.Dec.{eqb, leb}
 use borrow.Author.Tests.{leb-false}
@@ -21,7 +19,6 @@ use Rattle.run_ability.specs.ReadsCode.{argument_in}
 use Rattle.run_ability.specs.PartnerCode.{opposite_of, Partner, waits, gone, ready, is_no_other, ready_op, is_moving, partner_op}
 use Rattle.run_ability.specs.declared.pairing.PairingKind.{PairingKind}
 use Rattle.run_ability.specs.declared.pairing.PairingKind.TheVariants.{NoOffer, Waits, Meets, PartnerGone}
-use Rattle.run_ability.specs.contracts.pairing.PairingKind.{the_type}
 use Rattle.run_ability.specs.declared.pairing.Pairing.{Pairing}
 use Rattle.run_ability.specs.PairingCode.{wait_kind, unpaired, paired_of, pair_with, pairing_of, pairing_op}
 use Rattle.run_ability.specs.EndingCode.{alone_ability, ability_of, ability_op}
@@ -153,12 +150,9 @@ module _ (p work : List ℕ) (t : List (List ℕ)) (n : ℕ) (step : StepResult)
 
 -- an offer of any other kind does not wait
 
-abbrev but_waits : List ℕ
-but_waits = 0 ∷ 2 ∷ 3 ∷ []
-
-pub not-waiting : (k : PairingKind) → OneOf but_waits (tag_of the_type k) → false ≡ wait_kind k
+pub not-waiting : (k : PairingKind) → (k ≡ Waits → ⊥) → false ≡ wait_kind k
 unfolding wait_kind
 not-waiting NoOffer h = refl
-not-waiting Waits h = absurd (miss but_waits 1 tt h)
+not-waiting Waits h = absurd (h refl)
 not-waiting Meets h = refl
 not-waiting PartnerGone h = refl

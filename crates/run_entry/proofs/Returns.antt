@@ -3,7 +3,6 @@ use Prim.Native.Nat.{ℕ, ◌+◌, ◌≤◌, ◌<◌}
 use mathlib.Core.Path.{◌≡◌, refl, sym, ◌∙◌, ap, ap₂}
 use mathlib.Core.Bool.{Bool, true, false, ◌&&◌, true≢false}
 use mathlib.Core.List.{List, [], ◌∷◌}
-use types.Run.{OneOf, miss}
 use denote.Enum.Declared.{tag_of}
 use lib.ListN.{get_or}
 use lib.Dec.{leb, ltb}
@@ -184,29 +183,17 @@ module _ (p outcomes trace work : List ℕ) (room : ℕ) (g : Count) (n : ℕ) (
 
 -- the entry has one line, or not
 
-abbrev line_tag : List ℕ
-line_tag = 3 ∷ []
-
-abbrev other_tags : List ℕ
-other_tags = 0 ∷ 1 ∷ 2 ∷ []
-
 module _ (step : StepResult) {r : Rest} (left : r ≡ rest_of step) where
-  pub line-left : OneOf line_tag (tag_of the_type r) → true ≡ one_line step
+  pub line-left : (does : Single) → r ≡ Line does → true ≡ one_line step
   unfolding one_line is_line
-  line-left k = some r k ∙ ap is_line left
-    where
-      some : (x : Rest) → OneOf line_tag (tag_of the_type x) → true ≡ is_line x
-      some Nothing k = absurd (miss line_tag 0 tt k)
-      some Fork k = absurd (miss line_tag 1 tt k)
-      some Offer k = absurd (miss line_tag 2 tt k)
-      some (Line does) k = refl
+  line-left does k = sym (ap is_line k) ∙ ap is_line left
 
-  pub no_line : OneOf other_tags (tag_of the_type r) → false ≡ one_line step
+  pub no_line : ((does : Single) → r ≡ Line does → ⊥) → false ≡ one_line step
   unfolding one_line is_line
   no_line k = none r k ∙ ap is_line left
     where
-      none : (x : Rest) → OneOf other_tags (tag_of the_type x) → false ≡ is_line x
+      none : (x : Rest) → ((does : Single) → x ≡ Line does → ⊥) → false ≡ is_line x
       none Nothing k = refl
       none Fork k = refl
       none Offer k = refl
-      none (Line does) k = absurd (miss other_tags 3 tt k)
+      none (Line does) k = absurd (k does refl)

@@ -15,9 +15,6 @@ use Rattle.run_values.specs.ValuesCode.{is_send, empty_two}
 use Rattle.run_values.specs.declared.steps.StepResult.TheVariants.{AtSend, AtRecv}
 use Rattle.run_parts.specs.declared.readiness.ReadinessKind.{ReadinessKind}
 use Rattle.run_parts.specs.declared.readiness.ReadinessKind.TheVariants.{Idle, Moves, Sends, Receives}
-use types.Run.{OneOf, miss}
-use denote.Enum.Declared.{tag_of}
-use Rattle.run_parts.specs.contracts.readiness.ReadinessKind.{the_type}
 use Rattle.run_parts.specs.declared.readiness.Readiness.{Readiness}
 use Rattle.run_parts.specs.ReadinessCode.{no_offer, send_of, receive_of, readiness_op, offer_of, offers_nothing, either_way, meets_op, over_kind, send_kind, receive_kind, offer_kind, opposite_kinds}
 
@@ -156,42 +153,30 @@ module _ (a b : Readiness) where
 
 -- the tests of a kind say no in every case that they do not name
 
-abbrev but_over : List ℕ
-but_over = 1 ∷ 2 ∷ 3 ∷ []
-
-pub not-over : (k : ReadinessKind) → OneOf but_over (tag_of the_type k) → false ≡ over_kind k
+pub not-over : (k : ReadinessKind) → (k ≡ Idle → ⊥) → false ≡ over_kind k
 unfolding over_kind
-not-over Idle h = absurd (miss but_over 0 tt h)
+not-over Idle h = absurd (h refl)
 not-over Moves h = refl
 not-over Sends h = refl
 not-over Receives h = refl
 
-abbrev but_sends : List ℕ
-but_sends = 0 ∷ 1 ∷ 3 ∷ []
-
-pub not-sending : (k : ReadinessKind) → OneOf but_sends (tag_of the_type k) → false ≡ send_kind k
+pub not-sending : (k : ReadinessKind) → (k ≡ Sends → ⊥) → false ≡ send_kind k
 unfolding send_kind
 not-sending Idle h = refl
 not-sending Moves h = refl
-not-sending Sends h = absurd (miss but_sends 2 tt h)
+not-sending Sends h = absurd (h refl)
 not-sending Receives h = refl
 
-abbrev but_receives : List ℕ
-but_receives = 0 ∷ 1 ∷ 2 ∷ []
-
-pub not-receiving : (k : ReadinessKind) → OneOf but_receives (tag_of the_type k) → false ≡ receive_kind k
+pub not-receiving : (k : ReadinessKind) → (k ≡ Receives → ⊥) → false ≡ receive_kind k
 unfolding receive_kind
 not-receiving Idle h = refl
 not-receiving Moves h = refl
 not-receiving Sends h = refl
-not-receiving Receives h = absurd (miss but_receives 3 tt h)
+not-receiving Receives h = absurd (h refl)
 
-abbrev but_offers : List ℕ
-but_offers = 0 ∷ 1 ∷ []
-
-pub not-offering : (k : ReadinessKind) → OneOf but_offers (tag_of the_type k) → false ≡ offer_kind k
+pub not-offering : (k : ReadinessKind) → (k ≡ Sends → ⊥) → (k ≡ Receives → ⊥) → false ≡ offer_kind k
 unfolding offer_kind
-not-offering Idle h = refl
-not-offering Moves h = refl
-not-offering Sends h = absurd (miss but_offers 2 tt h)
-not-offering Receives h = absurd (miss but_offers 3 tt h)
+not-offering Idle g h = refl
+not-offering Moves g h = refl
+not-offering Sends g h = absurd (g refl)
+not-offering Receives g h = absurd (h refl)

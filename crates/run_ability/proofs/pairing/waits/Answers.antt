@@ -11,4 +11,4 @@ returns-in-Waits c = sym (ap wait_kind c.in-Waits.is)
 pub returns-in_default : goal.returns-in_default
 returns-in_default c =
     let args = c.args in
-    not-waiting args.kind c.in_default.keys2
+    not-waiting args.kind c.in_default.not-Waits

@@ -42,7 +42,7 @@ move_values-requires c =
 pub put_back-requires : goal.put_back-requires
 put_back-requires c =
     (
-      c.move_values.auto.0 ∙ c.requires.0,
+      c.move_values.auto.w ∙ c.requires.0,
       left-frames c.args.h
           c.params_of-n.result c.requires.1 c.less.ensures c.step.ensures,
     )
@@ -52,8 +52,8 @@ begin-requires c =
     (
       c.requires.3,
       c.requires.4,
-      c.put_back.auto.0
-          ∙ c.move_values.auto.0 ∙ c.requires.0,
+      c.put_back.auto.w
+          ∙ c.move_values.auto.w ∙ c.requires.0,
       omega (arith, c.if-h-ge8.false),
     )
 

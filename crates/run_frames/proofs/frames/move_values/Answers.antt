@@ -38,7 +38,7 @@ loop-j-preserved c =
       c.args.n
       c.loop-j.j c.loop-j-test.true
       c.loop-j.invariant.1 refl c.move_value.ensures,
-  c.move_value.auto.0 ∙ c.loop-j.invariant.2,
+  c.move_value.auto.w ∙ c.loop-j.invariant.2,
 )
 
 pub returns : goal.returns

@@ -1,7 +1,6 @@
 -- `update_holders` goes through the lines: table and words are what those before line i say.
 use Prim.Native.Nat.{ℕ, ◌-◌}
 use mathlib.Core.Path.{◌≡◌, refl, ◌∙◌, ap}
-use mathlib.Core.Logic.{⊎_elim}
 use native.Mathlib.Omega.{arith}
 use Rattle.trace.proofs.LinesOf.{lines_of-length, lines_of-at}
 use Rattle.run_holders.specs.HoldersCode.{holders_after_lines, changed_from}
@@ -10,6 +9,7 @@ use Rattle.run_holders.proofs.Noting.{noted-begins, noted-next, changed-begins, 
 use Rattle.run_holders.proofs.Storing.{stored-begins, stored_next}
 use borrow.Author.Rules.{rules}
 use Rattle.run_holders.proofs.update.update_holders.Goals as goal
+use Rattle.run_holders.proofs.update.update_holders.Goals.{then-note_line, else-note_line}
 
 pub loop-i-init : goal.loop-i-init
 loop-i-init c =
@@ -39,9 +39,10 @@ loop-i-preserved c =
       stored_next args.work.now args.trace.now args.from loop.i loop.invariant.0 loop.invariant.3 line
           c.store_line.ensures,
       c.store_line.auto.work ∙ loop.invariant.4,
-      ⊎_elim
-          (λ x. x.1 ∙ changed-so loop.changed x.0.taken) (λ x. x.1 ∙ changed-not loop.changed x.0.left)
-          c.if-note_line.branch
+      (elim c.if-note_line.branch [
+        then-note_line w ↦ w.changed-is ∙ changed-so loop.changed w.if-note_line.true
+        | else-note_line w ↦ w.changed-is ∙ changed-not loop.changed w.if-note_line.false
+      ])
           ∙ changed-next args.trace.now args.from loop.i loop.invariant.0 loop.invariant.5
           c.note_line.ensures.1 line,
     )

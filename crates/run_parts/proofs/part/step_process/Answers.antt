@@ -7,4 +7,4 @@ pub returns : goal.returns
 returns c =
     let args = c.args in
     lifted args.work.now args.n.0 c.part_at-from.ensures c.step.result
-    c.step.new.1.1.0 (step_op args.p.now) c.step.ensures
+    c.step.new.w (step_op args.p.now) c.step.ensures

@@ -15,4 +15,4 @@ returns-in-Receives c = sym (ap offer_kind c.in-Receives.is)
 pub returns-in_default : goal.returns-in_default
 returns-in_default c =
     let args = c.args in
-    not-offering args.kind c.in_default.keys3
+    not-offering args.kind c.in_default.not-Sends c.in_default.not-Receives

@@ -11,4 +11,4 @@ returns-in-Idle c = sym (ap over_kind c.in-Idle.is)
 pub returns-in_default : goal.returns-in_default
 returns-in_default c =
     let args = c.args in
-    not-over args.kind c.in_default.keys2
+    not-over args.kind c.in_default.not-Idle

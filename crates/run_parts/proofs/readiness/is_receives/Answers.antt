@@ -11,4 +11,4 @@ returns-in-Receives c = sym (ap receive_kind c.in-Receives.is)
 pub returns-in_default : goal.returns-in_default
 returns-in_default c =
     let args = c.args in
-    not-receiving args.kind c.in_default.keys2
+    not-receiving args.kind c.in_default.not-Receives

@@ -11,4 +11,4 @@ returns-in-Sends c = sym (ap send_kind c.in-Sends.is)
 pub returns-in_default : goal.returns-in_default
 returns-in_default c =
     let args = c.args in
-    not-sending args.kind c.in_default.keys2
+    not-sending args.kind c.in_default.not-Sends

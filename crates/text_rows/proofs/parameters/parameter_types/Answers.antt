@@ -23,7 +23,7 @@ returns c =
     let g = c.args in
     let p = c.parameter_type-p in
     some-noted g.text.now g.from p.result.code g.row.now c.note.new.0
-    c.more_types.new.1.1.0
+    c.more_types.new.1
     c.if-close.false
     c.expect-close.ensures p.ensures
     (λ o. c.note.ensures) (λ o. c.more_types.ensures)
