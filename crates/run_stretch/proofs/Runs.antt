@@ -81,7 +81,7 @@ module _ {p schedule : List ℕ} {n from : ℕ} {w₀ : List ℕ} where
   )
 
   -- entries and then those after them
-  pub ran_then : {k k' : ℕ} {w w' : List ℕ} → PlainSteps p schedule n from w₀ k w
+  pub ran_then : {k : ℕ} {w : List ℕ} {k' : ℕ} {w' : List ℕ} → PlainSteps p schedule n from w₀ k w
       → PlainSteps p schedule n k w k' w' → PlainSteps p schedule n from w₀ k' w'
   ran_then r begins = r
   ran_then r (goes_on q l e long long' s) = goes_on (ran_then r q) l e long long' s

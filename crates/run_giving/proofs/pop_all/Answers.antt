@@ -17,7 +17,7 @@ loop-j-preserved c =
     let loop = c.loop-j in (
       search rules,
       dropped-more args.w.now loop.j loop.invariant.1 c.pop_once.ensures,
-      c.pop_once.auto.0
+      c.pop_once.auto.w
           ∙ loop.invariant.2,
     )
 

@@ -33,7 +33,7 @@ loop-k-preserved c =
           c.is_done.ensures w.0.left w.2.ensures w.4.ensures w.5.left
           (w.7 ∙ w.6.ensures))
           c.if-is_done.branch,
-      c.step_named-step.auto.1.1.0
+      c.step_named-step.auto.work
           ∙ c.loop-k.invariant.3,
     )
 

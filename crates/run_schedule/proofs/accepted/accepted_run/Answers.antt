@@ -28,7 +28,7 @@ run_entries-requires c =
     (length c.args.work.now) ok) in (
       ap (λ (m : ℕ). 2 + 20 * m) c.word_at-methods.ensures.0,
       omega
-          (arith, long, c.begin_run.auto.1.0),
+          (arith, long, c.begin_run.auto.work),
       schedule-short c.args.program.now
           c.args.schedule.now c.args.outcomes.now (length c.args.work.now) ok,
       refl,

@@ -31,7 +31,7 @@ loop-work-init c =
 pub next_burst-b-requires : goal.next_burst-b-requires
 next_burst-b-requires c =
     let pre = c.requires in let inv = c.loop-work.invariant in
-    (pre.0, omega (arith, pre.1, inv.1, c.take_first-k.auto.1.1.0), inv.3, pre.4)
+    (pre.0, omega (arith, pre.1, inv.1, c.take_first-k.auto.work), inv.3, pre.4)
 
 pub ending-end-requires : goal.ending-end-requires
 ending-end-requires c =
@@ -40,9 +40,9 @@ ending-end-requires c =
       omega (
         arith,
         pre.1,
-        c.take_first-k.auto.1.1.0,
+        c.take_first-k.auto.work,
         c.loop-work.invariant.1,
-        c.next_burst-b.auto.1.1.0,
+        c.next_burst-b.auto.work,
       ),
     )
 
@@ -59,7 +59,7 @@ turn_at-r-requires c =
     let inv = c.loop-work.invariant in
     let g = going-burst inv.0 c.next_burst-b.ensures in (
       pre.0,
-      omega (arith, pre.1, c.take_first-k.auto.1.1.0, inv.1, c.next_burst-b.auto.1.1.0),
+      omega (arith, pre.1, c.take_first-k.auto.work, inv.1, c.next_burst-b.auto.work),
       omega (arith, c.if-schedule-b.false),
       pre.2,
       few-lines g,
@@ -68,12 +68,12 @@ turn_at-r-requires c =
     )
 
 pub shape_of-trace-then-r-ne0 : goal.shape_of-trace-then-r-ne0
-shape_of-trace-then-r-ne0 c = c.turn_at-r.auto.1.1.1.1.0 ∙ c.loop-work.invariant.2
+shape_of-trace-then-r-ne0 c = c.turn_at-r.auto.trace ∙ c.loop-work.invariant.2
 
 pub shape_of-work-then-r-ne0 : goal.shape_of-work-then-r-ne0
 shape_of-work-then-r-ne0 c =
-    c.turn_at-r.auto.1.1.1.1.1.0 ∙ c.next_burst-b.auto.1.1.0 ∙ c.loop-work.invariant.1 ∙
-    c.take_first-k.auto.1.1.0
+    c.turn_at-r.auto.work ∙ c.next_burst-b.auto.work ∙ c.loop-work.invariant.1 ∙
+    c.take_first-k.auto.work
 
 pub returns-then-r-ne0 : goal.returns-then-r-ne0
 returns-then-r-ne0 c =
@@ -88,7 +88,7 @@ update_holders-changed-requires c =
     let fit = lines_fit g (omega (arith, c.if-schedule-b.false)) c.turn_at-r.ensures c.if-r-ne0.false in (
       lines_more g (omega (arith, c.if-schedule-b.false)) c.turn_at-r.ensures c.if-r-ne0.false,
       fit.0,
-      omega (arith, fit.1, c.turn_at-r.auto.1.1.1.1.0, c.loop-work.invariant.2),
+      omega (arith, fit.1, c.turn_at-r.auto.trace, c.loop-work.invariant.2),
     )
 
 pub overflow_add-k : goal.overflow_add-k
@@ -110,8 +110,8 @@ loop-work-preserved c =
           c.turn_at-r.ensures c.if-r-ne0.false
           c.update_holders-changed.ensures.2 c.unless-known.ensures
           c.update_holders-changed.ensures.0 c.update_holders-changed.ensures.1,
-      c.update_holders-changed.auto.1.0 ∙ kept.1.1.1.1.1.0 ∙
-          c.next_burst-b.auto.1.1.0 ∙ inv.1,
+      c.update_holders-changed.auto.work ∙ kept.1.1.1.1.1.0 ∙
+          c.next_burst-b.auto.work ∙ inv.1,
       kept.1.1.1.1.0 ∙ inv.2,
       omega (arith, c.if-schedule-b.false),
     )

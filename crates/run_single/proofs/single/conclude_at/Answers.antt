@@ -12,7 +12,7 @@ pub returns : goal.returns
 unfolding concluded_at
 returns c =
     let args = c.args in
-    lifted-left args.work.now args.n.0 c.part_at-from.ensures c.conclude.new.1
+    lifted-left args.work.now args.n.0 c.part_at-from.ensures c.conclude.new.w
     (λ (l : List ℕ). conclude_op args.p.now l args.does c.get-qubits.result c.get-channels.result
     args.outcomes.now args.used) c.conclude.ensures
     ∙ ap₂

@@ -28,7 +28,7 @@ pub call-requires : goal.call-requires
 unfolding word
 call-requires c =
     (
-  c.put_top.auto.0 ∙
+  c.put_top.auto.w ∙
       c.requires.0,
   c.requires.1,
   c.requires.2,
@@ -53,7 +53,7 @@ returns-then-op-eq12 c =
 pub ret-requires : goal.ret-requires
 ret-requires c =
     (
-  c.put_top.auto.0 ∙
+  c.put_top.auto.w ∙
       c.requires.0,
   c.requires.1,
   c.requires.5,

@@ -44,7 +44,7 @@ pub returns-then-d : goal.returns-then-d
 returns-then-d c =
     frame-ends
     c.args.h
-    c.step_on-d.new.1 c.step_on-d.result (ran-same
+    c.step_on-d.new.w c.step_on-d.result (ran-same
     c.loop-k.invariant.2
     (c.step_on-d.ensures.halting c.if-d.true))
     c.step_on-d.ensures.steady (search rules)

@@ -22,7 +22,7 @@ run_top-r-requires c =
 
 pub shape_of-w-then-not-r : goal.shape_of-w-then-not-r
 shape_of-w-then-not-r c =
-    c.run_top-r.auto.1.1.0 ∙
+    c.run_top-r.auto.w ∙
     c.loop-r.invariant.2
 
 pub returns-then-not-r : goal.returns-then-not-r
@@ -49,6 +49,6 @@ loop-r-preserved c =
   ran_then
       c.loop-r.invariant.1
       c.run_top-r.ensures.0,
-  c.run_top-r.auto.1.1.0
+  c.run_top-r.auto.w
       ∙ c.loop-r.invariant.2,
 )

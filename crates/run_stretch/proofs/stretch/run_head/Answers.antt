@@ -22,7 +22,7 @@ run_frame-r-requires c =
 pub returns-then-not-r : goal.returns-then-not-r
 returns-then-not-r c =
     let ran = c.run_frame-r.result in (
-      ran-top c.run_frame-r.new.1 ran.place ran.pending c.requires.1
+      ran-top c.run_frame-r.new.w ran.place ran.pending c.requires.1
           c.run_frame-r.ensures.0 c.put_top.ensures,
       c.run_frame-r.ensures.2,
       λ z. absurd (true≢false (sym z)),
@@ -41,7 +41,7 @@ change_frame-requires c =
       (c.run_frame-r.ensures.3 (not-false ran.halted
           c.if-not-r.false)).inside,
       head-there c.args.h
-          c.run_frame-r.new.1 ran.place ran.pending s,
+          c.run_frame-r.new.w ran.place ran.pending s,
     )
 
 pub overflow_add-result : goal.overflow_add-result
@@ -58,17 +58,17 @@ returns-then-change_frame c =
     let ran = c.run_frame-r.result in
     let s = c.run_frame-r.ensures.1 in
     let one =
-    ran-changed c.run_frame-r.new.1 ran.place ran.pending c.requires.1
+    ran-changed c.run_frame-r.new.w ran.place ran.pending c.requires.1
     c.run_frame-r.ensures.0 s
     (c.run_frame-r.ensures.3 (not-false ran.halted c.if-not-r.false))
     c.change_frame.ensures
-    (c.change_frame.auto.1.1.0 ∙ s.long) c.if-change_frame.true in
+    (c.change_frame.auto.w ∙ s.long) c.if-change_frame.true in
     (one.0, one.1, λ z. one.2)
 
 pub returns : goal.returns
 returns c =
     let ran = c.run_frame-r.result in (
-      ran-left c.run_frame-r.new.1 ran.place ran.pending c.requires.1
+      ran-left c.run_frame-r.new.w ran.place ran.pending c.requires.1
           c.run_frame-r.ensures.0 c.change_frame.ensures c.if-change_frame.false,
       c.run_frame-r.ensures.2,
       λ z. absurd (true≢false (sym z)),

@@ -11,5 +11,5 @@ returns c =
     let work = c.args.work.now in
     let n = c.args.n in
     let part = stretched work pre.1 n pre.3 at
-    (frames.auto.1.1.0 ∙ part_length work n pre.3 pre.1 at) frames.ensures.0 refl in
+    (frames.auto.w ∙ part_length work n pre.3 pre.1 at) frames.ensures.0 refl in
     (part.0, part.1, frames.ensures.1)

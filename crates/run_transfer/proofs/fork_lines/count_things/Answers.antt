@@ -2,11 +2,11 @@
 use Rattle.run_transfer.proofs.Laws.{thing-more, thing-passed}
 use Rattle.run_transfer.specs.ForkLinesCode.{things_in}
 use native.Mathlib.Omega.{arith}
-use mathlib.Core.Logic.{⊎_elim}
 use mathlib.Core.Path.{◌≡◌, refl, ◌∙◌, subst}
 use Prim.Native.Nat.{ℕ, ◌-◌}
 use borrow.Author.Rules.{rules}
 use Rattle.run_transfer.proofs.fork_lines.count_things.Goals as goal
+use Rattle.run_transfer.proofs.fork_lines.count_things.Goals.{then-v-ge3, else-v-ge3}
 
 pub loop-j-init : goal.loop-j-init
 unfolding things_in
@@ -16,21 +16,22 @@ pub loop-j-preserved : goal.loop-j-preserved
 loop-j-preserved c =
     let args = c.args in
     let loop = c.loop-j in
-    ⊎_elim
-    (λ w. (
-      search rules,
-      w.1
-          ∙ thing-more args.work.now args.n.0 args.args loop.j loop.invariant.1
-          c.operand_of-v.ensures w.0.taken,
-      search rules,
-    ))
-    (λ w. (
-      search rules,
-      w.1
-          ∙ thing-passed args.work.now args.n.0 args.args loop.j loop.invariant.1
-          c.operand_of-v.ensures w.0.left,
-      search rules,
-    )) c.if-v-ge3.branch
+    elim c.if-v-ge3.branch [
+      then-v-ge3 w ↦ (
+        search rules,
+        w.count-is
+            ∙ thing-more args.work.now args.n.0 args.args loop.j loop.invariant.1
+            c.operand_of-v.ensures w.if-v-ge3.true,
+        search rules,
+      )
+      | else-v-ge3 w ↦ (
+        search rules,
+        w.count-is
+            ∙ thing-passed args.work.now args.n.0 args.args loop.j loop.invariant.1
+            c.operand_of-v.ensures w.if-v-ge3.false,
+        search rules,
+      )
+    ]
 
 pub returns : goal.returns
 returns c =

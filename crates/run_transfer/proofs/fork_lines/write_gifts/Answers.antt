@@ -20,7 +20,7 @@ loop-j-preserved c =
           args.to.0 args.args loop.j loop.invariant.1 c.operand_of-v.ensures
           c.write_gift-next.ensures.0,
       search rules,
-      c.write_gift-next.auto.0
+      c.write_gift-next.auto.trace
           ∙ loop.invariant.3,
     )
 

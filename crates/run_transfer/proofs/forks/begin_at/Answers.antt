@@ -8,5 +8,5 @@ use Rattle.run_transfer.proofs.forks.begin_at.Goals as goal
 pub returns : goal.returns
 returns c =
     let args = c.args in
-    lifted-words args.work.now args.child.0 c.part_at-from.ensures c.begin.new.1.0
+    lifted-words args.work.now args.child.0 c.part_at-from.ensures c.begin.new.w
     (λ (l : List ℕ). began_words args.p.now l args.m) c.begin.ensures

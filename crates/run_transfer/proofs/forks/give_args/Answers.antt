@@ -18,7 +18,7 @@ loop-j-preserved c =
       search rules,
       given-more args.work.now args.n.0 args.child.0 loop.j loop.invariant.1
           c.give_arg.ensures,
-      c.give_arg.auto.0
+      c.give_arg.auto.work
           ∙ loop.invariant.2,
     )
 

@@ -8,5 +8,5 @@ use Rattle.run_transfer.proofs.forks.give_at.Goals as goal
 pub returns : goal.returns
 returns c =
     let args = c.args in
-    lifted-words args.work.now args.n.0 c.part_at-from.ensures c.give.new.0
+    lifted-words args.work.now args.n.0 c.part_at-from.ensures c.give.new.w
     (λ (l : List ℕ). given_words l args.v) c.give.ensures

@@ -13,7 +13,7 @@ pub returns : goal.returns
 unfolding arg_handed
 returns c =
     let args = c.args in
-    lifted-words args.work.now args.child.0 c.part_at-from.ensures c.put_value.new.0
+    lifted-words args.work.now args.child.0 c.part_at-from.ensures c.put_value.new.w
     (λ (l : List ℕ). put_value l (64 + 2 * args.j) c.operand_of-v.result)
     c.put_value.ensures
     ∙ ap

@@ -18,7 +18,7 @@ loop-j-preserved c =
       search rules,
       handed-more args.work.now args.n.0 args.child.0 args.args loop.j loop.invariant.1
           c.hand_arg.ensures,
-      c.hand_arg.auto.0
+      c.hand_arg.auto.work
           ∙ loop.invariant.2,
     )
 

@@ -9,5 +9,5 @@ pub returns : goal.returns
 returns c =
     let args = c.args in
     lifted-words args.work.now args.n.0 c.part_at-from.ensures
-    c.pop_arguments.new.0 (λ (l : List ℕ). arguments_popped l args.args)
+    c.pop_arguments.new.w (λ (l : List ℕ). arguments_popped l args.args)
     c.pop_arguments.ensures

@@ -8,5 +8,5 @@ use Rattle.run_transfer.proofs.meetings.receive_at.Goals as goal
 pub returns : goal.returns
 returns c =
     let args = c.args in
-    lifted-words args.work.now args.n.0 c.part_at-from.ensures c.receive.new.0
+    lifted-words args.work.now args.n.0 c.part_at-from.ensures c.receive.new.w
     (λ (l : List ℕ). received_words l args.v) c.receive.ensures

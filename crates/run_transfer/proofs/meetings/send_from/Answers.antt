@@ -8,5 +8,5 @@ use Rattle.run_transfer.proofs.meetings.send_from.Goals as goal
 pub returns : goal.returns
 returns c =
     let args = c.args in
-    lifted-words args.work.now args.n.0 c.part_at-from.ensures c.send.new.0
+    lifted-words args.work.now args.n.0 c.part_at-from.ensures c.send.new.w
     (λ (l : List ℕ). sent_words l args.v) c.send.ensures
