@@ -1,10 +1,10 @@
 -- `silent_entries` goes from entry to entry: what is left of the burst at each is what it was at the first.
 use Prim.Native.Nat.{◌-◌}
 use mathlib.Core.Path.{refl, sym, ◌∙◌}
-use mathlib.Core.Logic.{⊎_elim}
 use Rattle.run_burst.proofs.Steps.{burst-ends, burst-goes, burst-stops, burst-waits}
 use borrow.Author.Rules.{rules}
 use Rattle.run_burst.proofs.burst.silent_entries.Goals as goal
+use Rattle.run_burst.proofs.burst.silent_entries.Goals.{then-is_done, else-is_done+else-stops_here}
 
 pub loop-k-init : goal.loop-k-init
 loop-k-init c = (search rules, search rules, refl, refl)
@@ -24,15 +24,15 @@ loop-k-preserved c =
       search rules,
       search rules,
       c.loop-k.invariant.2
-          ∙ ⊎_elim
-          (λ w. burst-goes args.p.now args.t.now args.schedule.now c.loop-k.work c.loop-k.k
-          c.loop-k.sure c.loop-k-test.true c.step_named-step.ensures
-          c.is_done.ensures w.0.taken (w.3 ∙ w.2.ensures))
-          (λ w. burst-waits args.p.now args.t.now args.schedule.now c.loop-k.work c.loop-k.k
-          c.loop-k.sure c.loop-k-test.true c.step_named-step.ensures
-          c.is_done.ensures w.0.left w.2.ensures w.4.ensures w.5.left
-          (w.7 ∙ w.6.ensures))
-          c.if-is_done.branch,
+          ∙ (elim c.if-is_done.branch [
+            then-is_done w ↦ burst-goes args.p.now args.t.now args.schedule.now c.loop-k.work c.loop-k.k
+            c.loop-k.sure c.loop-k-test.true c.step_named-step.ensures
+            c.is_done.ensures w.if-is_done.true (w.sure-is ∙ w.known_after_step-sure.ensures)
+            | else-is_done+else-stops_here w ↦ burst-waits args.p.now args.t.now args.schedule.now c.loop-k.work c.loop-k.k
+            c.loop-k.sure c.loop-k-test.true c.step_named-step.ensures
+            c.is_done.ensures w.if-is_done.false w.offer_at-m.ensures w.stops_here.ensures w.if-stops_here.false
+            (w.sure-is ∙ w.with_idle-sure.ensures)
+          ]),
       c.step_named-step.auto.work
           ∙ c.loop-k.invariant.3,
     )
