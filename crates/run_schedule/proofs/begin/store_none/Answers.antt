@@ -23,7 +23,7 @@ loop-i-preserved c =
       c.loop-i.invariant.1 ∙ ap
       (none_stored c.args.work.now)
       (sym (add-one c.loop-i.i)),
-  c.put.auto.0
+  c.put.auto.w
       ∙ c.loop-i.invariant.2,
 )
 

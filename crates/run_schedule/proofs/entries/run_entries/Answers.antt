@@ -110,8 +110,8 @@ loop-work-preserved c =
           c.turn_at-r.ensures c.if-r-ne0.false
           c.update_holders-changed.ensures.2 c.unless-known.ensures
           c.update_holders-changed.ensures.0 c.update_holders-changed.ensures.1,
-      c.update_holders-changed.auto.work ∙ kept.1.1.1.1.1.0 ∙
+      c.update_holders-changed.auto.work ∙ kept.work ∙
           c.next_burst-b.auto.work ∙ inv.1,
-      kept.1.1.1.1.0 ∙ inv.2,
+      kept.trace ∙ inv.2,
       omega (arith, c.if-schedule-b.false),
     )
