@@ -29,25 +29,17 @@ slice_bounds-put_run-count c =
     let b = built file c.requires in
     (in_order file b c.number_at-a.ensures.0 c.number_at-b.ensures.0).0
 
--- UNMATCHED slice-bounds-put-run-start
--- part-put-run-start : tie.Need-slice-bounds-put-run-start
--- part-put-run-start c =
---     let at-number-at4 = c.before in
---     let at-number-at3 = at-number-at4.before in
---     let at-args = at-number-at3.before.before.before.before.before.before.before.before in
---     let file = at-args.args.file.now in
---     let b = built file at-args.requires in
---     (in_order file b at-number-at3.number-at3.ensures.0 at-number-at4.number-at4.ensures.0).0
+pub slice_bounds-put_run-start : goal.slice_bounds-put_run-start
+slice_bounds-put_run-start c =
+    let file = c.args.file.now in
+    let b = built file c.requires in
+    (in_order file b c.number_at-a.ensures.0 c.number_at-b.ensures.0).0
 
--- UNMATCHED slice-bounds-put-run-end
--- part-put-run-end : tie.Need-slice-bounds-put-run-end
--- part-put-run-end c =
---     let at-number-at4 = c.before in
---     let at-number-at3 = at-number-at4.before in
---     let at-args = at-number-at3.before.before.before.before.before.before.before.before in
---     let file = at-args.args.file.now in
---     let b = built file at-args.requires in
---     (in_order file b at-number-at3.number-at3.ensures.0 at-number-at4.number-at4.ensures.0).1
+pub slice_bounds-put_run-end-2 : goal.slice_bounds-put_run-end-2
+slice_bounds-put_run-end-2 c =
+    let file = c.args.file.now in
+    let b = built file c.requires in
+    (in_order file b c.number_at-a.ensures.0 c.number_at-b.ensures.0).1
 
 pub slice_bounds-put_run-count-2 : goal.slice_bounds-put_run-count-2
 slice_bounds-put_run-count-2 c =
@@ -55,15 +47,11 @@ slice_bounds-put_run-count-2 c =
     let b = built file c.requires in
     (in_order file b c.number_at-a.ensures.0 c.number_at-b.ensures.0).1
 
--- UNMATCHED slice-bounds-put-run-start-2
--- part-put-run-start-2 : tie.Need-slice-bounds-put-run-start-2
--- part-put-run-start-2 c =
---     let at-number-at4 = c.before.before in
---     let at-number-at3 = at-number-at4.before in
---     let at-args = at-number-at3.before.before.before.before.before.before.before.before in
---     let file = at-args.args.file.now in
---     let b = built file at-args.requires in
---     (in_order file b at-number-at3.number-at3.ensures.0 at-number-at4.number-at4.ensures.0).1
+pub slice_bounds-put_run-start-2 : goal.slice_bounds-put_run-start-2
+slice_bounds-put_run-start-2 c =
+    let file = c.args.file.now in
+    let b = built file c.requires in
+    (in_order file b c.number_at-a.ensures.0 c.number_at-b.ensures.0).1
 
 pub returns : goal.returns
 returns c =
