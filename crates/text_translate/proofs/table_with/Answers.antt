@@ -57,12 +57,11 @@ returns-then-table-words c =
     short-says _ w l _ ok c.if-table-words.true
 
 pub write_table-n-requires : goal.write_table-n-requires
-write_table-n-requires c =
-    (
-      omega (arith, c.requires.4, c.rows-1.given),
-      omega (arith, c.requires.5, c.kept-1.given),
-      c.requires.6,
-    )
+write_table-n-requires c = (
+  omega (arith, c.requires.4, c.rows-1.given),
+  omega (arith, c.requires.5, c.kept-1.given),
+  c.requires.6,
+)
 
 pub returns : goal.returns
 unfolding answer_numbers

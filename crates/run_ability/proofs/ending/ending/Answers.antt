@@ -28,7 +28,7 @@ loop-j-preserved c =
       not-one args.p.now args.work.now args.t.now 1 loop.j e c.if-a-eq-ABLE.false
           ∙ loop.invariant.1,
       (elim c.if-a-eq-WAITING.branch [
-        then-a-eq-WAITING w ↦ w.end-is ∙ sym
+        | then-a-eq-WAITING w ↦ w.end-is ∙ sym
             (ap (λ (b : Bool). cond b 2 1)
             (one_more args.p.now args.work.now args.t.now 2 loop.j e w.if-a-eq-WAITING.true))
         | else-a-eq-WAITING w ↦ w.end-is

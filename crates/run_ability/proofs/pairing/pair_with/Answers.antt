@@ -9,13 +9,12 @@ returns-then-is_no_other c =
     c.is_no_other.ensures c.if-is_no_other.true c.no_meeting.ensures
 
 pub readiness_of-b-requires : goal.readiness_of-b-requires
-readiness_of-b-requires c =
-    (
-      c.requires.0,
-      c.requires.1,
-      other-low c.args.n.0 c.args.q.0
-          c.is_no_other.ensures c.if-is_no_other.false,
-    )
+readiness_of-b-requires c = (
+  c.requires.0,
+  c.requires.1,
+  other-low c.args.n.0 c.args.q.0
+      c.is_no_other.ensures c.if-is_no_other.false,
+)
 
 pub returns-then-is_over : goal.returns-then-is_over
 returns-then-is_over c =

@@ -25,13 +25,13 @@ loop-k-preserved c =
       search rules,
       c.loop-k.invariant.2
           ∙ (elim c.if-is_done.branch [
-            then-is_done w ↦ burst-goes args.p.now args.t.now args.schedule.now c.loop-k.work c.loop-k.k
-            c.loop-k.sure c.loop-k-test.true c.step_named-step.ensures
-            c.is_done.ensures w.if-is_done.true (w.sure-is ∙ w.known_after_step-sure.ensures)
+            | then-is_done w ↦ burst-goes args.p.now args.t.now args.schedule.now c.loop-k.work c.loop-k.k
+                c.loop-k.sure c.loop-k-test.true c.step_named-step.ensures
+                c.is_done.ensures w.if-is_done.true (w.sure-is ∙ w.known_after_step-sure.ensures)
             | else-is_done+else-stops_here w ↦ burst-waits args.p.now args.t.now args.schedule.now c.loop-k.work c.loop-k.k
-            c.loop-k.sure c.loop-k-test.true c.step_named-step.ensures
-            c.is_done.ensures w.if-is_done.false w.offer_at-m.ensures w.stops_here.ensures w.if-stops_here.false
-            (w.sure-is ∙ w.with_idle-sure.ensures)
+                c.loop-k.sure c.loop-k-test.true c.step_named-step.ensures
+                c.is_done.ensures w.if-is_done.false w.offer_at-m.ensures w.stops_here.ensures w.if-stops_here.false
+                (w.sure-is ∙ w.with_idle-sure.ensures)
           ]),
       c.step_named-step.auto.work
           ∙ c.loop-k.invariant.3,

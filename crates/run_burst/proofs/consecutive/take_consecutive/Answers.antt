@@ -11,11 +11,10 @@ bounds-schedule-k c =
     c.if-not-names_again.false-raw)
 
 pub returns : goal.returns
-returns c =
-    (
-      taken c.args.p.now c.args.schedule.now c.args.work.now c.requires.1
-          (get_or c.args.schedule.now c.args.k 0) (omega (arith, c.if-n-ge8.false)) c.args.known
-          c.if-known.false
-          c.stretch.ensures.0 c.stretch.ensures.1,
-      c.stretch.ensures.2,
-    )
+returns c = (
+  taken c.args.p.now c.args.schedule.now c.args.work.now c.requires.1
+      (get_or c.args.schedule.now c.args.k 0) (omega (arith, c.if-n-ge8.false)) c.args.known
+      c.if-known.false
+      c.stretch.ensures.0 c.stretch.ensures.1,
+  c.stretch.ensures.2,
+)

@@ -11,8 +11,7 @@ pub returns-then-not-t : goal.returns-then-not-t
 returns-then-not-t c = halts c.requires.0 c.halt.ensures refl
 
 pub discard_to-requires : goal.discard_to-requires
-discard_to-requires c =
-    (
+discard_to-requires c = (
   c.requires.0,
   top-some
       c.requires.0
@@ -35,8 +34,7 @@ returns-then-t-eq0 c =
     c.if-t-eq0.true) (λ x e. inl e) c.discard_to.ensures
 
 pub discard_to-requires-2 : goal.discard_to-requires-2
-discard_to-requires-2 c =
-    (
+discard_to-requires-2 c = (
   c.requires.0,
   top-some c.requires.0
       c.read_top-t.result (not-false

@@ -15,8 +15,7 @@ pub returns-then-not-t : goal.returns-then-not-t
 returns-then-not-t c = halts c.requires.0 c.halt.ensures refl
 
 pub discard_to-requires : goal.discard_to-requires
-discard_to-requires c =
-    (
+discard_to-requires c = (
   c.requires.0,
   top-some
       c.requires.0

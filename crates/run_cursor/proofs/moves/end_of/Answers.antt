@@ -16,8 +16,7 @@ pub returns-then-not-t : goal.returns-then-not-t
 returns-then-not-t c = halts c.requires.0 c.halt.ensures refl
 
 pub replace-requires : goal.replace-requires
-replace-requires c =
-    (
+replace-requires c = (
   c.requires.0,
   c.requires.1,
   top-some

@@ -13,8 +13,7 @@ pub returns-then-not-t : goal.returns-then-not-t
 returns-then-not-t c = halts c.requires.0 c.halt.ensures refl
 
 pub result-requires : goal.result-requires
-result-requires c =
-    (
+result-requires c = (
   c.requires.0,
   c.requires.1,
   two-some

@@ -17,8 +17,7 @@ pub returns-then-not-t : goal.returns-then-not-t
 returns-then-not-t c = halts c.requires.0 c.halt.ensures refl
 
 pub replace_two-requires : goal.replace_two-requires
-replace_two-requires c =
-    (
+replace_two-requires c = (
   c.requires.0,
   c.requires.1,
   two-some

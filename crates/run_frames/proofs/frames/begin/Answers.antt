@@ -18,12 +18,12 @@ overflow_cast-w-3 c = omega (arith, c.type_inv.p (2 + 2 * c.args.m))
 pub bounds-w-at-2 : goal.bounds-w-at-2
 bounds-w-at-2 c =
     omega (
-  arith,
-  c.requires.2,
-  c.requires.3,
-  length-set c.args.w.now (4 + 4 *
-      c.args.n) c.args.m,
-)
+      arith,
+      c.requires.2,
+      c.requires.3,
+      length-set c.args.w.now (4 + 4 *
+          c.args.n) c.args.m,
+    )
 
 pub returns : goal.returns
 unfolding begun head_at offset_of word

@@ -40,22 +40,20 @@ move_values-requires c =
     )
 
 pub put_back-requires : goal.put_back-requires
-put_back-requires c =
-    (
-      c.move_values.auto.w ∙ c.requires.0,
-      left-frames c.args.h
-          c.params_of-n.result c.requires.1 c.less.ensures c.step.ensures,
-    )
+put_back-requires c = (
+  c.move_values.auto.w ∙ c.requires.0,
+  left-frames c.args.h
+      c.params_of-n.result c.requires.1 c.less.ensures c.step.ensures,
+)
 
 pub begin-requires : goal.begin-requires
-begin-requires c =
-    (
-      c.requires.3,
-      c.requires.4,
-      c.put_back.auto.w
-          ∙ c.move_values.auto.w ∙ c.requires.0,
-      omega (arith, c.if-h-ge8.false),
-    )
+begin-requires c = (
+  c.requires.3,
+  c.requires.4,
+  c.put_back.auto.w
+      ∙ c.move_values.auto.w ∙ c.requires.0,
+  omega (arith, c.if-h-ge8.false),
+)
 
 pub returns : goal.returns
 returns c =

@@ -13,8 +13,7 @@ unfolding cleared_from
 loop-i-init c = (search rules, refl, refl)
 
 pub loop-i-preserved : goal.loop-i-preserved
-loop-i-preserved c =
-    (
+loop-i-preserved c = (
   search rules,
   cleared_more c.args.w.now c.args.from c.loop-i.i
       c.loop-i.invariant.1 refl,

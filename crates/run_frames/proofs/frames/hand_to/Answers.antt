@@ -5,8 +5,7 @@ use Rattle.run_frames.proofs.Calls.{pushed-frames}
 use Rattle.run_frames.proofs.frames.hand_to.Goals as goal
 
 pub put_back-requires : goal.put_back-requires
-put_back-requires c =
-    (
+put_back-requires c = (
   c.put_value.auto.w ∙
       c.requires.0,
   pushed-frames

@@ -19,8 +19,7 @@ returns-then-w-top-eq0 c =
     c.loop-j-test.true refl refl c.if-w-top-eq0.true
 
 pub loop-j-preserved : goal.loop-j-preserved
-loop-j-preserved c =
-    (
+loop-j-preserved c = (
   search rules,
   empty-more c.args.w.now
       c.args.top c.loop-j.j

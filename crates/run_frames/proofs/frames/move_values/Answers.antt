@@ -12,8 +12,7 @@ unfolding moved_down
 loop-j-init c = (search rules, refl, refl)
 
 pub move_value-requires : goal.move_value-requires
-move_value-requires c =
-    (
+move_value-requires c = (
   omega (
     arith,
     c.loop-j.invariant.2,
@@ -29,8 +28,7 @@ move_value-requires c =
 )
 
 pub loop-j-preserved : goal.loop-j-preserved
-loop-j-preserved c =
-    (
+loop-j-preserved c = (
   search rules,
   moved_more c.args.w.now
       c.args.top

@@ -21,13 +21,12 @@ pub returns-then-v-eq0 : goal.returns-then-v-eq0
 returns-then-v-eq0 c = was-left refl
 
 pub hand_to-requires : goal.hand_to-requires
-hand_to-requires c =
-    (
-      c.close-2.auto.w ∙ c.requires.0,
-      closed-count c.args.w.now c.args.h
-          c.if-h-lt2.false c.requires.1 c.close-2.ensures
-          (c.close-2.auto.w ∙ c.requires.0),
-    )
+hand_to-requires c = (
+  c.close-2.auto.w ∙ c.requires.0,
+  closed-count c.args.w.now c.args.h
+      c.if-h-lt2.false c.requires.1 c.close-2.ensures
+      (c.close-2.auto.w ∙ c.requires.0),
+)
 
 pub returns : goal.returns
 returns c =

@@ -40,7 +40,7 @@ loop-i-preserved c =
           c.store_line.ensures,
       c.store_line.auto.work ∙ loop.invariant.4,
       (elim c.if-note_line.branch [
-        then-note_line w ↦ w.changed-is ∙ changed-so loop.changed w.if-note_line.true
+        | then-note_line w ↦ w.changed-is ∙ changed-so loop.changed w.if-note_line.true
         | else-note_line w ↦ w.changed-is ∙ changed-not loop.changed w.if-note_line.false
       ])
           ∙ changed-next args.trace.now args.from loop.i loop.invariant.0 loop.invariant.5

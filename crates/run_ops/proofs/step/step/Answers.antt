@@ -21,19 +21,19 @@ pub overflow_add-start : goal.overflow_add-start
 unfolding methods word
 overflow_add-start c =
     omega (
-  arith,
-  c.requires,
-  c.type_inv.p 0,
-)
+      arith,
+      c.requires,
+      c.type_inv.p 0,
+    )
 
 pub read_instruction-i-requires : goal.read_instruction-i-requires
 unfolding methods word
 read_instruction-i-requires c =
     omega (
-  arith,
-  c.requires,
-  c.type_inv.p 0,
-)
+      arith,
+      c.requires,
+      c.type_inv.p 0,
+    )
 
 pub returns : goal.returns
 unfolding head_of

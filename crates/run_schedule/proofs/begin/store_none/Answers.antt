@@ -15,8 +15,7 @@ loop-i-init c = (search rules, refl, refl)
 
 pub loop-i-preserved : goal.loop-i-preserved
 unfolding none_stored
-loop-i-preserved c =
-    (
+loop-i-preserved c = (
   omega arith,
   c.put.ensures ∙ ap
       (λ (w : List ℕ). set w (8192 + c.loop-i.i) 255)

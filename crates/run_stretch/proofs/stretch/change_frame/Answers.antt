@@ -11,23 +11,22 @@ use Rattle.run_stretch.proofs.stretch.change_frame.Goals as goal
 pub bounds-p-at : goal.bounds-p-at
 bounds-p-at c =
     omega (
-  arith,
-  words-there c.requires.5
-      c.requires.6 c.requires.4,
-)
+      arith,
+      words-there c.requires.5
+          c.requires.6 c.requires.4,
+    )
 
 pub bounds-p-at-2 : goal.bounds-p-at-2
 bounds-p-at-2 c =
     omega (
-  arith,
-  words-there c.requires.5
-      c.requires.6 c.requires.4,
-)
+      arith,
+      words-there c.requires.5
+          c.requires.6 c.requires.4,
+    )
 
 pub call-requires : goal.call-requires
 unfolding word
-call-requires c =
-    (
+call-requires c = (
   c.put_top.auto.w ∙
       c.requires.0,
   c.requires.1,
@@ -51,8 +50,7 @@ returns-then-op-eq12 c =
     c.call.ensures)
 
 pub ret-requires : goal.ret-requires
-ret-requires c =
-    (
+ret-requires c = (
   c.put_top.auto.w ∙
       c.requires.0,
   c.requires.1,

@@ -9,8 +9,7 @@ use borrow.Author.Rules.{rules}
 use Rattle.run_stretch.proofs.stretch.run_frame.Goals as goal
 
 pub loop-k-init : goal.loop-k-init
-loop-k-init c =
-    (
+loop-k-init c = (
   search rules,
   search rules,
   begins,
@@ -29,8 +28,7 @@ returns-then-schedule-k c =
     c.loop-k.invariant.3 (search rules) (λ z. absurd (true≢false (sym z)))
 
 pub step_on-d-requires : goal.step_on-d-requires
-step_on-d-requires c =
-    (
+step_on-d-requires c = (
   c.loop-k.invariant.3,
   c.requires.1,
   c.requires.2,
@@ -59,8 +57,7 @@ returns-then-d c =
     })
 
 pub loop-k-preserved : goal.loop-k-preserved
-loop-k-preserved c =
-    (
+loop-k-preserved c = (
   search rules,
   search rules,
   ran-step c.loop-k.invariant.2

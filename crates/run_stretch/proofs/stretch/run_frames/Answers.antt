@@ -11,8 +11,7 @@ pub loop-r-init : goal.loop-r-init
 loop-r-init c = (c.requires.2, begins, refl)
 
 pub run_top-r-requires : goal.run_top-r-requires
-run_top-r-requires c =
-    (
+run_top-r-requires c = (
   c.requires.0,
   c.requires.1,
   c.loop-r.invariant.0,
@@ -26,8 +25,7 @@ shape_of-w-then-not-r c =
     c.loop-r.invariant.2
 
 pub returns-then-not-r : goal.returns-then-not-r
-returns-then-not-r c =
-    (
+returns-then-not-r c = (
   ran_then c.loop-r.invariant.1
       c.run_top-r.ensures.0,
   c.run_top-r.ensures.1,
@@ -36,15 +34,14 @@ returns-then-not-r c =
 pub loop-r-smaller : goal.loop-r-smaller
 loop-r-smaller c =
     omega (
-  arith,
-  c.run_top-r.ensures.1,
-  c.run_top-r.ensures.2 (not-false
-      c.run_top-r.result.changed c.if-not-r.false),
-)
+      arith,
+      c.run_top-r.ensures.1,
+      c.run_top-r.ensures.2 (not-false
+          c.run_top-r.result.changed c.if-not-r.false),
+    )
 
 pub loop-r-preserved : goal.loop-r-preserved
-loop-r-preserved c =
-    (
+loop-r-preserved c = (
   c.run_top-r.ensures.1,
   ran_then
       c.loop-r.invariant.1

@@ -7,8 +7,7 @@ use borrow.Author.Rules.{rules}
 use Rattle.run_stretch.proofs.stretch.run_head.Goals as goal
 
 pub run_frame-r-requires : goal.run_frame-r-requires
-run_frame-r-requires c =
-    (
+run_frame-r-requires c = (
   c.requires.0,
   c.requires.2,
   c.requires.3,

@@ -12,16 +12,14 @@ pub returns-then-frames : goal.returns-then-frames
 returns-then-frames c = (begins, c.requires.2, λ z. absurd (true≢false (sym z)))
 
 pub head_of-h-requires : goal.head_of-h-requires
-head_of-h-requires c =
-    (
+head_of-h-requires c = (
   c.requires.3,
   (frames-fit (get_or
       c.args.w.now 2 0) c.if-frames.false).1,
 )
 
 pub returns-then-h : goal.returns-then-h
-returns-then-h c =
-    (
+returns-then-h c = (
   begins,
   c.requires.2,
   λ z. absurd (true≢false (sym z)),

@@ -16,32 +16,31 @@ overflow_cast-first c = omega (arith, c.type_inv.p (2 + 2 * c.args.m))
 pub bounds-p-at-2 : goal.bounds-p-at-2
 bounds-p-at-2 c =
     omega (
-  arith,
-  row-there c.requires
-      c.if-p-m.false,
-)
+      arith,
+      row-there c.requires
+          c.if-p-m.false,
+    )
 
 pub overflow_cast-result : goal.overflow_cast-result
 overflow_cast-result c =
     omega (
-  arith,
-  c.type_inv.p (2 + 2 *
-      c.args.m + 1),
-)
+      arith,
+      c.type_inv.p (2 + 2 *
+          c.args.m + 1),
+    )
 
 pub overflow_add-result-2 : goal.overflow_add-result-2
 overflow_add-result-2 c =
     omega (
-  arith,
-  c.type_inv.p (2 + 2 *
-      c.args.m),
-  c.type_inv.p (2 + 2 *
-      c.args.m + 1),
-)
+      arith,
+      c.type_inv.p (2 + 2 *
+          c.args.m),
+      c.type_inv.p (2 + 2 *
+          c.args.m + 1),
+    )
 
 pub returns : goal.returns
-returns c =
-    (
+returns c = (
   omega (
     arith,
     c.type_inv.p (2 + 2 *

@@ -14,8 +14,7 @@ use Rattle.run_stretch.proofs.Within.{steps-inside, lands-inside, slot-of-get, s
 use Rattle.run_stretch.proofs.turn.act.Goals as goal
 
 pub get-requires : goal.get-requires
-get-requires c =
-    (
+get-requires c = (
   c.requires.0,
   c.requires.1,
   slot-of-get
@@ -23,8 +22,7 @@ get-requires c =
 )
 
 pub put-requires : goal.put-requires
-put-requires c =
-    (
+put-requires c = (
   c.requires.0,
   c.requires.1,
   slot-of-put
@@ -32,8 +30,7 @@ put-requires c =
 )
 
 pub store_slot-requires : goal.store_slot-requires
-store_slot-requires c =
-    (
+store_slot-requires c = (
   c.requires.0,
   c.requires.1,
   slot-of-clear c.requires.4 c.requires.5

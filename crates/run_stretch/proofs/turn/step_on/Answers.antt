@@ -9,19 +9,19 @@ use Rattle.run_stretch.proofs.turn.step_on.Goals as goal
 pub bounds-p-at : goal.bounds-p-at
 bounds-p-at c =
     omega (
-  arith,
-  words-there c.requires.5
-      c.requires.6 c.requires.4,
-)
+      arith,
+      words-there c.requires.5
+          c.requires.6 c.requires.4,
+    )
 
 pub bounds-p-at-2 : goal.bounds-p-at-2
 bounds-p-at-2 c =
     omega (
-  arith,
-  words-there c.requires.5
-      c.requires.6
-      c.requires.4,
-)
+      arith,
+      words-there c.requires.5
+          c.requires.6
+          c.requires.4,
+    )
 
 pub act-requires : goal.act-requires
 unfolding word

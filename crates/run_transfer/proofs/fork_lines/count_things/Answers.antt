@@ -17,7 +17,7 @@ loop-j-preserved c =
     let args = c.args in
     let loop = c.loop-j in
     elim c.if-v-ge3.branch [
-      then-v-ge3 w ↦ (
+      | then-v-ge3 w ↦ (
         search rules,
         w.count-is
             ∙ thing-more args.work.now args.n.0 args.args loop.j loop.invariant.1

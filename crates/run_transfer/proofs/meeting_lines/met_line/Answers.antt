@@ -11,6 +11,6 @@ returns c =
     let args = c.args in
     met-line args.entry args.sender.0 args.receiver.0 args.e
     (elim c.if-e-eq6.branch [
-      then-e-eq6 w ↦ w.side-is ∙ took _ _ _ refl (eq-eqb args.e.tag 6 w.if-e-eq6.true) refl
+      | then-e-eq6 w ↦ w.side-is ∙ took _ _ _ refl (eq-eqb args.e.tag 6 w.if-e-eq6.true) refl
       | else-e-eq6 w ↦ w.side-is ∙ passed-by _ _ _ refl (ne_eqb args.e.tag 6 w.if-e-eq6.false) refl
     ])

@@ -8,16 +8,16 @@ use Rattle.text_emit_block.proofs.parts.clears.Goals as goal
 pub loop-i-init : goal.loop-i-init
 loop-i-init c =
     let g = c.args in (
-  refl,
-  (
-    omega arith,
-    (
-      (λ le. le),
-      clears-begin g.from g.e
-          g.code.now,
-    ),
-  ),
-)
+      refl,
+      (
+        omega arith,
+        (
+          (λ le. le),
+          clears-begin g.from g.e
+              g.code.now,
+        ),
+      ),
+    )
 
 pub loop-i-smaller : goal.loop-i-smaller
 loop-i-smaller c =

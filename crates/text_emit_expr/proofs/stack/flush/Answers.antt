@@ -11,14 +11,13 @@ pub top-first-requires : goal.top-first-requires
 top-first-requires c = c.requires.1
 
 pub loop-more-init : goal.loop-more-init
-loop-more-init c =
-    (
-      going-begun c.args.pending.now c.args.code.now c.args.s c.args.puts,
-      c.requires.0,
-      c.requires.1,
-      c.goes-more.ensures ∙ ap (λ (o : ℕ). goes o c.args.puts) c.top-first.ensures,
-      refl,
-    )
+loop-more-init c = (
+  going-begun c.args.pending.now c.args.code.now c.args.s c.args.puts,
+  c.requires.0,
+  c.requires.1,
+  c.goes-more.ensures ∙ ap (λ (o : ℕ). goes o c.args.puts) c.top-first.ensures,
+  refl,
+)
 
 pub pop-u-requires : goal.pop-u-requires
 pop-u-requires c =

@@ -4,8 +4,7 @@ use Rattle.text_judged.proofs.Stepping.{header_at}
 use Rattle.text_judged.proofs.callee.callee_row.Goals as goal
 
 pub method_indexed-m-requires : goal.method_indexed-m-requires
-method_indexed-m-requires c =
-    (
+method_indexed-m-requires c = (
   c.requires.1,
   omega (arith, c.next_token-t.ensures.ends),
   omega (arith, c.next_token-t.ensures.ends, c.next_token-t.ensures.within c.requires.0),

@@ -6,14 +6,13 @@ use Rattle.text_judged.proofs.method.past_call.Goals as goal
 pub bounds-code-j : goal.bounds-code-j
 bounds-code-j c =
     omega (
-  arith,
-  c.requires.0.enough,
-  c.requires.2,
-)
+      arith,
+      c.requires.0.enough,
+      c.requires.2,
+    )
 
 pub callee_row-row-requires : goal.callee_row-row-requires
-callee_row-row-requires c =
-    (
+callee_row-row-requires c = (
   call-place _ _ _ _ _ _ c.requires.0 _
       c.requires.1
       c.requires.2
@@ -22,8 +21,7 @@ callee_row-row-requires c =
 )
 
 pub judge_call-next-requires : goal.judge_call-next-requires
-judge_call-next-requires c =
-    (
+judge_call-next-requires c = (
   c.requires.0.method,
   call-row _ _ _ _ _ _ c.requires.0 _
       c.requires.1
@@ -39,13 +37,12 @@ judge_call-next-requires c =
 )
 
 pub judge-requires : goal.judge-requires
-judge-requires c =
-    (
-      c.requires.0.method,
-      at-hand _ _ c.requires.0.known,
-      omega (arith, c.judge_call-next.ensures.0, c.requires.2),
-      c.judge_call-next.ensures.1,
-    )
+judge-requires c = (
+  c.requires.0.method,
+  at-hand _ _ c.requires.0.known,
+  omega (arith, c.judge_call-next.ensures.0, c.requires.2),
+  c.judge_call-next.ensures.1,
+)
 
 pub returns : goal.returns
 returns c =

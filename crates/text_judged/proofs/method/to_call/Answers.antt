@@ -4,8 +4,7 @@ use Rattle.text_judged.proofs.Stepping.{at-hand, up-to-call}
 use Rattle.text_judged.proofs.method.to_call.Goals as goal
 
 pub judge-requires : goal.judge-requires
-judge-requires c =
-    (
+judge-requires c = (
   c.requires.method,
   at-hand _ _
       c.requires.known,

@@ -12,25 +12,24 @@ loop-i-init c = (omega arith, refl, none-numbered _ _)
 pub bounds-words-i : goal.bounds-words-i
 bounds-words-i c =
     omega (
-  arith,
-  c.loop-i.invariant.1,
-  c.requires.1,
-)
+      arith,
+      c.loop-i.invariant.1,
+      c.requires.1,
+    )
 
 pub bounds-words-i-in-loop-i : goal.bounds-words-i-in-loop-i
 bounds-words-i-in-loop-i c =
     omega (
-  arith,
-  c.loop-i.invariant.1,
-  c.requires.1,
-  length-set
-      c.loop-i.words (2 *
-      c.loop-i.i) c.as_word.result,
-)
+      arith,
+      c.loop-i.invariant.1,
+      c.requires.1,
+      length-set
+          c.loop-i.words (2 *
+          c.loop-i.i) c.as_word.result,
+    )
 
 pub loop-i-preserved : goal.loop-i-preserved
-loop-i-preserved c =
-    (
+loop-i-preserved c = (
   omega arith,
   length-set (set c.loop-i.words (2 *
       c.loop-i.i) c.as_word.result) (2 *

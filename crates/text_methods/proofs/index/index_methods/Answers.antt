@@ -7,11 +7,10 @@ use Rattle.text_methods.proofs.Indexing.{index-begins, index-ends, index-turn, i
 use Rattle.text_methods.proofs.index.index_methods.Goals as goal
 
 pub loop-t-init : goal.loop-t-init
-loop-t-init c =
-    (
-      index-begins c.args.text.now c.args.index.now _ c.next_token-t.ensures c.requires,
-      refl,
-    )
+loop-t-init c = (
+  index-begins c.args.text.now c.args.index.now _ c.next_token-t.ensures c.requires,
+  refl,
+)
 
 pub enter-requires : goal.enter-requires
 enter-requires c = c.loop-t.invariant.0.long
@@ -28,13 +27,12 @@ loop-t-smaller c =
     omega (arith, p.begun, p.onward, c.next_token-u.ensures.starts)
 
 pub loop-t-preserved : goal.loop-t-preserved
-loop-t-preserved c =
-    (
-      index_goes c.loop-t.invariant.0 c.loop-t-test.true _ c.next_token-u.ensures _
-          c.names_method-named.ensures _ c.enter.ensures _ _ _ c.add_if-i.ensures
-          c.header_after-header.ensures c.braces_after-braces.ensures,
-      search rules,
-    )
+loop-t-preserved c = (
+  index_goes c.loop-t.invariant.0 c.loop-t-test.true _ c.next_token-u.ensures _
+      c.names_method-named.ensures _ c.enter.ensures _ _ _ c.add_if-i.ensures
+      c.header_after-header.ensures c.braces_after-braces.ensures,
+  search rules,
+)
 
 pub bounds-index-0 : goal.bounds-index-0
 bounds-index-0 c = omega (arith, c.loop-t.invariant.0.long)

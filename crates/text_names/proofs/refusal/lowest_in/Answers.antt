@@ -50,8 +50,7 @@ pub shape_of-words : goal.shape_of-words
 shape_of-words c = c.loop-kind.invariant.room ∙ sym c.requires.0
 
 pub returns : goal.returns
-returns c =
-    (
-      λ e. scan-ends c.loop-kind.invariant c.loop-kind-test.false (sym c.keeps-2.ensures ∙ e),
-      λ e. c.keeps-2.ensures ∙ class-fits c.args.all c.loop-kind.n e,
-    )
+returns c = (
+  λ e. scan-ends c.loop-kind.invariant c.loop-kind-test.false (sym c.keeps-2.ensures ∙ e),
+  λ e. c.keeps-2.ensures ∙ class-fits c.args.all c.loop-kind.n e,
+)

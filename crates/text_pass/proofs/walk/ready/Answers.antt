@@ -17,13 +17,12 @@ pub returns-then-holds : goal.returns-then-holds
 returns-then-holds c = ((λ scopes o le s. s), (λ k a. c.holds.ensures c.if-holds.true), (λ a. refl))
 
 pub returns-then-not-again : goal.returns-then-not-again
-returns-then-not-again c =
-    (
-      (λ scopes o le s. s),
-      (λ k. never k),
-      (λ a. absurd
-          (clash (not-true c.args.again c.if-not-again.true-raw) (passes a))),
-    )
+returns-then-not-again c = (
+  (λ scopes o le s. s),
+  (λ k. never k),
+  (λ a. absurd
+      (clash (not-true c.args.again c.if-not-again.true-raw) (passes a))),
+)
 
 pub returns : goal.returns
 returns c =

@@ -54,12 +54,11 @@ shape_of-brackets-then-not-levels c =
     kept ∙ l.invariant.1 ∙ c.put_count.auto.0 ∙ sym c.requires.0
 
 pub returns-then-not-levels : goal.returns-then-not-levels
-returns-then-not-levels c =
-    (
-      (λ scopes o le k. never (sym c.no_answer.ensures ∙ k)),
-      (λ a. absurd (clash (not-true c.ready-levels.result.known c.if-not-levels.true)
-          (passes (c.ready-levels.ensures.2 a)))),
-    )
+returns-then-not-levels c = (
+  (λ scopes o le k. never (sym c.no_answer.ensures ∙ k)),
+  (λ a. absurd (clash (not-true c.ready-levels.result.known c.if-not-levels.true)
+      (passes (c.ready-levels.ensures.2 a)))),
+)
 
 pub shape_of-counts-then-stops-t : goal.shape_of-counts-then-stops-t
 shape_of-counts-then-stops-t c =

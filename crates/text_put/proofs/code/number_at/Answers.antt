@@ -4,8 +4,7 @@ use Rattle.text_put.proofs.WordLaws.{called-in, called-past}
 use Rattle.text_put.proofs.code.number_at.Goals as goal
 
 pub find_indexed-m-requires : goal.find_indexed-m-requires
-find_indexed-m-requires c =
-    (
+find_indexed-m-requires c = (
   c.requires,
   omega (arith, c.next_token-t.ensures.ends),
   omega (arith, c.next_token-t.ensures.ends, c.next_token-t.ensures.within c.if-a-text.true),

@@ -35,10 +35,10 @@ overflow_add-k c =
 pub bounds-code-k-in-loop-k : goal.bounds-code-k-in-loop-k
 bounds-code-k-in-loop-k c =
     omega (
-  arith,
-  c.requires.0,
-  c.loop-k-test.true,
-)
+      arith,
+      c.requires.0,
+      c.loop-k-test.true,
+    )
 
 pub put_pair-i-requires : goal.put_pair-i-requires
 put_pair-i-requires c =

@@ -27,11 +27,11 @@ loop-k-init c =
 pub put_word-i-requires : goal.put_word-i-requires
 put_word-i-requires c =
     omega (
-  arith,
-  c.requires.2,
-  c.loop-k.invariant.0,
-  c.loop-k.invariant.1.0,
-)
+      arith,
+      c.requires.2,
+      c.loop-k.invariant.0,
+      c.loop-k.invariant.1.0,
+    )
 
 pub loop-k-preserved : goal.loop-k-preserved
 unfolding word

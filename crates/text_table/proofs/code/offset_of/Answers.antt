@@ -14,16 +14,14 @@ pub overflow_add-n : goal.overflow_add-n
 overflow_add-n c = omega (arith, c.loop-i.invariant.0, c.loop-i.invariant.2, c.word_at-n.ensures.1, c.requires)
 
 pub loop-i-preserved : goal.loop-i-preserved
-loop-i-preserved c =
-    (
+loop-i-preserved c = (
   search rules,
   offset-next _ _ _ _ c.loop-i.invariant.1 c.word_at-n.ensures.0,
   omega (arith, c.loop-i.invariant.2, c.word_at-n.ensures.1),
 )
 
 pub returns : goal.returns
-returns c =
-    (
+returns c = (
   c.loop-i.invariant.1 ∙ ap (offset_in _) (omega (arith, c.loop-i.invariant.0, c.loop-i-test.false)),
   omega (arith, c.loop-i.invariant.0, c.loop-i.invariant.2, c.requires),
 )

@@ -12,13 +12,12 @@ pub loop-k-init : goal.loop-k-init
 loop-k-init c = (omega arith, c.requires.1, offset-none _, omega arith, refl, λ ns w e d q l. others-start w _ _)
 
 pub put_kept-i-requires : goal.put_kept-i-requires
-put_kept-i-requires c =
-    (
-      omega (arith, c.loop-k.invariant.0, c.loop-k.invariant.3, c.requires.0),
-      c.word_at-long.ensures.1,
-      c.requires.2,
-      c.requires.3,
-    )
+put_kept-i-requires c = (
+  omega (arith, c.loop-k.invariant.0, c.loop-k.invariant.3, c.requires.0),
+  c.word_at-long.ensures.1,
+  c.requires.2,
+  c.requires.3,
+)
 
 pub overflow_add-from : goal.overflow_add-from
 overflow_add-from c = omega (arith, c.loop-k.invariant.0, c.loop-k.invariant.3, c.requires.0, c.word_at-long.ensures.1)
