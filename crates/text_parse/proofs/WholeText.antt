@@ -45,7 +45,7 @@ tokens_of-closed text = tokens_from-closed (length text) text [] 0 0 (omega arit
 closed-ended : {i : ℕ} {ts : List Token} → Closed i ts → Ended ts
 closed-ended end = refl
 closed-ended (before h end) = refl
-closed-ended (before h (before g c)) = closed-ended (before g c)
+closed-ended (before h (before {t = t} g c)) = closed-ended (before {t = t} g c)
 
 -- a tail of such tokens is such tokens, and where its first token has no bytes it is the last one alone
 closed-tail : {i : ℕ} {ts us : List Token} → Closed i ts → Tail ts us → Closed i us
