@@ -35,7 +35,7 @@ fn after_name(
     more_names(text, from, scope, row, first.n, first.used, code)
 }
 
-// "one_var_decl ;"
+// "oneVarDecl ;"
 fn declaration(
     text: &[u8],
     from: usize,
@@ -60,7 +60,7 @@ fn declaration(
     after_name(text, name.at, scope, row, n, used, name, t.code)
 }
 
-// "var_declaration ::= (one_var_decl ;)*", up to the first token that starts no type.
+// "varDeclaration ::= (oneVarDecl ;)*", up to the first token that starts no type.
 pub fn declarations(
     text: &[u8],
     from: usize,

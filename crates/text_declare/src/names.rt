@@ -7,7 +7,7 @@ use crate::entry::{EnteredAt, NameAt, enter, enter_name, name_after};
 use text_tokens::kinds::{CLOSE_BRACKET, COMMA, OPEN_BRACKET, SEMICOLON};
 use text_types::place::{PlaceAt, expect, expect_after, next_kind};
 
-// "variable_name (, variable_name)*", after the first name, then ;
+// "variableName (, variableName)*", after the first name, then ;
 pub fn more_names(
     text: &[u8],
     from: usize,
@@ -81,7 +81,7 @@ fn enter_three(
     enter(scope, row, a.n, a.used, one, 0, end)
 }
 
-// "withends [ variable_name , variable_name ]", after withends, then ;
+// "withends [ variableName , variableName ]", after withends, then ;
 pub fn end_names(
     text: &[u8],
     from: usize,

@@ -7,7 +7,7 @@ use text_tokens::kinds::{CLOSE, COMMA};
 use text_types::place::{PlaceAt, expect, next_kind};
 use text_types::types::non_void_type;
 
-// "method_decl_param ::= non_void_type param_name"
+// "methodDeclParam ::= nonVoidType paramName"
 fn parameter(
     text: &[u8],
     from: usize,
@@ -31,7 +31,7 @@ fn parameter(
     )
 }
 
-// "(, method_decl_param)*" after a parameter, and the closing bracket.
+// "(, methodDeclParam)*" after a parameter, and the closing bracket.
 fn more_parameters(
     text: &[u8],
     from: usize,
@@ -67,7 +67,7 @@ fn more_parameters(
     }
 }
 
-// "method_decl_param_list?" and the closing bracket, after the opening one.
+// "methodDeclParamList?" and the closing bracket, after the opening one.
 pub fn parameters(
     text: &[u8],
     from: usize,

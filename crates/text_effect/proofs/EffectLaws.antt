@@ -136,7 +136,7 @@ module _ (t : Token) (k : ℕ) (h : k ≡ kind_of t.bytes) where
       rw (
         by_kind (is "qbit" t) 3 (is-qbit t),
         by_kind (is "channel" t) 4 (is-channel t),
-        by_kind (is "channel_end" t) 5 (is-channel-end t),
+        by_kind (is "channelEnd" t) 5 (is-channel-end t),
       )
       (ap (cond (eqb k 3) (stay new₅)) (or-two (eqb k 4) (eqb k 5) (stay new₂) (astray t.at)))
 

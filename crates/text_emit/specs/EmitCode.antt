@@ -71,7 +71,7 @@ give_rule scopes ts = and_then (expr_from scopes ts) (λ e us. expect ";" us (λ
 unfoldable pub measure_rule : Scopes → List Token → Reading Statement
 measure_rule scopes ts = and_then (measured_name ts) (λ q us. expect ";" us (λ vs. read (measure q) vs))
 
--- "variable_name = expr ;", and "method_call ;" or "quantum_op ;"
+-- "variableName = expr ;", and "methodCall ;" or "quantumOp ;"
 unfoldable pub assign_rule : Scopes → List Token → Reading Statement
 assign_rule scopes ts =
     expect_name ts (λ x us. expect "=" us (λ vs.

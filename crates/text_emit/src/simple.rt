@@ -76,7 +76,7 @@ pub fn give(
     put(code, end, 13, 0)
 }
 
-// "fork method_call ;": FORK with the place of the method's name.
+// "fork methodCall ;": FORK with the place of the method's name.
 pub fn fork(
     text: &[u8],
     e: Emit,
@@ -97,7 +97,7 @@ pub fn fork(
     put(code, end, 14, method.start)
 }
 
-// "measure ( StdBasis , variable_name ) ;": GET, MEAS, DROP.
+// "measure ( StdBasis , variableName ) ;": GET, MEAS, DROP.
 pub fn measure(text: &[u8], e: Emit, scope: &[usize; 64], n: usize, code: &mut [usize]) -> Emit
     ensures { StatementFrom measure_rule text.now scope.now n e code.old result
         code.new }
@@ -118,7 +118,7 @@ pub fn measure(text: &[u8], e: Emit, scope: &[usize; 64], n: usize, code: &mut [
     put(code, measured, 5, 0)
 }
 
-// "variable_name = expr ;": PUT, DROP; for a channel with ends, its ends too.
+// "variableName = expr ;": PUT, DROP; for a channel with ends, its ends too.
 pub fn assign(
     text: &[u8],
     e: Emit,
@@ -140,7 +140,7 @@ pub fn assign(
     put_value(code, end, s.slot, s.ends)
 }
 
-// "method_call ;" and "quantum_op ;": CALL, and DROP unless the method is void; or GATE.
+// "methodCall ;" and "quantumOp ;": CALL, and DROP unless the method is void; or GATE.
 pub fn invoke(
     text: &[u8],
     methods: &[usize],

@@ -184,7 +184,7 @@ fn repeated(
     back
 }
 
-// "{ var_declaration code* }", where all fits so far: CLEAR for each of its variables, then its statements.
+// "{ varDeclaration code* }", where all fits so far: CLEAR for each of its variables, then its statements.
 #[cycle(block_body_conditional_otherwise_repeated_statement_statements_unbraced)]
 fn block(
     text: &[u8],

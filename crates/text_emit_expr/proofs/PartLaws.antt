@@ -146,7 +146,7 @@ module _ (text : List ℕ) (i : ℕ) where
         sym (same-tree e x (tokens_at text b.end) us r.1),
       )
 
-  -- "( StdBasis , variable_name )"
+  -- "( StdBasis , variableName )"
   pub measured-up-to : (a b c d e : TokenAt) → NextToken text i a → NextToken text a.end b
       → NextToken text b.end c
       → NextToken text c.end d → NextToken text d.end e → MeasuredUpTo text i d.start d.end e.end

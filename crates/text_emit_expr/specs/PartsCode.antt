@@ -19,7 +19,7 @@ pub record UpTo (text : List ℕ) (from at : ℕ) (us : List Token) : Type 0 whe
 abbrev pub Reach : List ℕ → ℕ → ℕ → Type 0
 Reach text from at = from ≤ length text → (from ≤ at) × (at ≤ length text)
 
--- "( StdBasis , variable_name )" after measure: the name stands at start up to end
+-- "( StdBasis , variableName )" after measure: the name stands at start up to end
 abbrev pub MeasuredUpTo : List ℕ → ℕ → ℕ → ℕ → ℕ → Type 0
 MeasuredUpTo text from start end at =
     (q : Name) (us : List Token) → measured_name (tokens_at text from) ≡ read q us
@@ -30,7 +30,7 @@ abbrev pub BracketsUpTo : List ℕ → ℕ → ℕ → Type 0
 BracketsUpTo text from at =
     (e x : Expr) (us : List Token) → allocated e (tokens_at text from) ≡ read x us → UpTo text from at us × (x ≡ e)
 
--- "non_dup_type ( )" after new, with its instruction
+-- "nonDupType ( )" after new, with its instruction
 abbrev pub AllocatedUpTo : List ℕ → ℕ → ℕ → ℕ → ℕ → Type 0
 AllocatedUpTo text from op argument at =
     (e : Expr) (us : List Token) → allocation (tokens_at text from) ≡ read e us

@@ -35,7 +35,7 @@ fn emit_parameters(
     }
 }
 
-// "method_params? )", after the opening bracket, after the `count` instructions that stand in the buffer.
+// "methodParams? )", after the opening bracket, after the `count` instructions that stand in the buffer.
 pub fn emit_arguments(
     text: &[u8],
     from: usize,

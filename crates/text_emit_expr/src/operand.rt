@@ -96,7 +96,7 @@ fn recv_step(text: &[u8], pending: &mut [usize], s: StateAt, t: TokenAt) -> Stat
     gave_up(s)
 }
 
-// "method_name ( method_params? )", after its bracket at `from`: CALL waits for the closing bracket; the method is given
+// "methodName ( methodParams? )", after its bracket at `from`: CALL waits for the closing bracket; the method is given
 // by the place of its name.
 fn call_step(
     text: &[u8],

@@ -22,7 +22,7 @@ pub struct CodeUpTo {
     pub at: usize,
 }
 
-// "( StdBasis , variable_name )"
+// "( StdBasis , variableName )"
 pub fn measured(text: &[u8], from: usize) -> NameUpTo
     ensures { MeasuredUpTo text.now from result.start result.end result.at × Reach text.now from result.at }
 {
@@ -47,7 +47,7 @@ fn brackets(text: &[u8], from: usize) -> usize
     closing.end
 }
 
-// "non_dup_type ( )": NEWQ, NEWC with what the channel carries; no op makes an end.
+// "nonDupType ( )": NEWQ, NEWC with what the channel carries; no op makes an end.
 pub fn allocated(text: &[u8], from: usize) -> CodeUpTo
     ensures { AllocatedUpTo text.now from result.op result.argument result.at × Reach text.now from result.at
         × (result.op ≡ 1 → ⊥) }

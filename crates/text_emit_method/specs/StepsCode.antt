@@ -17,7 +17,7 @@ use Rattle.text_code.specs.OutcomeCode.{Tables, Outcome}
 use Rattle.text_emit.specs.declared.emit.Emit.{Emit}
 use Rattle.text_emit.specs.EmitCode.{tables_of, MethodsOf}
 
--- "method_header ::= type method_name ( method_decl_param_list? )"
+-- "methodHeader ::= type methodName ( methodDeclParamList? )"
 pub record Header : Type 0 where
   pub returns : Option NonVoidType
   pub name : Name

@@ -1,4 +1,4 @@
-// "{ var_declaration code* }" of a method: no CLEAR, and its block is the first level of nesting.
+// "{ varDeclaration code* }" of a method: no CLEAR, and its block is the first level of nesting.
 ghost use Rattle.std.specs.Prelude.{◌≤◌, length};
 ghost use Rattle.text_methods.specs.IndexCode.{Indexed};
 ghost use Rattle.text_emit_method.specs.StepsCode.{BodyTranslates};

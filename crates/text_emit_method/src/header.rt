@@ -1,4 +1,4 @@
-// "method_header ::= type method_name ( method_decl_param_list? )"
+// "methodHeader ::= type methodName ( methodDeclParamList? )"
 ghost use Rattle.std.specs.Prelude.{◌≤◌, ◌≡◌};
 ghost use Rattle.text_emit_method.specs.StepsCode.{HeaderEnters};
 

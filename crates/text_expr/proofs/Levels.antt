@@ -179,7 +179,7 @@ recv-level n ls t = by (is "(" t)
 
 alloc-level : (n : ℕ) (ls : List Level) (t : Token) → new_step (opens n ls) t ≡ applied (alloc_action t) n ls
 unfolding new_step alloc_action applied
-alloc-level n ls t = by (is "qbit" t) (is "channel" t) (is "channel_end" t)
+alloc-level n ls t = by (is "qbit" t) (is "channel" t) (is "channelEnd" t)
   where
     by : (a b c : Bool)
         → cond a (on new₅ (opens n ls))

@@ -118,7 +118,7 @@ module _ (scopes : Scopes) (k : List Open) where
   pub new-pass : (us : List Token) → pass scopes us new₁ k ≡ and_then (allocation us) (λ x vs. pass scopes vs bare k)
   unfolding pass step new_step allocation and_then leaves_at follow
   new-pass [] = refl
-  new-pass (t ∷ us) = by (is "qbit" t) (is "channel" t) (is "channel_end" t)
+  new-pass (t ∷ us) = by (is "qbit" t) (is "channel" t) (is "channelEnd" t)
     where
       by : (a b c : Bool)
           → follow (pass scopes us) t us

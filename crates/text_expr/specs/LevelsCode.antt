@@ -91,7 +91,7 @@ must_action ok p t = cond ok (stay p) (astray t.at)
 unfoldable pub alloc_action : Token → Action
 alloc_action t =
     cond (is "qbit" t) (stay new₅)
-    (cond (is "channel" t) (stay new₂) (cond (is "channel_end" t) (stay new₂) (astray t.at)))
+    (cond (is "channel" t) (stay new₂) (cond (is "channelEnd" t) (stay new₂) (astray t.at)))
 
 unfoldable pub action : Scopes → Phase → Bool → Option Bool → Token → Action
 action scopes operand a b t = operand_action t

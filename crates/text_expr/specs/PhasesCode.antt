@@ -111,7 +111,7 @@ must ok p k t = cond ok (on p k) (off t.at)
 unfoldable pub new_step : List Open → Token → Step
 new_step k t =
     cond (is "qbit" t) (on new₅ k)
-    (cond (is "channel" t) (on new₂ k) (cond (is "channel_end" t) (on new₂ k) (off t.at)))
+    (cond (is "channel" t) (on new₂ k) (cond (is "channelEnd" t) (on new₂ k) (off t.at)))
 
 unfoldable pub step : Scopes → Phase → List Open → Token → Step
 step scopes operand k t = operand_step k t

@@ -43,7 +43,7 @@ module _ {P Q : List Token → Type 0} (w : Reads P Q) where
   unfolding non_void_type
   non_void_type-leaving ts p =
       next-leaving w "channel" ts tt p (λ q. bracketed-leaving (rest ts) channel_type (w.weaker q))
-      (next-leaving w "channel_end" ts tt p (λ q. bracketed-leaving (rest ts) end_type (w.weaker q))
+      (next-leaving w "channelEnd" ts tt p (λ q. bracketed-leaving (rest ts) end_type (w.weaker q))
       (and_then-leaving (carried-leaving ts p) (λ t us q. leaving q)))
 
   pub return_type-leaving : (ts : List Token) → P ts → Leaving Q (return_type ts)
@@ -64,7 +64,7 @@ module _ {P Q : List Token → Type 0} (w : Reads P Q) where
   allocation-leaving ts p =
       next-leaving w "qbit" ts tt p (λ q. allocated-leaving new_qubit (rest ts) (w.weaker q))
       (next-leaving w "channel" ts tt p (λ q. made new_channel q)
-      (next-leaving w "channel_end" ts tt p (λ q. made new_end q) (leaves_at-leaving ts)))
+      (next-leaving w "channelEnd" ts tt p (λ q. made new_end q) (leaves_at-leaving ts)))
     where
       made : (f : Carried → Expr) → Q (rest ts) → Leaving Q (and_then (bracketed (rest ts) f) allocated)
       made f q =

@@ -18,7 +18,7 @@ indiv_expr_from scopes ts = indiv_expr (enough ts) scopes ts
 unfoldable pub method_params_from : Scopes → List Token → Reading Exprs
 method_params_from scopes ts = method_params (enough ts) scopes ts
 
--- "expr ::= indiv_expr (op expr)? | new non_dup_type ()"; "All four operators have one strength and group to the right"
+-- "expr ::= indivExpr (op expr)? | new nonDupType ()"; "All four operators have one strength and group to the right"
 unfoldable pub operands_rule : Scopes → Expr → Option Operator → List Token → Reading Expr
 operands_rule scopes e none ts = read e ts
 operands_rule scopes e (some o) ts = and_then (expr_from scopes (rest ts)) (λ f us. read (operation o e f) us)
@@ -28,11 +28,11 @@ expr_rule scopes ts =
     cond (next? "new" ts) (allocation (rest ts))
     (and_then (indiv_expr_from scopes ts) (λ e us. operands_rule scopes e (operator_at us) us))
 
--- "method_call ::= method_name (method_params?)", after its bracket
+-- "methodCall ::= methodName (methodParams?)", after its bracket
 unfoldable pub arguments_rule : Scopes → List Token → Reading Exprs
 arguments_rule scopes ts = cond (next? ")" ts) (read no_more (rest ts)) (method_params_from scopes ts)
 
--- "assignment ::= variable_name = expr", a method_call or a variable, after the name
+-- "assignment ::= variableName = expr", a methodCall or a variable, after the name
 unfoldable pub named_rule : Scopes → Name → List Token → Reading Expr
 named_rule scopes x ts =
     cond (next? "=" ts)
@@ -47,7 +47,7 @@ unfoldable pub reception_rule : Scopes → List Token → Reading Expr
 reception_rule scopes ts =
     expect "(" ts (λ us. and_then (expr_from scopes us) (λ e vs. expect ")" vs (λ ws. read (reception e) ws)))
 
--- "indiv_expr ::= value | variable_name | ( expr ) | recv | assignment | method_call | measurement"
+-- "indivExpr ::= value | variableName | ( expr ) | recv | assignment | methodCall | measurement"
 unfoldable pub indiv_expr_rule : Scopes → List Token → Reading Expr
 indiv_expr_rule scopes ts =
     cond (is_numeral (first ts)) (read (number (numeral_of (first ts))) (rest ts))
@@ -58,7 +58,7 @@ indiv_expr_rule scopes ts =
     (cond (next? "measure" ts) (and_then (measured_name (rest ts)) (λ q us. read (measurement q) us))
     (expect_name ts (λ x us. named_rule scopes x us)))))))
 
--- "method_params ::= expr (, expr)*", and the closing bracket
+-- "methodParams ::= expr (, expr)*", and the closing bracket
 unfoldable pub method_params_rule : Scopes → List Token → Reading Exprs
 method_params_rule scopes ts =
     and_then (expr_from scopes ts) (λ e us.
@@ -77,14 +77,14 @@ declaration_from ts = declaration (enough ts) ts
 unfoldable pub declarations_from : List Declaration → List Token → Reading (List Declaration)
 declarations_from ds ts = declarations (enough ts) ds ts
 
--- "variable_name (, variable_name)*", after the names xs, then ;
+-- "variableName (, variableName)*", after the names xs, then ;
 unfoldable pub more_names_rule : NonVoidType → List Name → List Token → Reading Declaration
 more_names_rule t xs ts =
     cond (next? "," ts)
     (expect_name (rest ts) (λ x us. more_names_from t (xs ++ (x ∷ [])) us))
     (expect ";" ts (λ us. read (variables t xs) us))
 
--- "one_var_decl ::= non_void_type variable_name (, variable_name)* | channel_type variable_name withends [ .. , .. ]"
+-- "oneVarDecl ::= nonVoidType variableName (, variableName)* | channelType variableName withends [ .. , .. ]"
 unfoldable pub variables_rule : NonVoidType → Name → List Token → Reading Declaration
 variables_rule (plain t) x ts = more_names_from (plain t) (x ∷ []) ts
 variables_rule (channel_type t) x ts =
@@ -94,7 +94,7 @@ variables_rule (end_type t) x ts = more_names_from (end_type t) (x ∷ []) ts
 unfoldable pub declaration_rule : List Token → Reading Declaration
 declaration_rule ts = and_then (non_void_type ts) (λ t us. expect_name us (λ x vs. variables_rule t x vs))
 
--- "var_declaration ::= (one_var_decl ;)*", after the declarations ds
+-- "varDeclaration ::= (oneVarDecl ;)*", after the declarations ds
 unfoldable pub declarations_rule : List Declaration → List Token → Reading (List Declaration)
 declarations_rule ds ts =
     cond (starts_type ts) (and_then (declaration_from ts) (λ d us. declarations_from (ds ++ (d ∷ [])) us)) (read ds ts)
@@ -113,7 +113,7 @@ block_from left scopes ts = block_of (enough ts) left scopes ts
 unfoldable pub statements_from : ℕ → Scopes → List Token → Reading Statements
 statements_from left scopes ts = statements (enough ts) left scopes ts
 
--- "assignment ;", "method_call ;" or "quantum_op ;", after the name
+-- "assignment ;", "methodCall ;" or "quantumOp ;", after the name
 unfoldable pub named_statement_rule : Scopes → Name → List Token → Reading Statement
 named_statement_rule scopes x ts =
     cond (next? "=" ts)
@@ -122,7 +122,7 @@ named_statement_rule scopes x ts =
     (and_then (arguments_rule scopes (rest ts)) (λ es us. expect ";" us (λ vs. read (invoke x es) vs)))
     (leaves_at ts))
 
--- "fork ::= fork method_call", "send ::= send ( expr , expr )", "recv ::= recv ( expr )", after the word, with ;
+-- "fork ::= fork methodCall", "send ::= send ( expr , expr )", "recv ::= recv ( expr )", after the word, with ;
 unfoldable pub fork_rule : Scopes → List Token → Reading Statement
 fork_rule scopes ts =
     expect_name ts (λ m us. expect "(" us (λ vs. and_then (arguments_rule scopes vs) (λ es ws.
@@ -178,7 +178,7 @@ unfoldable pub body_rule : ℕ → Scopes → List Token → Reading Statement
 body_rule left scopes ts =
     deeper left ts (λ l. cond (next? "{" ts) (block_from l scopes ts) (unbraced_rule l scopes ts))
 
--- "block ::= { var_declaration code* }"
+-- "block ::= { varDeclaration code* }"
 unfoldable pub block_rule : ℕ → Scopes → List Token → Reading Statement
 block_rule left scopes ts =
     expect "{" ts (λ us. and_then (declarations_from [] us) (λ ds vs.
@@ -199,7 +199,7 @@ more_parameters_from ps ts = more_parameters (enough ts) ps ts
 unfoldable pub method_from : List Token → Reading Method
 method_from ts = method (enough ts) ts
 
--- "method_decl_param_list ::= method_decl_param (, method_decl_param)*" and the closing bracket, after the parameters ps
+-- "methodDeclParamList ::= methodDeclParam (, methodDeclParam)*" and the closing bracket, after the parameters ps
 unfoldable pub more_parameters_rule : List Parameter → List Token → Reading (List Parameter)
 more_parameters_rule ps ts =
     and_then (parameter ts) (λ p us.
@@ -210,7 +210,7 @@ more_parameters_rule ps ts =
 unfoldable pub parameters_rule : List Token → Reading (List Parameter)
 parameters_rule ts = cond (next? ")" ts) (read [] (rest ts)) (more_parameters_from [] ts)
 
--- "method ::= method_header block", "method_header ::= type method_name ( method_decl_param_list? )"
+-- "method ::= methodHeader block", "methodHeader ::= type methodName ( methodDeclParamList? )"
 unfoldable pub method_body_rule : Option NonVoidType → Name → List Parameter → List Token → Reading Method
 method_body_rule t x ps ts =
     expect "{" ts (λ us. and_then (declarations_from [] us) (λ ds vs.

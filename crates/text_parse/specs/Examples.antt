@@ -36,7 +36,7 @@ in_turn (suc n) = 0 ∷ 1 ∷ in_turn n
 -- teleportation: a's state goes to q, which the child holds
 unfoldable pub teleportation : String
 teleportation =
-    "void bob(channel_end[int] e, qbit q) { int m; m = recv(e); if (m == 1) X(q); "
+    "void bob(channelEnd[int] e, qbit q) { int m; m = recv(e); if (m == 1) X(q); "
     ++ˢ "m = recv(e); if (m == 1) Z(q); } "
     ++ˢ "void main() { channel[int] c withends [c0, c1]; qbit a, p, q; int m; c = new channel[int](); "
     ++ˢ "p = new qbit(); q = new qbit(); H(p); CX(p, q); fork bob(c1, q); a = new qbit(); CX(a, p); H(a); "
@@ -50,9 +50,9 @@ shadowed =
 -- q stands in a half-evaluated argument list when g sends it away
 unfoldable pub half_evaluated : String
 half_evaluated =
-    "int g(qbit q, channel_end[qbit] e) { send(e, q); return 1; } "
+    "int g(qbit q, channelEnd[qbit] e) { send(e, q); return 1; } "
     ++ˢ "void f(qbit q, int n) { X(q); } "
-    ++ˢ "void r(channel_end[qbit] e) { qbit z; z = recv(e); H(z); } "
+    ++ˢ "void r(channelEnd[qbit] e) { qbit z; z = recv(e); H(z); } "
     ++ˢ "void main() { channel[qbit] c withends [a, b]; qbit q; c = new channel[qbit](); fork r(b); "
     ++ˢ "q = new qbit(); f(q, g(q, a)); }"
 
@@ -102,7 +102,7 @@ pub record Refusals : Type 0 where
   -- a type that a channel does not carry
   pub channel-of-channel : of "void main() { channel[channel[int]] c; }" ≡ refused_text 30 22
   -- no op makes an end
-  pub new-end : of "void main() { channel_end[int] e; e = new channel_end[int](); }" ≡ refused_text 32 5
+  pub new-end : of "void main() { channelEnd[int] e; e = new channelEnd[int](); }" ≡ refused_text 32 5
   -- another basis, a second variable
   pub other-basis : of "void main() { qbit q; measure(Bell, q); }" ≡ refused_text 30 30
   pub two-measured : of "void main() { qbit q; measure(StdBasis, q, q); }" ≡ refused_text 30 41

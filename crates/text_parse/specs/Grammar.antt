@@ -46,9 +46,9 @@ expect s ts k = cond (next? s ts) (k (rest ts)) (leaves_at ts)
 unfoldable pub expect_name : {A : Type 0} → List Token → (Name → List Token → Reading A) → Reading A
 expect_name ts k = cond (is_name (first ts)) (k (name_of (first ts)) (rest ts)) (leaves_at ts)
 
--- Types: "non_void_type ::= dup_type | non_dup_type", cut to 01's types
+-- Types: "nonVoidType ::= dupType | nonDupType", cut to 01's types
 
--- the type inside channel[..] and channel_end[..]
+-- the type inside channel[..] and channelEnd[..]
 unfoldable pub carried : List Token → Reading Carried
 carried ts =
     cond (next? "int" ts) (read int_type (rest ts))
@@ -61,14 +61,14 @@ bracketed ts f = expect "[" ts (λ us. and_then (carried us) (λ t vs. expect "]
 unfoldable pub non_void_type : List Token → Reading NonVoidType
 non_void_type ts =
     cond (next? "channel" ts) (bracketed (rest ts) channel_type)
-    (cond (next? "channel_end" ts) (bracketed (rest ts) end_type)
+    (cond (next? "channelEnd" ts) (bracketed (rest ts) end_type)
     (and_then (carried ts) (λ t us. read (plain t) us)))
 
 unfoldable pub starts_type : List Token → Bool
 starts_type ts =
-    next? "int" ts || (next? "boolean" ts || (next? "qbit" ts || (next? "channel" ts || next? "channel_end" ts)))
+    next? "int" ts || (next? "boolean" ts || (next? "qbit" ts || (next? "channel" ts || next? "channelEnd" ts)))
 
--- "type ::= void | non_void_type"
+-- "type ::= void | nonVoidType"
 unfoldable pub return_type : List Token → Reading (Option NonVoidType)
 return_type ts =
     cond (next? "void" ts) (read none (rest ts)) (and_then (non_void_type ts) (λ t us. read (some t) us))
@@ -100,7 +100,7 @@ operator_at ts =
     (cond (next? "==" ts) (some equals)
     (cond (next? "<" ts) (some less_than) none)))
 
--- "new non_dup_type ()", after new; no operator follows it
+-- "new nonDupType ()", after new; no operator follows it
 unfoldable pub allocated : Expr → List Token → Reading Expr
 allocated e ts = expect "(" ts (λ us. expect ")" us (λ vs. read e vs))
 
@@ -108,15 +108,15 @@ unfoldable pub allocation : List Token → Reading Expr
 allocation ts =
     cond (next? "qbit" ts) (allocated new_qubit (rest ts))
     (cond (next? "channel" ts) (and_then (bracketed (rest ts) new_channel) allocated)
-    (cond (next? "channel_end" ts) (and_then (bracketed (rest ts) new_end) allocated) (leaves_at ts)))
+    (cond (next? "channelEnd" ts) (and_then (bracketed (rest ts) new_end) allocated) (leaves_at ts)))
 
--- "measurement ::= measure (basis_name (, variable_name)+)", after measure: "measure takes StdBasis and one name"
+-- "measurement ::= measure (basisName (, variableName)+)", after measure: "measure takes StdBasis and one name"
 unfoldable pub measured_name : List Token → Reading Name
 measured_name ts =
     expect "(" ts (λ us. expect "StdBasis" us (λ vs. expect "," vs (λ ws.
     expect_name ws (λ q xs. expect ")" xs (λ ys. read q ys)))))
 
--- "expr ::= indiv_expr (op expr)? | new non_dup_type ()"; "All four operators have one strength and group to the right";
+-- "expr ::= indivExpr (op expr)? | new nonDupType ()"; "All four operators have one strength and group to the right";
 -- "An assignment in an expression takes all it can"
 unfoldable mutual
   pub expr : ℕ → Scopes → List Token → Reading Expr
@@ -131,7 +131,7 @@ unfoldable mutual
   operands (suc n) scopes e none ts = read e ts
   operands (suc n) scopes e (some o) ts = and_then (expr n scopes (rest ts)) (λ f us. read (operation o e f) us)
 
-  -- "indiv_expr ::= value | variable_name | ( expr ) | recv | assignment | method_call | measurement"
+  -- "indivExpr ::= value | variableName | ( expr ) | recv | assignment | methodCall | measurement"
   pub indiv_expr : ℕ → Scopes → List Token → Reading Expr
   indiv_expr zero scopes ts = leaves_at ts
   indiv_expr (suc n) scopes ts =
@@ -146,7 +146,7 @@ unfoldable mutual
       (cond (next? "recv" ts) recv
       (cond (next? "measure" ts) (and_then (measured_name (rest ts)) (λ q us. read (measurement q) us)) name)))))
 
-  -- after a name: "assignment ::= variable_name = expr", "method_call ::= method_name (method_params?)", or the variable.
+  -- after a name: "assignment ::= variableName = expr", "methodCall ::= methodName (methodParams?)", or the variable.
   -- "A withends channel assigned inside an expression: 30 at its name, as soon as = follows."
   pub named : ℕ → Scopes → Name → List Token → Reading Expr
   named zero scopes x ts = leaves_at ts
@@ -156,14 +156,14 @@ unfoldable mutual
       cond (next? "=" ts) (cond (is_withends scopes x) (leaves x.at) assigned)
       (cond (next? "(" ts) called (read (variable x) ts))
 
-  -- "(method_params?)", after its bracket
+  -- "(methodParams?)", after its bracket
   pub arguments : ℕ → Scopes → List Token → Reading Exprs
   arguments zero scopes ts = leaves_at ts
   arguments (suc n) scopes ts =
       let some = method_params n scopes ts in
       cond (next? ")" ts) (read no_more (rest ts)) some
 
-  -- "method_params ::= expr (, expr)*", and the closing bracket
+  -- "methodParams ::= expr (, expr)*", and the closing bracket
   pub method_params : ℕ → Scopes → List Token → Reading Exprs
   method_params zero scopes ts = leaves_at ts
   method_params (suc n) scopes ts =
@@ -173,14 +173,14 @@ unfoldable mutual
 
 -- Declarations
 
--- "variable_name (, variable_name)*", after the first name, then ;
+-- "variableName (, variableName)*", after the first name, then ;
 unfoldable pub more_names : ℕ → NonVoidType → List Name → List Token → Reading Declaration
 more_names zero t xs ts = leaves_at ts
 more_names (suc n) t xs ts =
     let more = expect_name (rest ts) (λ x us. more_names n t (xs ++ (x ∷ [])) us) in
     cond (next? "," ts) more (expect ";" ts (λ us. read (variables t xs) us))
 
--- "withends [ variable_name , variable_name ]", after withends, then ;
+-- "withends [ variableName , variableName ]", after withends, then ;
 unfoldable pub end_names : Carried → Name → List Token → Reading Declaration
 end_names t c ts =
     expect "[" ts (λ us. expect_name us (λ a vs. expect "," vs (λ ws. expect_name ws (λ b xs.
@@ -196,7 +196,7 @@ declaration_of n (end_type t) x ts = more_names n (end_type t) (x ∷ []) ts
 unfoldable pub declaration : ℕ → List Token → Reading Declaration
 declaration n ts = and_then (non_void_type ts) (λ t us. expect_name us (λ x vs. declaration_of n t x vs))
 
--- "var_declaration ::= (one_var_decl ;)*"
+-- "varDeclaration ::= (oneVarDecl ;)*"
 unfoldable pub declarations : ℕ → List Declaration → List Token → Reading (List Declaration)
 declarations zero ds ts = leaves_at ts
 declarations (suc n) ds ts =
@@ -212,7 +212,7 @@ unfoldable pub deeper : {A : Type 0} → ℕ → List Token → (ℕ → Reading
 deeper zero ts k = leaves_at ts
 deeper (suc left) ts k = k left
 
--- "assignment ;" and "method_call ;" or "quantum_op ;", after the name
+-- "assignment ;" and "methodCall ;" or "quantumOp ;", after the name
 unfoldable pub named_statement : ℕ → Scopes → Name → List Token → Reading Statement
 named_statement n scopes x ts =
     cond (next? "=" ts)
@@ -221,7 +221,7 @@ named_statement n scopes x ts =
     (and_then (arguments n scopes (rest ts)) (λ es us. expect ";" us (λ vs. read (invoke x es) vs)))
     (leaves_at ts))
 
--- "fork ::= fork method_call", "send ::= send ( expr , expr )", after the word, with ;
+-- "fork ::= fork methodCall", "send ::= send ( expr , expr )", after the word, with ;
 unfoldable pub fork_statement : ℕ → Scopes → List Token → Reading Statement
 fork_statement n scopes ts =
     expect_name ts (λ m us. expect "(" us (λ vs. and_then (arguments n scopes vs) (λ es ws.
@@ -287,7 +287,7 @@ unfoldable mutual
       and_then (body n left scopes us) (λ s vs. read (loop e s) vs)) in
       cond (next? "if" ts) if_then (cond (next? "while" ts) while_do (simple n scopes ts))
 
-  -- "block ::= { var_declaration code* }"
+  -- "block ::= { varDeclaration code* }"
   pub block_of : ℕ → ℕ → Scopes → List Token → Reading Statement
   block_of zero left scopes ts = leaves_at ts
   block_of (suc n) left scopes ts =
@@ -305,11 +305,11 @@ unfoldable mutual
 
 -- Methods
 
--- "method_decl_param ::= non_void_type param_name"
+-- "methodDeclParam ::= nonVoidType paramName"
 unfoldable pub parameter : List Token → Reading Parameter
 parameter ts = and_then (non_void_type ts) (λ t us. expect_name us (λ x vs. read (record { type = t; name = x }) vs))
 
--- "method_decl_param (, method_decl_param)*" and the closing bracket, after those of ps
+-- "methodDeclParam (, methodDeclParam)*" and the closing bracket, after those of ps
 unfoldable pub more_parameters : ℕ → List Parameter → List Token → Reading (List Parameter)
 more_parameters zero ps ts = leaves_at ts
 more_parameters (suc n) ps ts =
@@ -327,7 +327,7 @@ method_body n t x ps ts =
     and_then (statements n 31 ((map parameter_of ps ++ declared_by ds) ∷ []) vs) (λ ss ws.
     read (record { returns = t; name = x; parameters = ps; declarations = ds; statements = ss }) ws)))
 
--- "method ::= method_header block", "method_header ::= type method_name ( method_decl_param_list? )"
+-- "method ::= methodHeader block", "methodHeader ::= type methodName ( methodDeclParamList? )"
 unfoldable pub method : ℕ → List Token → Reading Method
 method n ts =
     and_then (return_type ts) (λ t us. expect_name us (λ x vs. expect "(" vs (λ ws.

@@ -57,7 +57,7 @@ is s t = same t.bytes (ascii s)
 -- "Reserved, from Paper 1 on"
 abbrev pub reserved : List (List ℕ)
 reserved =
-    ascii "void" ∷ ascii "int" ∷ ascii "boolean" ∷ ascii "qbit" ∷ ascii "channel" ∷ ascii "channel_end"
+    ascii "void" ∷ ascii "int" ∷ ascii "boolean" ∷ ascii "qbit" ∷ ascii "channel" ∷ ascii "channelEnd"
     ∷ ascii "withends" ∷ ascii "aliasfor" ∷ ascii "new" ∷ ascii "measure" ∷ ascii "fork" ∷ ascii "return"
     ∷ ascii "if" ∷ ascii "else" ∷ ascii "while" ∷ ascii "recv" ∷ ascii "send" ∷ ascii "true" ∷ ascii "false" ∷ []
 

@@ -152,7 +152,7 @@ module _ (C : Type 0) where
   alloc-orderly t =
       cond_both (Orderly C) (is "qbit" t) (other new₅ refl)
       (cond_both (Orderly C) (is "channel" t) (other new₂ refl)
-      (cond_both (Orderly C) (is "channel_end" t) (other new₂ refl) tt))
+      (cond_both (Orderly C) (is "channelEnd" t) (other new₂ refl) tt))
 
   orderly : (scopes : Scopes) (p : Phase) (a : Bool) (b : Option Bool) (t : Token) → ((x : Bool) → b ≡ some x → C)
       → (p ≡ called → C) → Orderly C (action scopes p a b t)

@@ -11,7 +11,7 @@ use crate::walk::{walk_deep, walk_shallow};
 use text_tokens::kinds::{CLOSE, COMMA};
 use text_types::place::{PlaceAt, expect};
 
-// "expr ::= indiv_expr (op expr)? | new non_dup_type ()". n blocks are open around it, and `starts` has the places at
+// "expr ::= indivExpr (op expr)? | new nonDupType ()". n blocks are open around it, and `starts` has the places at
 // which their declarations begin, the outermost first.
 pub fn expression(text: &[u8], from: usize, starts: &[usize; 32], n: usize) -> PlaceAt
     ensures { (scopes : Scopes) → Opened text.now starts.now n scopes → n ≤ 32
@@ -32,7 +32,7 @@ pub fn expression(text: &[u8], from: usize, starts: &[usize; 32], n: usize) -> P
     }
 }
 
-// "method_params ::= expr (, expr)*", and the closing bracket.
+// "methodParams ::= expr (, expr)*", and the closing bracket.
 fn method_params(text: &[u8], from: usize, starts: &[usize; 32], n: usize) -> PlaceAt
     ensures { (scopes : Scopes) → Opened text.now starts.now n scopes → n ≤ 32
         → Says text.now (suc from) (λ (es : Exprs). Unit {0}) result.ok result.at
@@ -53,7 +53,7 @@ fn method_params(text: &[u8], from: usize, starts: &[usize; 32], n: usize) -> Pl
     }
 }
 
-// "(method_params?)", after its bracket.
+// "(methodParams?)", after its bracket.
 pub fn arguments(text: &[u8], from: usize, starts: &[usize; 32], n: usize) -> PlaceAt
     ensures { (scopes : Scopes) → Opened text.now starts.now n scopes → n ≤ 32
         → Says text.now (suc from) (λ (es : Exprs). Unit {0}) result.ok result.at

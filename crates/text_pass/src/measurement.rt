@@ -37,7 +37,7 @@ fn basis_after(text: &[u8], p: PlaceAt) -> PlaceAt
     basis_here(text, p.at)
 }
 
-// "measurement ::= measure (basis_name (, variable_name)+)", with StdBasis and one name.
+// "measurement ::= measure (basisName (, variableName)+)", with StdBasis and one name.
 pub fn measured_name(text: &[u8], from: usize) -> PlaceAt
     ensures { Says text.now (suc from) (λ (q : Name). Unit {0}) result.ok result.at
         (measured_name (tokens_at text.now from)) }

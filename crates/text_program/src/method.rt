@@ -13,7 +13,7 @@ use text_types::parameters::parameters;
 use text_types::place::{PlaceAt, expect_after};
 use text_types::types::return_type;
 
-// "method_header ::= type method_name ( method_decl_param_list? )", up to the opening bracket
+// "methodHeader ::= type methodName ( methodDeclParamList? )", up to the opening bracket
 fn header(text: &[u8], from: usize) -> PlaceAt
     ensures { HeaderEnd text.now from result.ok result.at }
 {
@@ -38,7 +38,7 @@ fn parameters_after(text: &[u8], p: PlaceAt) -> PlaceAt
     }
 }
 
-// "method ::= method_header block": the body has depth 1, so 31 levels are left within it.
+// "method ::= methodHeader block": the body has depth 1, so 31 levels are left within it.
 pub fn method(text: &[u8], from: usize) -> PlaceAt
     ensures { Reads text.now (suc from) result.ok result.at
         (method_from (tokens_at text.now from)) }

@@ -1,4 +1,4 @@
-// "method_header ::= type method_name ( method_decl_param_list? )"
+// "methodHeader ::= type methodName ( methodDeclParamList? )"
 ghost use Rattle.std.specs.Prelude.{◌≡◌, List};
 ghost use Rattle.text.specs.Tree.{Method};
 ghost use Rattle.text_parse.specs.Tokens.{Token};

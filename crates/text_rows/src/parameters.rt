@@ -6,7 +6,7 @@ use text_tokens::kinds::{CLOSE, COMMA, NAME};
 use text_types::place::{PlaceAt, expect, expect_after, next_kind};
 use text_types::types::{TypeAt, non_void_type};
 
-// "method_decl_param ::= non_void_type param_name"
+// "methodDeclParam ::= nonVoidType paramName"
 fn parameter_type(text: &[u8], from: usize) -> TypeAt
     ensures { ParameterType text.now from result.ok result.at result.code }
 {
@@ -34,7 +34,7 @@ fn note(row: &mut [u16; 18], code: u8)
     row[2 + n as usize] = code as u16;
 }
 
-// "(, method_decl_param)*" after a parameter.
+// "(, methodDeclParam)*" after a parameter.
 fn more_types(text: &[u8], from: usize, row: &mut [u16; 18])
     ensures { RestNotes text.now from row.old row.new }
 {
@@ -52,7 +52,7 @@ fn more_types(text: &[u8], from: usize, row: &mut [u16; 18])
     }
 }
 
-// "method_decl_param_list?", after the opening bracket.
+// "methodDeclParamList?", after the opening bracket.
 pub fn parameter_types(text: &[u8], from: usize, row: &mut [u16; 18])
     ensures { ParametersNote text.now from row.old row.new }
 {

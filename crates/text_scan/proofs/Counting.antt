@@ -118,8 +118,8 @@ unfolding non_void_type kind_of word_kind place_from
 type-neutral ts =
     next-holds "channel" ts
     (λ a. past ts (rest ts) (on-idle "channel" a ((refl, refl), (refl, refl))) (bracketed-neutral (rest ts) _))
-    (λ f. next-holds "channel_end" ts
-    (λ a. past ts (rest ts) (on-idle "channel_end" a ((refl, refl), (refl, refl))) (bracketed-neutral (rest ts) _))
+    (λ f. next-holds "channelEnd" ts
+    (λ a. past ts (rest ts) (on-idle "channelEnd" a ((refl, refl), (refl, refl))) (bracketed-neutral (rest ts) _))
     (λ f. then-holds (carried-neutral ts) (λ t us p. holds p)))
 
 -- Expressions
@@ -136,8 +136,8 @@ allocation-neutral ts =
     (λ a. past ts (rest ts) (on-idle "qbit" a ((refl, refl), (refl, refl))) (allocated-neutral new_qubit (rest ts)))
     (λ f. next-holds "channel" ts
     (λ a. past ts (rest ts) (on-idle "channel" a ((refl, refl), (refl, refl))) (made new_channel))
-    (λ f. next-holds "channel_end" ts
-    (λ a. past ts (rest ts) (on-idle "channel_end" a ((refl, refl), (refl, refl))) (made new_end))
+    (λ f. next-holds "channelEnd" ts
+    (λ a. past ts (rest ts) (on-idle "channelEnd" a ((refl, refl), (refl, refl))) (made new_end))
     (λ f. leaves_at-holds ts)))
   where
     made : (f : Carried → Expr) → Holds (λ t us. Neutral (rest ts) us) (and_then (bracketed (rest ts) f) allocated)

@@ -160,8 +160,8 @@ type-events m b m' by steady ts =
     next-holds "channel" ts
     (λ a. weaker-holds (λ t us p. on-part "channel" m b m' by channel-word refl a ∙ p)
     (bracketed-events m' b steady (rest ts) _))
-    (λ f. next-holds "channel_end" ts
-    (λ a. weaker-holds (λ t us p. on-part "channel_end" m b m' by end-word refl a ∙ p)
+    (λ f. next-holds "channelEnd" ts
+    (λ a. weaker-holds (λ t us p. on-part "channelEnd" m b m' by end-word refl a ∙ p)
     (bracketed-events m' b steady (rest ts) _))
     (λ f. then-holds (carried-events m b m' by ts) (λ t us p. holds p)))
 
@@ -232,8 +232,8 @@ allocation-events b ts =
     (allocated-events b new_qubit (rest ts) (λ es. refl)))
     (λ f. next-holds "channel" ts
     (λ a. made new_channel (on_word "channel" 0 (suc b) a refl) (λ t es. refl))
-    (λ f. next-holds "channel_end" ts
-    (λ a. made new_end (on_word "channel_end" 0 (suc b) a refl) (λ t es. refl))
+    (λ f. next-holds "channelEnd" ts
+    (λ a. made new_end (on_word "channelEnd" 0 (suc b) a refl) (λ t es. refl))
     (λ f. leaves_at-holds ts)))
   where
     made : (f : Carried → Expr) → events_from 0 (suc b) ts ≡ events_from 0 (suc b) (rest ts)

@@ -18,7 +18,7 @@ kind_at ts = kind_of (first ts).bytes
 unfoldable pub ends_part : ℕ → Bool
 ends_part k = eqb k 26 || (eqb k 21 || (eqb k 20 || eqb k 13))
 
--- int, boolean, qbit, channel, channel_end
+-- int, boolean, qbit, channel, channelEnd
 unfoldable pub is_type_kind : ℕ → Bool
 is_type_kind k = eqb k 1 || (eqb k 2 || (eqb k 3 || (eqb k 4 || eqb k 5)))
 

@@ -83,7 +83,7 @@ fn unbraced(text: &[u8], from: usize, starts: &[usize; 32], n: usize, left: usiz
     body(text, other, starts, n, left)
 }
 
-// "block ::= { var_declaration code* }"
+// "block ::= { varDeclaration code* }"
 #[cycle(block_body_statement_statements_unbraced)]
 fn block(text: &[u8], from: usize, starts: &[usize; 32], n: usize, left: usize) -> PlaceAt
     requires { Inside text.now starts.now n (left + 1) }

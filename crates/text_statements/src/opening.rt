@@ -6,7 +6,7 @@ ghost use Rattle.text_statements.specs.WithinCode.{DeclarationsEnd};
 use text_types::declarations::declarations;
 use text_types::place::PlaceAt;
 
-// "var_declaration ::= (one_var_decl ;)*", after what is read. No name is looked for.
+// "varDeclaration ::= (oneVarDecl ;)*", after what is read. No name is looked for.
 pub fn declarations_after(text: &[u8], p: PlaceAt) -> PlaceAt
     ensures { On p.ok p.at result.ok result.at
         (DeclarationsEnd text.now p.at result.ok result.at) }

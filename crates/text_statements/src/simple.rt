@@ -13,7 +13,7 @@ use text_tokens::kinds::{
 use text_tokens::next::next_token;
 use text_types::place::{PlaceAt, expect, expect_after};
 
-// "assignment ;", "method_call ;" or "quantum_op ;", after the name
+// "assignment ;", "methodCall ;" or "quantumOp ;", after the name
 fn after_name(text: &[u8], from: usize, starts: &[usize; 32], n: usize) -> PlaceAt
     ensures { (x : Name) → Within text.now starts.now n from
         (λ scopes ts. named_statement_rule scopes x ts) result.ok result.at }
@@ -44,7 +44,7 @@ fn named(text: &[u8], from: usize, starts: &[usize; 32], n: usize) -> PlaceAt
     after_name(text, name.at, starts, n)
 }
 
-// "fork ::= fork method_call", "send ::= send ( expr , expr )", "recv ::= recv ( expr )", after the word, with ;
+// "fork ::= fork methodCall", "send ::= send ( expr , expr )", "recv ::= recv ( expr )", after the word, with ;
 fn fork_rest(text: &[u8], from: usize, starts: &[usize; 32], n: usize) -> PlaceAt
     ensures { Within text.now starts.now n from fork_rule result.ok result.at }
 {

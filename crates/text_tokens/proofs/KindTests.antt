@@ -128,7 +128,7 @@ pub is-channel : (t : Token) → is "channel" t ≡ eqb (kind_of t.bytes) 4
 unfolding kind_of word_kind place_from
 is-channel t = the_word t.bytes 4 (omega arith) refl
 
-pub is-channel-end : (t : Token) → is "channel_end" t ≡ eqb (kind_of t.bytes) 5
+pub is-channel-end : (t : Token) → is "channelEnd" t ≡ eqb (kind_of t.bytes) 5
 unfolding kind_of word_kind place_from
 is-channel-end t = the_word t.bytes 5 (omega arith) refl
 

@@ -111,7 +111,7 @@ fn word_of_eight(text: &[u8], start: usize, end: usize) -> u8
 fn word_of_ten(text: &[u8], start: usize, end: usize) -> u8
     ensures { result ≡ word_of_length 10 (slice start end text.now) }
 {
-    if is_word(text, start, end, b"channel_end") {
+    if is_word(text, start, end, b"channelEnd") {
         return CHANNEL_END;
     }
     NAME

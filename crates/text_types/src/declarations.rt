@@ -38,7 +38,7 @@ fn after_name(text: &[u8], from: usize, start: usize, end: usize, code: u8, firs
     }
 }
 
-// "one_var_decl ;"
+// "oneVarDecl ;"
 pub fn declaration(text: &[u8], from: usize, start: usize, end: usize) -> FoundAt
     ensures { DeclarationSays text.now (slice start end text.now) from result.ok result.at result.found }
 {
@@ -54,7 +54,7 @@ pub fn declaration(text: &[u8], from: usize, start: usize, end: usize) -> FoundA
     after_name(text, name.at, start, end, t.code, name.found)
 }
 
-// "var_declaration ::= (one_var_decl ;)*", up to the first token that starts no type.
+// "varDeclaration ::= (oneVarDecl ;)*", up to the first token that starts no type.
 pub fn declarations(text: &[u8], from: usize, start: usize, end: usize) -> FoundAt
     ensures { DeclarationsSay text.now (slice start end text.now) from result.ok result.at result.found }
 {

@@ -6,7 +6,7 @@ use crate::found::{FoundAt, name_after, or_else};
 use crate::place::{PlaceAt, expect, expect_after, next_kind};
 use text_tokens::kinds::{CLOSE_BRACKET, COMMA, OPEN_BRACKET, SEMICOLON};
 
-// "variable_name (, variable_name)*", after the first name, then ;
+// "variableName (, variableName)*", after the first name, then ;
 pub fn more_names(text: &[u8], from: usize, start: usize, end: usize) -> FoundAt
     ensures { NamesSay text.now (slice start end text.now) from result.ok result.at result.found }
 {
@@ -35,7 +35,7 @@ pub fn more_names(text: &[u8], from: usize, start: usize, end: usize) -> FoundAt
     }
 }
 
-// "withends [ variable_name , variable_name ]", after withends, then ;
+// "withends [ variableName , variableName ]", after withends, then ;
 pub fn end_names(text: &[u8], from: usize, start: usize, end: usize) -> FoundAt
     ensures { EndsSay text.now (slice start end text.now) from result.ok result.at result.found }
 {

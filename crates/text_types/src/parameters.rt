@@ -7,7 +7,7 @@ use crate::place::{PlaceAt, expect, next_kind};
 use crate::types::non_void_type;
 use text_tokens::kinds::{CLOSE, COMMA};
 
-// "method_decl_param ::= non_void_type param_name"
+// "methodDeclParam ::= nonVoidType paramName"
 pub fn parameter(text: &[u8], from: usize, start: usize, end: usize) -> FoundAt
     ensures { ParameterSays text.now (slice start end text.now) from result.ok result.at result.found }
 {
@@ -15,7 +15,7 @@ pub fn parameter(text: &[u8], from: usize, start: usize, end: usize) -> FoundAt
     name_after(text, PlaceAt { ok: t.ok, at: t.at }, start, end)
 }
 
-// "(, method_decl_param)*" after a parameter, and the closing bracket.
+// "(, methodDeclParam)*" after a parameter, and the closing bracket.
 fn more_parameters(text: &[u8], from: usize, start: usize, end: usize) -> FoundAt
     ensures { RestSays text.now (slice start end text.now) from result.ok result.at result.found }
 {
@@ -44,7 +44,7 @@ fn more_parameters(text: &[u8], from: usize, start: usize, end: usize) -> FoundA
     }
 }
 
-// "method_decl_param_list?" and the closing bracket, after the opening one.
+// "methodDeclParamList?" and the closing bracket, after the opening one.
 pub fn parameters(text: &[u8], from: usize, start: usize, end: usize) -> FoundAt
     ensures { ParametersSay text.now (slice start end text.now) from result.ok result.at result.found }
 {

@@ -33,7 +33,7 @@ pub fn starts_type(kind: u8) -> bool
         | ((kind == BOOLEAN) | ((kind == QBIT) | ((kind == CHANNEL) | (kind == CHANNEL_END))))
 }
 
-// The type inside channel[..] and channel_end[..].
+// The type inside channel[..] and channelEnd[..].
 pub fn carried(text: &[u8], from: usize) -> TypeAt
     ensures { CarriedSays text.now from result (carried (tokens_at text.now from)) }
 {
@@ -66,7 +66,7 @@ fn carried_after(text: &[u8], p: PlaceAt) -> TypeAt
     carried(text, p.at)
 }
 
-// "[ T ]" after channel or channel_end.
+// "[ T ]" after channel or channelEnd.
 pub fn bracketed(text: &[u8], from: usize) -> TypeAt
     ensures { CarriedSays text.now from result (bracketed (tokens_at text.now from) (λ t. t)) }
 {
@@ -100,7 +100,7 @@ fn above(base: u8, code: u8) -> u8
     base + code
 }
 
-// "non_void_type ::= int | boolean | qbit | channel [T] | channel_end [T]"
+// "nonVoidType ::= int | boolean | qbit | channel [T] | channelEnd [T]"
 pub fn non_void_type(text: &[u8], from: usize) -> TypeAt
     ensures { TypeSays text.now from result (non_void_type (tokens_at text.now from)) }
 {
@@ -124,7 +124,7 @@ pub fn non_void_type(text: &[u8], from: usize) -> TypeAt
     carried(text, from)
 }
 
-// "type ::= void | non_void_type"
+// "type ::= void | nonVoidType"
 pub fn return_type(text: &[u8], from: usize) -> TypeAt
     ensures { ReturnSays text.now from result (return_type (tokens_at text.now from)) }
 {

@@ -11,7 +11,7 @@ unfolding word_of_length place_of_length
 returns-then-is_word c =
     let g = c.args in
     let word = c.is_word in
-    word-found 10 (ascii "channel_end") (slice g.start g.end g.text.now) (sym word.ensures
+    word-found 10 (ascii "channelEnd") (slice g.start g.end g.text.now) (sym word.ensures
     ∙ c.if-is_word.true)
 
 pub returns : goal.returns
