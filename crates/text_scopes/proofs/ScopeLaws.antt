@@ -68,12 +68,14 @@ module _ (text starts w : List ℕ) where
   in_block k e h l = h ∙ ap (λ (j : ℕ). found_among w (declarations_from [] (tokens_at text j))) (e l)
 
   found-inner : (m f : ℕ) → InBlock (suc m) f → (f ≡ 0 → ⊥) → Answers (suc (suc m)) (eqb f 2)
+  found-inner m f e h [] x o l s = elim o [ ]
   found-inner m f e h (ds ∷ scopes) x (inner_block o b) l s =
       let g = e (omega arith) ∙ among-block b in
       let some = ne_eqb (found_in w ds) 0 (λ k. h (g ∙ k)) in
       ap (λ (k : ℕ). eqb k 2) g ∙ sym (withends-cons x w s ds scopes ∙ rw some refl)
 
   other-inner : (m f : ℕ) (b : Bool) → InBlock (suc m) f → f ≡ 0 → Answers (suc m) b → Answers (suc (suc m)) b
+  other-inner m f b e h outer [] x o l s = elim o [ ]
   other-inner m f b e h outer (ds ∷ scopes) x (inner_block o k) l s =
       let none_here = eq-eqb (found_in w ds) 0 (sym (e (omega arith) ∙ among-block k) ∙ h) in
       outer scopes x o (omega arith) s ∙ sym (withends-cons x w s ds scopes ∙ rw none_here refl)
