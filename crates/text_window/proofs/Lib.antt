@@ -1,2 +1,1 @@
-pub mod RestLaws
 pub mod WindowLaws

@@ -33,9 +33,9 @@ held_none room low depth d e =
 pub held-some : (room low depth : ℕ) → low < depth → depth - low < room → Held room low depth
 held-some room low depth l h = record { reach = omega arith; below = omega arith; under = λ z. l }
 
-pub one_more : (x : ℕ) → x < 18446744073709551615 → one_more x ≡ suc x
+pub one-more : (x : ℕ) → x < 18446744073709551615 → one_more x ≡ suc x
 unfolding one_more
-one_more x h = rw (lt-ltb x 18446744073709551615 h) (add-one x)
+one-more x h = rw (lt-ltb x 18446744073709551615 h) (add-one x)
 
 -- Cells
 
@@ -139,7 +139,7 @@ module _
         → one_more (cell counts low depth) ≡ suc (cell counts low d)
     one-more-here d h e =
         let q : cell counts low d ≡ n = h.count (sym w.deep ∙ e) in
-        ap (λ (k : ℕ). one_more (cell counts low k)) e ∙ one_more (cell counts low d) (omega arith)
+        ap (λ (k : ℕ). one_more (cell counts low k)) e ∙ one-more (cell counts low d) (omega arith)
 
     -- a bracket is opened over the innermost level
     opened : (v : ℕ) (b : Bool) → eqb v 2 ≡ b
@@ -149,11 +149,11 @@ module _
     opened v b q =
         by-figures (opens_level b) (one_more depth) (put low (one_more depth) 0 counts) (put low depth v brackets) tt
         (λ e. closing e) (count-size (one_more depth) 0) (bracket-size depth v)
-        (one_more depth shallow ∙ ap suc w.deep)
+        (one-more depth shallow ∙ ap suc w.deep)
         (λ d l u h. (
-          one_more depth shallow,
+          one-more depth shallow,
           put-cell room low (one_more depth) 0 counts d w.counts-size l u
-              ∙ ap (λ (k : ℕ). cond (eqb k d) 0 (cell counts low d)) (one_more depth shallow),
+              ∙ ap (λ (k : ℕ). cond (eqb k d) 0 (cell counts low d)) (one-more depth shallow),
           ap (λ (x : ℕ). eqb x 2) (put-cell room low depth v brackets d w.brackets-size l u)
               ∙ choice (eqb depth d) (cell brackets low d),
         ))

@@ -7,6 +7,3 @@ use Rattle.text_pass.proofs.walk.answer.Goals as goal
 pub returns-in-Astray : goal.returns-in-Astray
 unfolding answer_of
 returns-in-Astray c = rw c.in-Astray.is refl
-
-pub returns-in_default : goal.returns-in_default
-returns-in_default c = answer-rest c.args.at c.args.e c.in_default.keys2

@@ -1,7 +1,7 @@
 -- `asks_level`, phase by phase.
 use mathlib.Core.Path.{refl}
+use Rattle.std.proofs.Common.{rules}
 use Rattle.text_window.specs.WindowCode.{asks_level}
-use Rattle.text_window.proofs.RestLaws.{asks_rest}
 use Rattle.text_window.proofs.window.asks_level.Goals as goal
 
 pub returns-in-Whole : goal.returns-in-Whole
@@ -17,4 +17,5 @@ unfolding asks_level
 returns-in-Named c = rw c.in-Named.is refl
 
 pub returns-in_default : goal.returns-in_default
-returns-in_default c = asks_rest c.args.phase c.args.kind c.in_default.keys4
+unfolding asks_level
+returns-in_default c = search rules

@@ -1,6 +1,6 @@
 -- `depth_after`, effect by effect.
+use Rattle.std.proofs.Common.{rules}
 use Rattle.text_window.specs.WindowCode.{depth_after}
-use Rattle.text_window.proofs.RestLaws.{depth-rest}
 use Rattle.text_window.proofs.window.depth_after.Goals as goal
 
 pub returns-in-OpensBracket : goal.returns-in-OpensBracket
@@ -16,4 +16,5 @@ unfolding depth_after
 returns-in-Closes c = rw c.in-Closes.is c.one_less.ensures
 
 pub returns-in_default : goal.returns-in_default
-returns-in_default c = depth-rest c.args.e c.args.depth c.in_default.keys4
+unfolding depth_after
+returns-in_default c = search rules

@@ -1,6 +1,6 @@
 -- `note_brackets`, effect by effect.
+use Rattle.std.proofs.Common.{rules}
 use Rattle.text_window.specs.WindowCode.{brackets_after}
-use Rattle.text_window.proofs.RestLaws.{brackets-rest}
 use Rattle.text_window.proofs.window.note_brackets.Goals as goal
 
 pub returns-in-OpensBracket : goal.returns-in-OpensBracket
@@ -12,6 +12,5 @@ unfolding brackets_after
 returns-in-OpensCall c = rw c.in-OpensCall.is c.put_bracket-in-OpensCall.ensures
 
 pub returns-in_default : goal.returns-in_default
-returns-in_default c =
-    brackets-rest c.args.low c.args.depth c.args.e c.args.brackets.now
-    c.in_default.keys3
+unfolding brackets_after
+returns-in_default c = search rules

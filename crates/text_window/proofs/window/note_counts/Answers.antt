@@ -1,9 +1,9 @@
 -- `note_counts`, effect by effect.
+use Rattle.std.proofs.Common.{rules}
 use mathlib.Core.Path.{ap, ◌∙◌}
 use Prim.Native.Nat.{ℕ}
 use Rattle.text_window.specs.WindowCode.{put, one_more, counts_after}
 use Rattle.text_expr.specs.LevelsCode.{less_one}
-use Rattle.text_window.proofs.RestLaws.{counts-rest}
 use Rattle.text_window.proofs.window.note_counts.Goals as goal
 
 pub returns-in-Assigns : goal.returns-in-Assigns
@@ -37,6 +37,5 @@ unfolding counts_after
 returns-in-NextArgument c = rw c.in-NextArgument.is c.put_count-in-NextArgument.ensures
 
 pub returns-in_default : goal.returns-in_default
-returns-in_default c =
-    counts-rest c.args.low c.args.depth c.args.e c.args.counts.now
-    c.in_default.keys6
+unfolding counts_after
+returns-in_default c = search rules

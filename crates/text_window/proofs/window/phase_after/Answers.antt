@@ -1,8 +1,8 @@
 -- `phase_after`, effect by effect.
+use Rattle.std.proofs.Common.{rules}
 use mathlib.Core.Path.{refl}
 use Rattle.text_effect.specs.EffectCode.{phase_in, effect_in}
 use Rattle.text_expr.specs.LevelsCode.{phase_after, inside}
-use Rattle.text_window.proofs.RestLaws.{phase-rest}
 use Rattle.text_window.proofs.window.phase_after.Goals as goal
 
 pub returns-in-Stay : goal.returns-in-Stay
@@ -18,4 +18,5 @@ unfolding phase_in effect_in phase_after
 returns-in-Closes c = λ text. rw c.in-Closes.is refl
 
 pub returns-in_default : goal.returns-in_default
-returns-in_default c = λ text. phase-rest c.args.e c.in_default.keys4 text
+unfolding phase_in effect_in phase_after inside
+returns-in_default c = search rules
