@@ -3,7 +3,6 @@ use mathlib.Core.Path.{sym, ap, ◌∙◌}
 use Rattle.text_pass.proofs.EndsLaws.{named_start, named_end}
 use lib.Seq.{slice}
 use Rattle.text_effect.specs.EffectCode.{name_at}
-use Rattle.text_pass.proofs.RestLaws.{named-rest}
 use Rattle.text_pass.proofs.walk.ends_here.Goals as goal
 
 pub returns-then-kind-eq-ASSIGN : goal.returns-then-kind-eq-ASSIGN
@@ -18,4 +17,4 @@ pub returns-else-kind-eq-ASSIGN : goal.returns-else-kind-eq-ASSIGN
 returns-else-kind-eq-ASSIGN c = λ scopes o le start end q k. absurd (c.if-kind-eq-ASSIGN.false k)
 
 pub returns-in_default : goal.returns-in_default
-returns-in_default c = λ scopes o le start end q k. absurd (named-rest c.args.phase c.in_default.keys2 start end q)
+returns-in_default c = λ scopes o le start end q k. absurd (c.in_default.not-Named start end q)

@@ -23,10 +23,10 @@ loop-at-init c =
     )
 
 pub shape_of-counts-then-t-eq-END : goal.shape_of-counts-then-t-eq-END
-shape_of-counts-then-t-eq-END c = c.loop-at.invariant.0 ∙ c.put_count.auto.0
+shape_of-counts-then-t-eq-END c = c.loop-at.invariant.0 ∙ c.put_count.auto.counts
 
 pub shape_of-brackets-then-t-eq-END : goal.shape_of-brackets-then-t-eq-END
-shape_of-brackets-then-t-eq-END c = c.loop-at.invariant.1 ∙ c.put_count.auto.0 ∙ sym c.requires
+shape_of-brackets-then-t-eq-END c = c.loop-at.invariant.1 ∙ c.put_count.auto.counts ∙ sym c.requires
 
 pub returns-then-t-eq-END : goal.returns-then-t-eq-END
 returns-then-t-eq-END c =
@@ -70,10 +70,10 @@ loop-at-preserved c =
     )
 
 pub shape_of-counts : goal.shape_of-counts
-shape_of-counts c = c.loop-at.invariant.0 ∙ c.put_count.auto.0
+shape_of-counts c = c.loop-at.invariant.0 ∙ c.put_count.auto.counts
 
 pub shape_of-brackets : goal.shape_of-brackets
-shape_of-brackets c = c.loop-at.invariant.1 ∙ c.put_count.auto.0 ∙ sym c.requires
+shape_of-brackets c = c.loop-at.invariant.1 ∙ c.put_count.auto.counts ∙ sym c.requires
 
 pub returns : goal.returns
 returns c =
@@ -81,7 +81,7 @@ returns c =
     let l = c.loop-at in
     λ scopes o le q s e.
     subst (λ (m : ℕ). Window m g.low (length q.levels) l.counts l.brackets q.count q.levels)
-    c.put_count.auto.0
+    c.put_count.auto.counts
     (returned scopes g.text.now g.from q l.at l.phase _ g.low l.depth l.counts l.brackets
     (l.invariant.2 scopes o le q s e)
     (subst (λ (m : ℕ). m ≤ l.at) (sym e) c.loop-at-test.false))

@@ -39,40 +39,12 @@ ready-levels-requires c =
     let inv = c.loop-phase.invariant in
     (inv.1 ∙ sym inv.0, subst (λ (m : ℕ). 2 ≤ m) (sym inv.0) inv.2)
 
-pub shape_of-counts-then-not-levels : goal.shape_of-counts-then-not-levels
-shape_of-counts-then-not-levels c =
-    let l = c.loop-phase in
-    let levels = c.ready-levels in
-    let kept : length levels.new.1.1.1.1.1.1.1.1.1.1.0 ≡ length l.counts = levels.auto.1.1.1.1.1.1.1.1.1.1.0 in
-    kept ∙ l.invariant.0 ∙ c.put_count.auto.0
-
-pub shape_of-brackets-then-not-levels : goal.shape_of-brackets-then-not-levels
-shape_of-brackets-then-not-levels c =
-    let l = c.loop-phase in
-    let levels = c.ready-levels in
-    let kept : length levels.new.1.1.1.1.1.1.1.1.1.1.1.0 ≡ length l.brackets = levels.auto.1.1.1.1.1.1.1.1.1.1.1.0 in
-    kept ∙ l.invariant.1 ∙ c.put_count.auto.0 ∙ sym c.requires.0
-
 pub returns-then-not-levels : goal.returns-then-not-levels
 returns-then-not-levels c = (
   (λ scopes o le k. never (sym c.no_answer.ensures ∙ k)),
   (λ a. absurd (clash (not-true c.ready-levels.result.known c.if-not-levels.true)
       (passes (c.ready-levels.ensures.2 a)))),
 )
-
-pub shape_of-counts-then-stops-t : goal.shape_of-counts-then-stops-t
-shape_of-counts-then-stops-t c =
-    let l = c.loop-phase in
-    let levels = c.ready-levels in
-    let kept : length levels.last.1.1.1.1.1.1.1.1.1.1.0 ≡ length l.counts = levels.kept.1.1.1.1.1.1.1.1.1.1.0 in
-    kept ∙ l.inv.0 ∙ c.put_count.kept.0
-
-pub shape_of-brackets-then-stops-t : goal.shape_of-brackets-then-stops-t
-shape_of-brackets-then-stops-t c =
-    let l = c.loop-phase in
-    let levels = c.ready-levels in
-    let kept : length levels.last.1.1.1.1.1.1.1.1.1.1.1.0 ≡ length l.brackets = levels.kept.1.1.1.1.1.1.1.1.1.1.1.0 in
-    kept ∙ l.inv.1 ∙ c.put_count.kept.0 ∙ sym c.requires.0
 
 pub returns-then-stops-t : goal.returns-then-stops-t
 returns-then-stops-t c =
@@ -113,8 +85,8 @@ loop-phase-preserved c =
     let levels = c.ready-levels in
     let token = c.next_token-t in
     let effect = c.effect_at-e in
-    let kept : length levels.new.1.1.1.1.1.1.1.1.1.1.0 ≡ length l.counts = levels.auto.1.1.1.1.1.1.1.1.1.1.0 in
-    let kept-too : length levels.new.1.1.1.1.1.1.1.1.1.1.1.0 ≡ length l.brackets = levels.auto.1.1.1.1.1.1.1.1.1.1.1.0 in
+    let kept : length levels.new.counts ≡ length l.counts = levels.auto.counts in
+    let kept-too : length levels.new.brackets ≡ length l.brackets = levels.auto.brackets in
     let more = or-false c.stops.result (eqb token.result.kind 32) c.if-stops-t.false in
     rw (
       c.note_counts.ensures,
