@@ -61,10 +61,8 @@ returns-then-t-eq-RECV c =
 
 pub returns-then-t-eq-RETURN : goal.returns-then-t-eq-RETURN
 returns-then-t-eq-RETURN c =
-    let token =
-    c in
-    let g = token.before.before.args in
-    let nt = token.next-token.ensures in
+    let g = c.args in
+    let nt = c.next_token-t.ensures in
     let text = g.text.now in
     let same = kind-next text g.from _ nt in
     let kind = c.if-t-eq-RETURN.true in
@@ -74,10 +72,8 @@ returns-then-t-eq-RETURN c =
 
 pub returns : goal.returns
 returns c =
-    let token =
-    c in
-    let g = token.before.before.args in
-    let nt = token.next-token.ensures in
+    let g = c.args in
+    let nt = c.next_token-t.ensures in
     let text = g.text.now in
     let same = kind-next text g.from _ nt in
     simple-named text g.starts.now g.n g.from
