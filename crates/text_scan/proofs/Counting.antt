@@ -166,7 +166,7 @@ operator-neutral ts o =
     Q : Option Operator → Type 0
     Q x = x ≡ some o → Neutral ts (rest ts)
 
-none-counted : (ts : List Token) → After ")" ts (rest ts) → argument_count ts ≡ 0
+none-counted : (ts : List Token) {us : List Token} → After ")" ts us → argument_count ts ≡ 0
 unfolding argument_count kind_of mark_kind place_from
 none-counted ts (after e) = ap (λ (k : ℕ). cond (eqb k 20) 0 (count_from 0 1 ts)) (word-kind ")" (first ts) e)
 
