@@ -141,6 +141,8 @@ pub data RowsFor : Program → List Row → Type 0 where
 stand-listed : (ts : List Token) (ms : Program) (uss : List (List Token)) → Stand ts ms uss
     → RowsFor ms (each_method row_for ts (program_events ms uss))
 unfolding program_events each_method
+stand-listed ts [] (us ∷ uss) h = elim h [ ]
+stand-listed ts (m ∷ ms) [] h = elim h [ ]
 stand-listed ts [] [] none-stand = none-listed
 stand-listed ts (m ∷ ms) (us ∷ uss) (stand e s) =
     subst (RowsFor (m ∷ ms)) (sym (each-method row_for ts m us (program_events ms uss)))
@@ -165,6 +167,8 @@ module _ (text : List ℕ) (x : Name) where
 
   first-same : (ms : Program) (rs : List Row) → RowsFor ms rs → Same (first_named x ms) (row_of x.spelling rs)
   unfolding first_named row_of
+  first-same [] (r ∷ rs) h = elim h [ ]
+  first-same (m ∷ ms) [] h = elim h [ ]
   first-same [] [] none-listed = neither
   first-same (m ∷ ms) (r ∷ rs) (listed us e c f l) =
       subst (λ (y : Name). Same (first_named x (m ∷ ms))
@@ -178,6 +182,8 @@ module _ (text : List ℕ) (x : Name) where
 
   pub index_same : (ms : Program) (rs : List Row) → RowsFor ms rs → row_index x.spelling rs ≡ number_of ms x
   unfolding row_index number_of index_of
+  index_same [] (r ∷ rs) h = elim h [ ]
+  index_same (m ∷ ms) [] h = elim h [ ]
   index_same [] [] none-listed = refl
   index_same (m ∷ ms) (r ∷ rs) (listed us e c f l) =
       ap (λ (y : Name). cond (same x.spelling y.spelling) 0 (suc (row_index x.spelling rs))) e
@@ -198,6 +204,8 @@ module _ (text : List ℕ) (x : Name) where
   answers : (ms : Program) (f : Option Method) (o : Option Row) (found : Bool) (index at params : ℕ)
       → Same f o → Agrees text o found at params → first_named x ms ≡ f → index ≡ number_of ms x
       → MethodSays text ms x found index at params
+  answers ms none (some r) found index at params h _ e i = elim h [ ]
+  answers ms (some m) none found index at params h _ e i = elim h [ ]
   answers ms none none found index at params neither no-row e i =
       absent refl (first_of ms x ∙ e) (i ∙ none-index ms e)
   answers ms (some m) (some r) found index at params (both us c f) (agrees t) e i =
@@ -213,6 +221,8 @@ module _ (text : List ℕ) (x : Name) where
 
 -- there are as many rows as methods
 rows-counted : (ms : Program) (rs : List Row) → RowsFor ms rs → length rs ≡ length ms
+rows-counted [] (r ∷ rs) h = elim h [ ]
+rows-counted (m ∷ ms) [] h = elim h [ ]
 rows-counted [] [] none-listed = refl
 rows-counted (m ∷ ms) (r ∷ rs) (listed us e c f l) = ap suc (rows-counted ms rs l)
 
