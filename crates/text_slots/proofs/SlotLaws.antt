@@ -44,6 +44,7 @@ module _ (text scope : List ℕ) (start end : ℕ) where
 
     pub slot-here : Matches true
         → SlotAnswer text scope (suc k) start end (get_or scope (4 * k + 3) 0) (eqb (get_or scope (4 * k + 2) 0) 1)
+    slot-here m [] x h le e = elim h [ ]
     slot-here m (v ∷ sc) x (one_placed p ps) le e =
         let first = slot-first v sc x (by-test v x true m e p) in (
           p.slot ∙ first.0,
@@ -52,6 +53,7 @@ module _ (text scope : List ℕ) (start end : ℕ) where
 
     pub slot-outer : (slot : ℕ) (ends : Bool) → Matches false → SlotAnswer text scope k start end slot ends
         → SlotAnswer text scope (suc k) start end slot ends
+    slot-outer slot ends m a [] x h le e = elim h [ ]
     slot-outer slot ends m a (v ∷ sc) x (one_placed p ps) le e =
         let later = slot-later v sc x (by-test v x false m e p) in
         let outer = a sc x ps (omega arith) e in
