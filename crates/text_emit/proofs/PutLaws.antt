@@ -72,6 +72,7 @@ module _ (slot : ℕ) (e f r : Emit) (c₀ c₁ c₂ : List ℕ) where
 slot-words : (text scope : List ℕ) (n : ℕ) (sc : Scope) (k : ℕ) → Placing text scope n sc
     → get_or (map placed_slot sc) k 16 < 65536
 slot-words text scope n [] k nothing_placed = omega arith
+slot-words text scope zero (v ∷ sc) k h = elim h [ ]
 slot-words text scope (suc n) (v ∷ sc) zero (one_placed p q) = p.word
 slot-words text scope (suc n) (v ∷ sc) (suc k) (one_placed p q) = slot-words text scope n sc k q
 
