@@ -17,10 +17,8 @@ use Rattle.text_emit_block.proofs.code.+block_body_conditional_otherwise_repeate
 
 pub block-returns-then-not-d : goal.block-returns-then-not-d
 block-returns-then-not-d t c =
-    λ on ms m. let g =
-    c.args in
-    let long : length g.scope.now ≡ 64 =
-    c.words-arg-2-1.given in
+    λ on ms m. let g = c.args in
+    let long : length g.scope.now ≡ 64 = omega arith in
     block-many g.text.now g.n g.left g.e _ g.scope.now g.row.now g.code.now _ _ _ _ _ _ on long
     c.pass-open.ensures c.declarations-d.ensures _ _ _
     (not-true c.declarations-d.result.ok c.if-not-d.true) ms m
@@ -33,7 +31,7 @@ block-statements-requires t c =
 pub block-returns : goal.block-returns
 block-returns t c =
     λ on ms m. let g = c.args in
-    let long : length g.scope.now ≡ 64 = c.words-arg-2-1.given in
+    let long : length g.scope.now ≡ 64 = omega arith in
     block-ends g.text.now g.n g.left g.e _ g.scope.now g.row.now g.code.now _ _ _ _ _ _ on long
     c.pass-open.ensures c.declarations-d.ensures _ _ _ _ _ _
     (not-false c.declarations-d.result.ok c.if-not-d.false)
@@ -54,10 +52,8 @@ body-returns-then-left-eq0 t c =
 
 pub body-block-requires : goal.body-block-requires
 body-block-requires t c =
-    let g =
-    c.args in
-    let is : 7 * g.left ≡ t =
-    c.decreases in
+    let g = c.args in
+    let is : 7 * g.left ≡ t = c.decreases in
     let some = c.if-left-eq0.false in (
       omega arith,
       c.requires,
@@ -76,10 +72,8 @@ body-returns-then-kind-eq-OPEN_BRACE t c =
 
 pub body-unbraced-requires : goal.body-unbraced-requires
 body-unbraced-requires t c =
-    let g =
-    c.args in
-    let is : 7 * g.left ≡ t =
-    c.decreases in
+    let g = c.args in
+    let is : 7 * g.left ≡ t = c.decreases in
     let some = c.if-left-eq0.false in (
       omega arith,
       c.requires,
@@ -184,10 +178,8 @@ statement-returns-then-left-eq0 t c =
 
 pub statement-block-requires : goal.statement-block-requires
 statement-block-requires t c =
-    let g =
-    c.args in
-    let is : 7 * g.left + 4 ≡ t =
-    c.decreases in
+    let g = c.args in
+    let is : 7 * g.left + 4 ≡ t = c.decreases in
     let some = c.if-left-eq0.false in (
       omega arith,
       c.requires,
@@ -207,10 +199,8 @@ statement-returns-then-kind-eq-OPEN_BRACE t c =
 
 pub statement-unbraced-requires : goal.statement-unbraced-requires
 statement-unbraced-requires t c =
-    let g =
-    c.args in
-    let is : 7 * g.left + 4 ≡ t =
-    c.decreases in (
+    let g = c.args in
+    let is : 7 * g.left + 4 ≡ t = c.decreases in (
       omega
           arith,
       c.requires,
@@ -237,10 +227,8 @@ statements-loop-kind-init t c = (c.next_kind-kind.ensures, ((refl, refl), (λ r 
 
 pub statements-statement-s-requires : goal.statements-statement-s-requires
 statements-statement-s-requires t c =
-    let g =
-    c.args in
-    let is : 7 * g.left + 5 ≡ t =
-    c.decreases in
+    let g = c.args in
+    let is : 7 * g.left + 5 ≡ t = c.decreases in
     let long = c.requires.0 in
     let same = c.loop-kind.invariant.1.0.0 in (omega arith, (omega arith, c.requires.1))
 
@@ -308,10 +296,8 @@ statements-returns t c =
 
 pub unbraced-conditional-requires : goal.unbraced-conditional-requires
 unbraced-conditional-requires t c =
-    let g =
-    c.args in
-    let is : 7 * g.left + 3 ≡ t =
-    c.decreases in (
+    let g = c.args in
+    let is : 7 * g.left + 3 ≡ t = c.decreases in (
       omega arith,
       c.requires,
     )
@@ -327,10 +313,8 @@ unbraced-returns-then-kind-eq-IF t c =
 
 pub unbraced-repeated-requires : goal.unbraced-repeated-requires
 unbraced-repeated-requires t c =
-    let g =
-    c.args in
-    let is : 7 * g.left + 3 ≡ t =
-    c.decreases in (
+    let g = c.args in
+    let is : 7 * g.left + 3 ≡ t = c.decreases in (
       omega
           arith,
       c.requires,
