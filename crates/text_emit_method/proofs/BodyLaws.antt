@@ -48,6 +48,7 @@ too-many-of (too_many o h) t = h
 -- no variable stays in scope after a method
 none_kept : {text scope scope' : List ℕ} (m : ℕ) (sc : Scope) → m ≤ 0 → Placing text scope m sc
     → Placing text scope' m sc
+none_kept {text = text} {scope = scope} zero (_ ∷ _) h p = elim p [ ]
 none_kept zero [] h nothing_placed = nothing_placed
 none_kept (suc m) sc h p = absurd (omega arith)
 

@@ -100,6 +100,8 @@ record AtIndex (P : Name → Type 0) (num num' : Name → ℕ) (c d : List Instr
 alike_at : (P : Name → Type 0) (num num' : Name → ℕ) (c d : List Instruction) → AllAlike P num num' c d → (i : ℕ)
     → i < length c → AtIndex P num num' c d i
 unfolding nth
+alike_at P num num' [] (y ∷ d) h i l = elim h [ ]
+alike_at P num num' (x ∷ c) [] h i l = elim h [ ]
 alike_at P num num' [] [] all_done i l = absurd (omega arith)
 alike_at P num num' (x ∷ c) (y ∷ d) (and-more p q) zero l =
     record { left = x; right = y; stands = refl; stands' = refl; alike = p }

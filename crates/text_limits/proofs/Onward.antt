@@ -59,6 +59,7 @@ next-there text w at k total r l =
         → (m : Method) × (us : List Token) × (method_from (tokens_at text at) ≡ read m us)
         × (method_at w.program k ≡ some m)
     by [] ends s c f = absurd (omega (arith, c))
+    by (m ∷ rest) [] s c f = elim s [ ]
     by (m ∷ rest) (us ∷ ends) (stand e s) c f =
         (m, us, e, ap (method_at w.program) {x = k} {y = k + 0} (omega arith) ∙ f)
 
@@ -90,6 +91,7 @@ module _ (text : List ℕ) (at k total : ℕ) (h : MethodThere text at k) (next 
           → total + length (program_code ms rest) ≡ length (program_code ms ns)
           → LimitsUpTo text ns next (k + 1) (total + long)
       by [] ends s f c q z = absurd (omega (arith, c))
+      by (m ∷ rest) [] s f c q z = elim s [ ]
       by (m ∷ rest) (us ∷ ends) (stand e s) f c q z =
           let same : m ≡ h.method = same-tree m h.method us h.after (sym e ∙ h.here) in
           let left : us ≡ h.after = same_left m h.method us h.after (sym e ∙ h.here) in
@@ -117,6 +119,7 @@ module _ (text : List ℕ) (at k total : ℕ) (h : MethodThere text at k) (next 
           → k + length rest ≡ length ns → first_over ms 0 0 ns ≡ first_over ms k total rest
           → place_of (first_over ms 0 0 ns) ≡ some start
       by [] ends s c q = absurd (omega (arith, c))
+      by (m ∷ rest) [] s c q = elim s [ ]
       by (m ∷ rest) (us ∷ ends) (stand e s) c q =
           let same : m ≡ h.method = same-tree m h.method us h.after (sym e ∙ h.here) in
           ap place_of (q ∙ over-cases m rest false (ap (is_within k total ms) same ∙ sym a.answer))
