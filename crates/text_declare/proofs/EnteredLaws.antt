@@ -18,6 +18,8 @@ use Rattle.text_declare.specs.Entered.{Tables, tables, Fits, typed, Entered, Ent
 module _ (text s s' : List ℕ) where
   pub placing-kept : (m : ℕ) (sc : Scope) → ((i : ℕ) → i < 4 * m → get_or s' i 0 ≡ get_or s i 0) → Placing text s m sc
       → Placing text s' m sc
+  placing-kept zero (v ∷ sc) same h = elim h [ ]
+  placing-kept (suc m) [] same h = elim h [ ]
   placing-kept zero [] same nothing_placed = nothing_placed
   placing-kept (suc m) (v ∷ sc) same (one_placed p ps) =
       let w0 = same (4 * m) (omega arith) in

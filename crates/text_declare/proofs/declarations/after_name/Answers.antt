@@ -27,7 +27,7 @@ returns-then-not-first c =
     let w = c.expect-w.result in
     let e = c.enter-first in
     let full = not-true e.result.ok c.if-not-first.true in
-    let τ = tables e.new.0 e.result.n e.new.1.0 e.result.used in
+    let τ = tables e.new.scope e.result.n e.new.row e.result.used in
     variables-more g.text.now g.from g.name.start g.name.at g.code
     (tables g.scope.now g.n g.row.now g.used) τ τ e.ensures.1 (λ o. o) (λ o. not-both o full)
     (ap (λ (b : Bool). b && w.ok) (sym
@@ -41,7 +41,7 @@ returns c =
     let w = c.expect-w.result in
     let e = c.enter-first in
     let there = not-false e.result.ok c.if-not-first.false in
-    let υ = tables e.new.0 e.result.n e.new.1.0 e.result.used in
+    let υ = tables e.new.scope e.result.n e.new.row e.result.used in
     variables-more g.text.now g.from g.name.start g.name.at g.code
     (tables g.scope.now g.n g.row.now g.used) _ υ e.ensures.1 (λ o. not-both there o)
     (λ o. c.more_names.ensures) (ap (λ (b : Bool). b && w.ok) (sym

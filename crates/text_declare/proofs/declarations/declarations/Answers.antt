@@ -21,7 +21,7 @@ returns-then-not-d c =
     let d = c.declaration-d in
     let starts = sym l.invariant.0 ∙ c.loop-more-test.true in
     let left = not-true d.result.ok c.if-not-d.true in
-    let τ = tables d.new.1 d.result.n d.new.1.1.1.0 d.result.used in
+    let τ = tables d.new.scope d.result.n d.new.row d.result.used in
     l.invariant.1 _ _ τ
     (declarations-on g.text.now l.at (tables l.scope l.many l.row l.given) τ τ starts d.ensures
     (λ o. o) (λ o. not-both o left))
@@ -42,7 +42,7 @@ loop-more-preserved c =
     let d = c.declaration-d in
     let starts = sym l.invariant.0 ∙ c.loop-more-test.true in
     let there = not-false d.result.ok c.if-not-d.false in
-    let υ = tables d.new.1 d.result.n d.new.1.1.1.0 d.result.used in (
+    let υ = tables d.new.scope d.result.n d.new.row d.result.used in (
       c.starts_type-more-in-loop-more.ensures ∙ ap starts_kind c.next_kind-kind.ensures,
       (λ ok a τ s. l.invariant.1 ok a τ
           (declarations-on g.text.now l.at (tables l.scope l.many l.row l.given) υ τ starts

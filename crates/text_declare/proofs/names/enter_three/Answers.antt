@@ -12,7 +12,7 @@ pub returns-then-not-c : goal.returns-then-not-c
 returns-then-not-c c =
     let g = c.args in
     let e = c.enter-c in
-    let τ = tables e.new.0 e.result.n e.new.1.0 e.result.used in
+    let τ = tables e.new.scope e.result.n e.new.row e.result.used in
     let full = not-true e.result.ok c.if-not-c.true in
     three-enter g.channel.start g.channel.at g.zero.start g.zero.at g.one.start g.one.at
     g.code (g.code + 16) (tables g.scope.now g.n g.row.now g.used) τ τ τ {r = false} (λ l. refl)
@@ -23,8 +23,8 @@ returns-then-not-a c =
     let g = c.args in
     let e = c.enter-c in
     let f = c.enter-a in
-    let υ = tables e.new.0 e.result.n e.new.1.0 e.result.used in
-    let τ = tables f.new.0 f.result.n f.new.1.0 f.result.used in
+    let υ = tables e.new.scope e.result.n e.new.row e.result.used in
+    let τ = tables f.new.scope f.result.n f.new.row f.result.used in
     let there = not-false e.result.ok c.if-not-c.false in
     let full = not-true f.result.ok c.if-not-a.true in
     three-enter g.channel.start g.channel.at g.zero.start g.zero.at g.one.start g.one.at
@@ -40,9 +40,9 @@ returns c =
     let e = c.enter-c in
     let f = c.enter-a in
     let h = c.enter in
-    let υ = tables e.new.0 e.result.n e.new.1.0 e.result.used in
-    let ω = tables f.new.0 f.result.n f.new.1.0 f.result.used in
-    let τ = tables h.new.0 h.result.n h.new.1.0 h.result.used in
+    let υ = tables e.new.scope e.result.n e.new.row e.result.used in
+    let ω = tables f.new.scope f.result.n f.new.row f.result.used in
+    let τ = tables h.new.scope h.result.n h.new.row h.result.used in
     three-enter g.channel.start g.channel.at g.zero.start g.zero.at g.one.start g.one.at
     g.code c.end_code-end.result (tables
     g.scope.now g.n g.row.now g.used) υ ω τ

@@ -20,7 +20,7 @@ returns-then-not-name c =
     let e = c.enter_name-name in
     let kind = sym l.invariant.0 ∙ c.loop-kind-test.true in
     let left = not-true e.result.ok c.if-not-name.true in
-    let τ = tables e.new.1 e.result.n e.new.1.1.1.0 e.result.used in
+    let τ = tables e.new.scope e.result.n e.new.row e.result.used in
     l.invariant.1 _ _ τ
     (names-on g.text.now l.at g.code (tables l.scope l.many l.row l.given) τ τ kind
     c.expect-comma.ensures e.ensures (λ o. o) (λ o. not-both o left))
@@ -44,7 +44,7 @@ loop-kind-preserved c =
     let e = c.enter_name-name in
     let kind = sym l.invariant.0 ∙ c.loop-kind-test.true in
     let there = not-false e.result.ok c.if-not-name.false in
-    let υ = tables e.new.1 e.result.n e.new.1.1.1.0 e.result.used in (
+    let υ = tables e.new.scope e.result.n e.new.row e.result.used in (
       c.next_kind-kind-in-loop-kind.ensures,
       (λ ok a τ s. l.invariant.1 ok a τ
           (names-on g.text.now l.at g.code (tables l.scope l.many l.row l.given) υ τ kind

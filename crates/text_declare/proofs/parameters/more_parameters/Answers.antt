@@ -20,7 +20,7 @@ returns-then-not-p c =
     let e = c.parameter-p in
     let kind = sym l.invariant.0 ∙ c.loop-kind-test.true in
     let left = not-true e.result.ok c.if-not-p.true in
-    let τ = tables e.new.1 e.result.n e.new.1.1.1.0 e.result.used in
+    let τ = tables e.new.scope e.result.n e.new.row e.result.used in
     l.invariant.1 _ _ τ
     (rest-on g.text.now l.at (tables l.scope l.many l.row l.given) τ τ kind
     c.expect-comma.ensures e.ensures (λ o. o) (λ o. not-both o left))
@@ -44,7 +44,7 @@ loop-kind-preserved c =
     let e = c.parameter-p in
     let kind = sym l.invariant.0 ∙ c.loop-kind-test.true in
     let there = not-false e.result.ok c.if-not-p.false in
-    let υ = tables e.new.1 e.result.n e.new.1.1.1.0 e.result.used in (
+    let υ = tables e.new.scope e.result.n e.new.row e.result.used in (
       c.next_kind-kind-in-loop-kind.ensures,
       (λ ok a τ s. l.invariant.1 ok a τ
           (rest-on g.text.now l.at (tables l.scope l.many l.row l.given) υ τ kind

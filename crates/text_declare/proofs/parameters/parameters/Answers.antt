@@ -16,7 +16,7 @@ returns-then-not-p c =
     let g = c.args in
     let p = c.parameter-p in
     let left = not-true p.result.ok c.if-not-p.true in
-    let τ = tables p.new.1 p.result.n p.new.1.1.1.0 p.result.used in
+    let τ = tables p.new.scope p.result.n p.new.row p.result.used in
     parameters-some g.text.now g.from (tables g.scope.now g.n g.row.now g.used) τ τ
     c.if-close.false
     c.expect-close.ensures p.ensures (λ o. o) (λ o. not-both o left)
@@ -25,7 +25,7 @@ pub returns : goal.returns
 returns c =
     let g = c.args in
     let p = c.parameter-p in
-    let υ = tables p.new.1 p.result.n p.new.1.1.1.0 p.result.used in
+    let υ = tables p.new.scope p.result.n p.new.row p.result.used in
     let there = not-false p.result.ok c.if-not-p.false in
     parameters-some g.text.now g.from (tables g.scope.now g.n g.row.now g.used) υ _
     c.if-close.false

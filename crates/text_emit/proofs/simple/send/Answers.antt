@@ -4,7 +4,7 @@ use Rattle.text_emit.proofs.SimpleLaws.{send-emits}
 use Rattle.text_emit.proofs.simple.send.Goals as goal
 
 pub shape_of-pending : goal.shape_of-pending
-shape_of-pending c = c.expression-v.auto.1.1.1.1.0 ∙ c.expression-x.auto.1.1.1.1.0
+shape_of-pending c = c.expression-v.auto.pending ∙ c.expression-x.auto.pending
 
 pub returns : goal.returns
 returns c =

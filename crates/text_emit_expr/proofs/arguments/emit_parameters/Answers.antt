@@ -27,7 +27,7 @@ emit_expression-u-requires c =
     let l = c.loop-r in
     let both = comma-follows l.r.ok l.t.kind c.loop-r-test.true in
     let on = comma-onward g.text.now g.scope.now g.n l.code l.r l.t l.invariant.0 both.1 in
-    (on.1, omega (arith, l.invariant.4, c.emit_expression-r.auto.1.1.1.1.0, c.requires.1), l.invariant.3)
+    (on.1, omega (arith, l.invariant.4, c.emit_expression-r.auto.pending, c.requires.1), l.invariant.3)
 
 pub loop-r-smaller : goal.loop-r-smaller
 loop-r-smaller c =
@@ -55,8 +55,8 @@ loop-r-preserved c =
           c.loop-r-test.true c.emit_expression-u.ensures.0),
       c.emit_expression-u.ensures.2,
       c.emit_expression-u.ensures.3,
-      omega (arith, l.invariant.4, c.emit_expression-u.auto.1.1.1.1.0),
-      omega (arith, l.invariant.5, c.emit_expression-u.auto.1.1.1.1.1.0),
+      omega (arith, l.invariant.4, c.emit_expression-u.auto.pending),
+      omega (arith, l.invariant.5, c.emit_expression-u.auto.code),
       omega arith,
     )
 

@@ -26,7 +26,7 @@ loop-class-preserved c =
     let few = c.loop-class-test.true in
     let l = c.loop-class in
     let here = c.lowest_in-p in (
-      here.auto.1.1.0 ∙ l.invariant.0,
+      here.auto.words ∙ l.invariant.0,
       (
         omega arith,
         next-class c.args.text.now l.class l.found l.low here.result.found

@@ -41,7 +41,7 @@ pub loop-kind-preserved : goal.loop-kind-preserved
 loop-kind-preserved c =
     scan-goes c.loop-kind.invariant c.loop-kind-test.true _ c.next_token-u.ensures
     c.role-r.ensures c.in_class-mine.ensures c.role_if-asked.ensures
-    c.fault_here-fault.ensures c.declared_if.ensures c.open_after-n.auto.0
+    c.fault_here-fault.ensures c.declared_if.ensures c.open_after-n.auto.words
     c.open_after-n.ensures c.lower_place-low.ensures c.from_after-from.ensures
     c.index_after-index.ensures c.mode_after-mode.ensures c.braces_after-braces.ensures
     c.keeps.ensures c.kind_if-kind.ensures

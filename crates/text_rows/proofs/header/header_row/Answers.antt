@@ -22,6 +22,6 @@ returns c =
     let g = c.args in
     let t = c.return_type-t in
     λ m us e. every-at _ m us e
-    (header-noted g.text.now g.at t.result.code c.parameter_types.new.1 t.ensures
+    (header-noted g.text.now g.at t.result.code c.parameter_types.new.row t.ensures
     c.expect_after-name.ensures
     c.expect_after-open.ensures (λ o. c.parameter_types.ensures))

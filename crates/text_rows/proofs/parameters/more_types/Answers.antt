@@ -47,7 +47,7 @@ loop-kind-preserved c =
     let kind = sym l.invariant.0 ∙ c.loop-kind-test.true in (
       c.next_kind-kind-in-loop-kind.ensures,
       (λ after s. l.invariant.1 after
-          (rest_more g.text.now l.at p.result.code l.row c.note.new.0 after kind
+          (rest_more g.text.now l.at p.result.code l.row c.note.new.row after kind
           c.expect-comma.ensures
           p.ensures (λ o. c.note.ensures) (λ o. s))),
     )

@@ -22,8 +22,8 @@ pub returns : goal.returns
 returns c =
     let g = c.args in
     let p = c.parameter_type-p in
-    some-noted g.text.now g.from p.result.code g.row.now c.note.new.0
-    c.more_types.new.1
+    some-noted g.text.now g.from p.result.code g.row.now c.note.new.row
+    c.more_types.new.row
     c.if-close.false
     c.expect-close.ensures p.ensures
     (λ o. c.note.ensures) (λ o. c.more_types.ensures)
