@@ -5,8 +5,8 @@ usage: python3 tools/respell.py            at the top of a repository that port.
 
 A name in lower camel case is written in snake case, part by part, in crates/*/specs, crates/*/proofs, the clauses of
 crates/*/src, the must-fail edits, and in backticks in README.md and docs/. Functions of src/, types and modules keep
-their names: they have no such spelling. Lemmas that would then have a definition's name are written with the dash that
-they had.
+their names: they have no such spelling. What stands in double quotes, the words of the language among them, stays as it
+is. Lemmas that would then have a definition's name are written with the dash that they had.
 """
 
 import os
@@ -14,6 +14,7 @@ import re
 import sys
 
 WORD = re.compile(r"[A-Za-zμ_][\w'-]*")
+QUOTED = re.compile(r'"[^"\n]*"')
 CAMEL = re.compile(r"^[a-z][a-z0-9]*[A-Z]")
 
 # Lemmas and constructors of proofs/ and specs/ that differ from a definition only in how two words are joined.
@@ -33,6 +34,15 @@ def snake(name):
 
 def is_camel(name):
     return any(CAMEL.match(p) for p in re.split(r"[-_]", name))
+
+
+def respelled(text, names):
+    """The text with the names respelled, but for what stands in double quotes."""
+    out, at = [], 0
+    for q in QUOTED.finditer(text):
+        out += [WORD.sub(lambda m: names.get(m[0], m[0]), text[at : q.start()]), q[0]]
+        at = q.end()
+    return "".join(out) + WORD.sub(lambda m: names.get(m[0], m[0]), text[at:])
 
 
 def files(root, endings):
@@ -61,12 +71,14 @@ def main():
             for w in WORD.findall(f.read()):
                 if is_camel(w):
                     names[w] = snake(w)
+    # a word of the language of texts
+    names.pop("channelEnd", None)
     count = 0
     for p in files(root, (".antt", ".rt", ".edit")):
         with open(p, encoding="utf-8") as f:
             text = f.read()
         new = dashed(p, text) if p.endswith(".antt") else text
-        new = WORD.sub(lambda m: names.get(m[0], m[0]), new)
+        new = respelled(new, names)
         if new != text:
             count += 1
             with open(p, "w", encoding="utf-8") as f:

@@ -45,19 +45,19 @@ mutual
     -- "value"
     number : ℕ → Expr
     truth : Bool → Expr
-    -- "variable_name"
+    -- "variableName"
     variable : Name → Expr
-    -- "assignment ::= variable_name = expr"
+    -- "assignment ::= variableName = expr"
     assignment : Name → Expr → Expr
-    -- "indiv_expr (op expr)?"
+    -- "indivExpr (op expr)?"
     operation : Operator → Expr → Expr → Expr
-    -- "method_call ::= method_name (method_params?)"
+    -- "methodCall ::= methodName (methodParams?)"
     method_call : Name → Exprs → Expr
-    -- "measurement ::= measure (basis_name (, variable_name)+)"; Paper 1: "StdBasis with one variable"
+    -- "measurement ::= measure (basisName (, variableName)+)"; Paper 1: "StdBasis with one variable"
     measurement : Name → Expr
     -- "recv ::= recv ( expr )"
     reception : Expr → Expr
-    -- "new non_dup_type ()"
+    -- "new nonDupType ()"
     new_qubit : Expr
     new_channel : Carried → Expr
     new_end : Carried → Expr
@@ -68,9 +68,9 @@ mutual
 
 -- one_var_decl; "no aliasfor yet"
 pub data Declaration : Type 0 where
-  -- "non_void_type variable_name (, variable_name)*"
+  -- "nonVoidType variableName (, variableName)*"
   variables : NonVoidType → List Name → Declaration
-  -- "channel_type variable_name withends [ variable_name , variable_name ]"
+  -- "channelType variableName withends [ variableName , variableName ]"
   withends : Carried → Name → Name → Name → Declaration
 
 -- code, and the code* of a block
@@ -79,15 +79,15 @@ mutual
     -- "; alone"
     skip : Statement
     assign : Name → Expr → Statement
-    -- "method_call ;" and "quantum_op ;": "the gates by name unless a method has it"
+    -- "methodCall ;" and "quantumOp ;": "the gates by name unless a method has it"
     invoke : Name → Exprs → Statement
     measure : Name → Statement
     receive : Expr → Statement
-    -- "fork ::= fork method_call", "send ::= send ( expr , expr )", "return ::= return expr"
+    -- "fork ::= fork methodCall", "send ::= send ( expr , expr )", "return ::= return expr"
     fork : Name → Exprs → Statement
     send : Expr → Expr → Statement
     give : Expr → Statement
-    -- "block ::= { var_declaration code* }"
+    -- "block ::= { varDeclaration code* }"
     block : List Declaration → Statements → Statement
     -- "if ::= if ( expr ) code ( else code)?", "while ::= while ( expr ) code"
     conditional : Expr → Statement → Statement
@@ -98,12 +98,12 @@ mutual
     done : Statements
     next : Statement → Statements → Statements
 
--- "method_decl_param ::= non_void_type param_name"
+-- "methodDeclParam ::= nonVoidType paramName"
 pub record Parameter : Type 0 where
   pub type : NonVoidType
   pub name : Name
 
--- "method ::= method_header block", "method_header ::= type method_name ( method_decl_param_list? )"; void is no type
+-- "method ::= methodHeader block", "methodHeader ::= type methodName ( methodDeclParamList? )"; void is no type
 pub record Method : Type 0 where
   pub returns : Option NonVoidType
   pub name : Name
