@@ -40,7 +40,7 @@ pub one-qubit-translated : Translated 67 one-qubit
 unfolding text-opened
 one-qubit-translated = record { names = refl; limits = refl }
 
--- int bob(channel_end[qbit] e) { qbit q; q = recv(e); return measure(StdBasis, q); }
+-- int bob(channelEnd[qbit] e) { qbit q; q = recv(e); return measure(StdBasis, q); }
 -- void main() { channel[qbit] c withends [a, b]; c = new channel[qbit](); fork bob(b); send(a, new qbit()); }
 abbrev pub two-stations : Program
 two-stations =

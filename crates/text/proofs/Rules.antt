@@ -135,7 +135,7 @@ module _ (ms : Program) (outcomes : List ℕ) (w : Stand ms) (ts : List Term)
       both_cond ms outcomes (ltb c.channels 16)
       (λ e. both-make (channel c.channels) (after-like (ref (channel c.channels) ∷ w.values))) (both-fault 21)
 
-  -- new channel_end[T](), which neither side has a rule for
+  -- new channelEnd[T](), which neither side has a rule for
   pub no-op-like : Does ms outcomes w ts callers c 0 0 0 alloc_end
   unfolding doing_of doings do_nothing rule
   no-op-like = both-stuck

@@ -34,7 +34,7 @@ pub data Move : Type 0 where
   -- measure(StdBasis, •) (OP-DOMEASURE), recv(•) (OP-SENDRECV)
   measure_it : Move
   receive_it : Move
-  -- new qbit() (OP-ALLOCQ), new channel[T]() (OP-ALLOCC), new channel_end[T](), for which 000 has no rule
+  -- new qbit() (OP-ALLOCQ), new channel[T]() (OP-ALLOCC), new channelEnd[T](), for which 000 has no rule
   alloc_qubit : Move
   alloc_channel : Move
   alloc_end : Move
