@@ -21,7 +21,7 @@ pub record Name : Type 0 where
 abbrev pub spells : Name → Name → Bool
 spells x y = same x.spelling y.spelling
 
--- "01's types": "T is 1, 2 or 3", then non_void_type ::= int | boolean | qbit | channel [T] | channel_end [T]
+-- "01's types": "T is 1, 2 or 3", then nonVoidType ::= int | boolean | qbit | channel [T] | channelEnd [T]
 pub data Carried : Type 0 where
   int_type : Carried
   boolean_type : Carried
