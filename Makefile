@@ -1,6 +1,7 @@
 # The LanQ process machine.
 #
-#     make                       proves and builds the library, static and shared, and builds the command, target/bin/lanq
+#     make                       proves and builds the library, static and shared, and builds the command, target/bin/lanq;
+#                                with JOBS=N, N crates are proved at a time
 #     make test                  the gate, .ci/run
 #     make install PREFIX=DIR    puts these below DIR, /usr/local unless said: header, libraries, pkg-config files, the command,
 #                                and the sources of the Rust crate and of the Python package in DIR/share/lanq
@@ -8,14 +9,16 @@
 PREFIX ?= /usr/local
 DESTDIR ?=
 
+# One crate for each processor, as far as there are 4 GB for each.
+JOBS ?= $(shell awk -v n="$$(nproc)" '/^MemAvailable:/ { m = int($$2 / 4000000); print m < 1 ? 1 : m < n ? m : n }' /proc/meminfo)
+
 LIBRARY := target/staticlib/liblanq.a
 SHARED := target/lib/liblanq.so
 COMMAND := target/bin/lanq
 VERSION := $(shell sed -n 's/^.define LANQ_VERSION "\(.*\)"/\1/p' include/lanq.h)
-NEEDED := $(shell sed -n 's/^lanq: //p' crates.txt)
 MAJOR := $(firstword $(subst ., ,$(VERSION)))
 SONAME := liblanq.so.$(MAJOR)
-PROVED := crates.txt $(shell find crates -name '*.rt' -o -name '*.antt')
+PROVED := crates.txt $(shell find crates -name out -prune -o \( -name '*.rt' -o -name '*.antt' \) -print)
 RUST := $(shell find rust -name target -prune -o \( -name '*.rs' -o -name 'Cargo.*' \) -print)
 PYTHON := pyproject.toml README.md backend/lanq_build.py $(patsubst python/%,%,$(wildcard python/lanq/*.py)) lanq/py.typed
 
@@ -33,11 +36,13 @@ shared: $(SHARED)
 
 command: $(COMMAND)
 
-# Every crate that the library is built from is proved, unless it is proved as it stands. rt check proves crates that do
-# not depend on each other at the same time; rt staticlib would prove them one after the other, and finds them proved.
+# Every crate is proved, unless it is proved as it stands. rt all check proves crates that do not depend on each other at the
+# same time; rt lib would prove those below lanq one after the other, and finds them proved.
 $(LIBRARY): $(PROVED)
-	rt check $(NEEDED)
-	rt staticlib lanq
+	rt all check --jobs $(JOBS)
+	cd crates/lanq && rt lib
+	mkdir -p $(@D)
+	new=$@.$$$$; cp crates/lanq/out/liblanq.a $$new && mv $$new $@
 
 # The shared library has the objects of the static one, all of them, and nothing else: what is called is what was proved.
 $(SHARED): $(LIBRARY) include/lanq.h Makefile
