@@ -1,4 +1,4 @@
-//! Links the proved library. `rt staticlib lanq`, at the repository's root,
+//! Links the proved library. `make library`, at the repository's root,
 //! writes it; `make install` puts it beside these sources, and the variable
 //! LANQ_LIB_DIR says where else it is.
 
@@ -15,7 +15,7 @@ fn main() {
     };
     let Some(folder) = folders.iter().find(|folder| folder.join("liblanq.a").exists()) else {
         let folders: Vec<String> = folders.iter().map(|folder| folder.display().to_string()).collect();
-        panic!("liblanq.a is not in {}: run `rt staticlib lanq` first, or set LANQ_LIB_DIR", folders.join(" or "));
+        panic!("liblanq.a is not in {}: run `make library` first, or set LANQ_LIB_DIR", folders.join(" or "));
     };
     println!("cargo:rerun-if-changed={}", folder.join("liblanq.a").display());
     println!("cargo:rustc-link-search=native={}", folder.display());

@@ -29,11 +29,11 @@ fn the_model_prints_the_examples() {
 #[test]
 fn the_program_prints_the_examples() {
     for example in examples() {
-        let mut program = Command::new(repository("target/bin/print_run"))
+        let mut program = Command::new(repository("crates/print_run/out/print_run"))
             .stdin(Stdio::piped())
             .stdout(Stdio::piped())
             .spawn()
-            .expect("target/bin/print_run is there once the crates are proved");
+            .expect("crates/print_run/out/print_run is there once the crates are proved");
         let mut input = program.stdin.take().expect("its standard input is open");
         input.write_all(&bytes(&example.text)).expect("it reads a whole file");
         drop(input);

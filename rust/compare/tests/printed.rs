@@ -9,7 +9,7 @@ use generate::{case, file};
 
 /// Where `rt` puts the program.
 fn program() -> PathBuf {
-    PathBuf::from(env!("CARGO_MANIFEST_DIR")).join("../../target/bin/print_run")
+    PathBuf::from(env!("CARGO_MANIFEST_DIR")).join("../../crates/print_run/out/print_run")
 }
 
 /// What the program prints for a file.
@@ -18,7 +18,7 @@ fn printed(file: &[u8]) -> String {
         .stdin(Stdio::piped())
         .stdout(Stdio::piped())
         .spawn()
-        .expect("target/bin/print_run is there once the crates are proved");
+        .expect("crates/print_run/out/print_run is there once the crates are proved");
     let mut input = child.stdin.take().unwrap();
     let bytes = file.to_vec();
     // A file that is too long is not read to its end.
