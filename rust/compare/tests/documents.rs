@@ -206,7 +206,7 @@ fn every_name_of_the_library_is_explained() {
             let line = line.strip_prefix("ghost ").unwrap_or(line).trim_end_matches(';');
             let Some(used) = line.strip_prefix("use ") else { continue };
             let Some((module, names)) = used.split_once(".{") else { continue };
-            if !["Prim.", "lib.", "mathlib."].iter().any(|library| module.starts_with(library)) {
+            if !["Prim.", "lib.", "mathlib.", "Rattle.std."].iter().any(|library| module.starts_with(library)) {
                 continue;
             }
             for name in names.trim_end_matches('}').split(", ") {
