@@ -2,6 +2,7 @@
 use native.Mathlib.Omega.{arith}
 use lib.ListN.{get_or}
 use borrow.Author.Tests.{not-false}
+use borrow.Author.Rules.{rules}
 use Rattle.run_burst.proofs.AtOnce.{taken}
 use Rattle.run_burst.proofs.consecutive.take_consecutive.Goals as goal
 
@@ -14,7 +15,7 @@ pub returns : goal.returns
 returns c = (
   taken c.args.p.now c.args.schedule.now c.args.work.now c.requires.1
       (get_or c.args.schedule.now c.args.k 0) (omega (arith, c.if-n-ge8.false)) c.args.known
-      c.if-known.false
+      (search rules)
       c.stretch.ensures.0 c.stretch.ensures.1,
   c.stretch.ensures.2,
 )

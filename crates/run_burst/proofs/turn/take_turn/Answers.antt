@@ -1,5 +1,6 @@
 -- `take_turn` goes by how far the entry comes.
 use mathlib.Core.Path.{refl}
+use borrow.Author.Rules.{rules}
 use Rattle.run_single.specs.declared.result.Progress.TheVariants.{Unable, Taken, Full}
 use Rattle.run_burst.specs.TurnCode.{end_after, known_after}
 use Rattle.run_burst.proofs.Returns.{turn_is}
@@ -11,7 +12,7 @@ returns-in-Full c =
     let args = c.args in
     turn_is args.p.now args.outcomes.now args.trace.now args.work.now args.room args.t.now
     args.g args.n args.step args.offer args.known c.named_entry-m.ensures
-    Full c.in-Full.is refl c.nothing_known.ensures
+    Full c.in-Full.is refl (search rules)
 
 pub returns-in-Taken : goal.returns-in-Taken
 unfolding end_after known_after
@@ -19,7 +20,7 @@ returns-in-Taken c =
     let args = c.args in
     turn_is args.p.now args.outcomes.now args.trace.now args.work.now args.room args.t.now
     args.g args.n args.step args.offer args.known c.named_entry-m.ensures
-    Taken c.in-Taken.is refl c.known_after_entry.ensures
+    Taken c.in-Taken.is refl (search rules)
 
 pub returns-in-Unable : goal.returns-in-Unable
 unfolding end_after known_after
@@ -27,4 +28,4 @@ returns-in-Unable c =
     let args = c.args in
     turn_is args.p.now args.outcomes.now args.trace.now args.work.now args.room args.t.now
     args.g args.n args.step args.offer args.known c.named_entry-m.ensures
-    Unable c.in-Unable.is c.ending.ensures c.with_idle.ensures
+    Unable c.in-Unable.is (search rules) (search rules)
