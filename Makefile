@@ -37,9 +37,10 @@ shared: $(SHARED)
 command: $(COMMAND)
 
 # Every crate is proved, unless it is proved as it stands. rt all check proves crates that do not depend on each other at the
-# same time; rt lib would prove those below lanq one after the other, and finds them proved.
+# same time; rt lib would prove those below lanq one after the other, and finds them proved. At the repository's top rt would
+# also look through rust/ and target/, and stop at a link there.
 $(LIBRARY): $(PROVED)
-	rt all check --jobs $(JOBS)
+	cd crates && rt all check --jobs $(JOBS)
 	cd crates/lanq && rt lib
 	mkdir -p $(@D)
 	new=$@.$$$$; cp crates/lanq/out/liblanq.a $$new && mv $$new $@

@@ -4,6 +4,7 @@
 
 use std::collections::BTreeSet;
 use std::fs;
+use std::ops::Deref;
 use std::path::{Path, PathBuf};
 use std::process::{Command, Output};
 
@@ -18,12 +19,29 @@ fn done(command: &mut Command) -> Output {
     output
 }
 
-/// A fresh folder for one test.
-fn folder(name: &str) -> PathBuf {
+/// A folder for one test, gone after it: `rt ci` takes no checkout with a link in it, as
+/// the one to the shared library.
+struct Folder(PathBuf);
+
+impl Deref for Folder {
+    type Target = Path;
+
+    fn deref(&self) -> &Path {
+        &self.0
+    }
+}
+
+impl Drop for Folder {
+    fn drop(&mut self) {
+        let _ = fs::remove_dir_all(&self.0);
+    }
+}
+
+fn folder(name: &str) -> Folder {
     let place = Path::new(env!("CARGO_TARGET_TMPDIR")).join(name);
     let _ = fs::remove_dir_all(&place);
     fs::create_dir_all(&place).expect("a folder");
-    place
+    Folder(place)
 }
 
 /// Calls make with some targets; the library is taken as it stands, not proved anew.
