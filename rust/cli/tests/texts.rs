@@ -428,6 +428,13 @@ fn words_of_types() {
             "",
         ),
         (
+            "void main() { channelEnd[int] e; e = new channelEnd[int](); }",
+            "an end comes with its channel, by withends, and is not made by itself",
+            "1:34",
+            "",
+        ),
+        ("void main() { int a; a = 1; if (a) a = true; }", "`if` takes a boolean, and `a` is int", "1:29", "boolean int"),
+        (
             &long,
             "the methods up to and with `main` have 4099 instructions, and a table has at most 4096",
             "2:9557",
