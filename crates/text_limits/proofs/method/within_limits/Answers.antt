@@ -36,7 +36,7 @@ method_kept-requires c = (method-here _ _ _ _ _ _ c.requires.0 0 0 c.if-row-gt8.
 
 pub returns : goal.returns
 returns c =
-    λ h. by_code _ _ _ _ _ _ h c.args.before c.args.total c.if-before-ge32.false c.if-total-m-gt4096.false
+    λ h. by_code _ _ _ _ _ _ h c.args.before c.args.total (omega arith) c.if-total-m-gt4096.false
     c.if-row-gt8.false (sym c.main_kept.ensures ∙ not-false _ c.if-not-main_kept.false-raw) _
     (c.method_kept.ensures
     (method-here _ _ _ _ _ _ h c.args.before c.args.total c.if-row-gt8.false))
