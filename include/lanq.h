@@ -1,5 +1,5 @@
-/* The LanQ process machine: its C interface. Link liblanq.a, or liblanq.so, which is made of the same objects; once
- * `make install` has put them in place, `pkg-config --cflags --libs lanq` has the flags, and `lanq-shared` those of the other.
+/* The LanQ process machine: its C interface. Link liblanq.a; `pkg-config --cflags --libs lanq` has the flags once
+ * `make install` has put it in place.
  *
  * The machine runs a program on a schedule, which names the process that moves next, with a list of measurement outcomes.
  * It writes a trace and leaves the final configuration in a work store. docs/MACHINE.md says what it does. A program is a
@@ -21,12 +21,10 @@
 extern "C" {
 #endif
 
-/* The version, which is also that of the command and of the Rust and Python packages. The first number rises where a program
- * has to be changed for it. */
+/* The version of this interface. The first number rises where a program has to be changed for it. */
 #define LANQ_VERSION_MAJOR 0
-#define LANQ_VERSION_MINOR 4
-#define LANQ_VERSION_PATCH 0
-#define LANQ_VERSION "0.4.0"
+#define LANQ_VERSION_MINOR 3
+#define LANQ_VERSION "0.3"
 
 /* ---- Sizes ---- */
 
@@ -50,18 +48,6 @@ enum LanqLimit {
   LANQ_MOST_QUBITS = 32,
   LANQ_MOST_CHANNELS = 16,
   LANQ_MOST_ENTRIES = 65535
-};
-
-/* ---- The stack ----
- *
- * What a call takes of the stack at most, in bytes from the call on, whatever its inputs: a thread's stack has to have so
- * much left. A test runs each function on a stack of this size. */
-enum LanqStack {
-  LANQ_STACK_CHECK = 8192,       /* lanq_check */
-  LANQ_STACK_RUN = 8192,         /* lanq_run */
-  LANQ_STACK_TRANSLATE = 491520, /* lanq_translate: 480 kB */
-  LANQ_STACK_RUN_TEXT = 524288,  /* lanq_run_text: 512 kB; with less, translate elsewhere and call lanq_run */
-  LANQ_STACK_READ = 4096         /* lanq_holder, lanq_stored_holder, lanq_same_lines */
 };
 
 /* ---- The program table ----
@@ -262,13 +248,13 @@ typedef struct {
  * other words are as they were. Where `words` > `table_len`, the buffer is too short and every word of it is as it was; a
  * `table_len` of 0 asks for the number of words alone. After a refusal every word is as it was, too.
  *
- * Lengths count elements: `text_len` bytes, `table_len` words of 16 bits. The buffer must not overlap the text. The stack has
- * to have LANQ_STACK_TRANSLATE bytes left. */
+ * Lengths count elements: `text_len` bytes, `table_len` words of 16 bits. The buffer must not overlap the text. This
+ * function and lanq_run_text use less than a megabyte of the stack, whatever the text. */
 LanqTable lanq_translate(const uint8_t *text, size_t text_len, uint16_t *table, size_t table_len);
 
 /* Runs a LanQ text. It puts 30, 31 and 32 to the text and then questions 1 to 8; where none says no, it leaves what
  * lanq_run leaves of the text's table, in the answer, the trace and the work store. After a refusal every word of trace and
- * work store is as it was. No buffer for the table is needed, but LANQ_STACK_RUN_TEXT bytes of the stack.
+ * work store is as it was. No buffer for the table is needed.
  *
  * Neither trace nor work store may overlap the other or an input. */
 LanqAnswer lanq_run_text(const uint8_t *text, size_t text_len, const uint8_t *schedule, size_t schedule_len,

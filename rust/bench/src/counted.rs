@@ -1,44 +1,30 @@
-//! Machine instructions, printed.
+//! Machine instructions, counted by callgrind. What a program does before its
+//! first entry falls out of the difference of two lengths.
 
 use std::env;
-use std::path::PathBuf;
-use std::time::Duration;
+use std::fs;
+use std::process::Command;
 
-use crate::budgets::{self, Verdict};
-use crate::callgrind::{self, Count};
 use crate::checks;
 use crate::runs::{self, ENTRIES};
+use crate::traces;
 
 /// What the end of a run costs hangs on who can move there, so it is left out
 /// where single entries are counted.
 const LEFT_OUT: &str = "ability::ending::";
 
-/// No count takes so long.
-const PATIENCE: Duration = Duration::from_secs(3_600);
-
-fn counts(function: &str, cases: &[(&str, usize)]) -> Result<Vec<Count>, String> {
-    callgrind::count(&this_program()?, function, cases, PATIENCE)
-}
-
-fn this_program() -> Result<PathBuf, String> {
-    env::current_exe().map_err(|error| error.to_string())
-}
-
-/// Every cost beside its figure, or why there are none.
+/// Instructions per entry of every run workload and of every call on a trace,
+/// or why there are none.
 pub fn print() -> Result<(), String> {
-    let figures = budgets::figures()?;
-    println!("{:18} {:>8} {:>8}", "", "counted", "figure");
-    for cost in budgets::costs(&this_program()?)? {
-        let figure = figures.iter().find(|figure| figure.name == cost.name);
-        let verdict = figure.map(|figure| cost.verdict(figure.figure));
-        let said = match verdict {
-            Some(Verdict::Held) => "",
-            Some(Verdict::TooDear) => "too dear",
-            Some(Verdict::CanBeLowered) => "the figure can be lowered",
-            None => "has no figure",
-        };
-        let line = format!("{:18} {:>8} {:>8} {said}", cost.name, cost.written(), figure.map_or("", |it| it.written));
-        println!("{}", line.trim_end());
+    println!("{:14} instructions per entry", "workload");
+    for run in runs::all() {
+        println!("{:14} {:.1}", run.name, per(run.name, ENTRIES / 2, ENTRIES)?);
+    }
+    println!("{:14} {:>6} instructions of one call", "call", "lines");
+    for call in traces::all() {
+        for lines in call.lines {
+            println!("{:14} {lines:6} {}", call.name, within(call.function, call.name, *lines)?);
+        }
     }
     Ok(())
 }
@@ -46,25 +32,25 @@ pub fn print() -> Result<(), String> {
 /// How the instructions grow: with the entries of a run, with what an entry's
 /// cost may hang on, and with the table that is checked.
 pub fn print_growth() -> Result<(), String> {
-    let entries = [15_000, 30_000, 45_000, 60_000];
     println!("{:14} instructions of the whole run", "entries");
-    for (entries, count) in entries.iter().zip(counts("lanq_run", &entries.map(|entries| ("arithmetic", entries)))?) {
-        println!("{entries:<14} {}", count.all());
+    for entries in [15_000, 30_000, 45_000, 60_000] {
+        println!("{entries:<14} {}", within("lanq_run", "arithmetic", entries)?);
     }
     println!("{:14} instructions per entry", "run");
-    let growing = runs::growing();
-    let cases: Vec<_> = growing.iter().flat_map(|run| [(run.name, ENTRIES / 2), (run.name, ENTRIES)]).collect();
-    for (run, counts) in growing.iter().zip(counts("lanq_run", &cases)?.chunks_exact(2)) {
-        let more = counts[1].all() - counts[0].all();
-        println!("{:14} {:.1}", run.name, more as f64 / (ENTRIES / 2) as f64);
+    for run in runs::growing() {
+        println!("{:14} {:.1}", run.name, per(run.name, ENTRIES / 2, ENTRIES)?);
     }
     println!("{:14} instructions of one check", "table");
-    let growing = checks::growing();
-    let cases: Vec<_> = growing.iter().map(|check| (check.name, 1)).collect();
-    for (check, count) in growing.iter().zip(counts("lanq_check", &cases)?) {
-        println!("{:14} {}", check.name, count.all());
+    for check in checks::growing() {
+        println!("{:14} {:.0}", check.name, per(check.name, 10, 20)?);
     }
     Ok(())
+}
+
+/// Instructions of one more entry, or of one more call of a check.
+fn per(name: &str, short: usize, long: usize) -> Result<f64, String> {
+    let more = instructions(name, long)? - instructions(name, short)?;
+    Ok(more as f64 / (long - short) as f64)
 }
 
 /// Instructions of `count` entries of one workload, one by one, from entry
@@ -75,11 +61,63 @@ pub fn print_each(name: &str, from: usize, count: usize) -> Result<(), String> {
     if from + count > ENTRIES {
         return Err(format!("a workload has {ENTRIES} entries"));
     }
-    let cases: Vec<_> = (from..=from + count).map(|entries| (name, entries)).collect();
     println!("entry process instructions");
-    for (entry, counts) in (from..).zip(counts("lanq_run", &cases)?.windows(2)) {
-        let [before, after] = [&counts[0], &counts[1]].map(|count| count.without(LEFT_OUT));
+    let mut before = instructions(name, from)?;
+    for entry in from..from + count {
+        let after = instructions(name, entry + 1)?;
         println!("{entry:5} {:7} {:12}", run.named(entry), after - before);
+        before = after;
     }
     Ok(())
+}
+
+/// The instructions of this program running one workload once.
+fn instructions(name: &str, count: usize) -> Result<i64, String> {
+    callgrind(name, count, &[])
+}
+
+/// Those of them that are run while a function of the C interface is called.
+fn within(function: &str, name: &str, count: usize) -> Result<i64, String> {
+    callgrind(name, count, &[format!("--toggle-collect={function}")])
+}
+
+fn callgrind(name: &str, count: usize, more: &[String]) -> Result<i64, String> {
+    let program = env::current_exe().map_err(|error| error.to_string())?;
+    let counts = env::temp_dir().join(format!("bench-{}.counts", std::process::id()));
+    let output = Command::new("valgrind")
+        .args(["--tool=callgrind", "--compress-strings=no", "--compress-pos=no"])
+        .arg(format!("--callgrind-out-file={}", counts.display()))
+        .args(more)
+        .arg(program)
+        .args(["--case", name, &count.to_string()])
+        .output()
+        .map_err(|error| format!("valgrind: {error}"))?;
+    let read = fs::read_to_string(&counts);
+    let _ = fs::remove_file(&counts);
+    match read {
+        Ok(text) => Ok(own_instructions(&text)),
+        Err(_) => Err(format!("valgrind counted nothing: {}", String::from_utf8_lossy(&output.stderr))),
+    }
+}
+
+/// The sum over the functions of what each runs itself: a line of a function
+/// is a place and a count, but the one after `calls=` is the callee's.
+fn own_instructions(text: &str) -> i64 {
+    let mut sum = 0;
+    let mut counts = false;
+    let mut called = false;
+    for line in text.lines() {
+        if let Some(name) = line.strip_prefix("fn=") {
+            counts = !name.contains(LEFT_OUT);
+        } else if line.starts_with("calls=") {
+            called = true;
+        } else if line.starts_with(|first: char| first.is_ascii_digit()) {
+            let count = line.split_whitespace().nth(1).and_then(|word| word.parse::<i64>().ok());
+            if counts && !called {
+                sum += count.unwrap_or(0);
+            }
+            called = false;
+        }
+    }
+    sum
 }

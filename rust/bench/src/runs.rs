@@ -108,8 +108,8 @@ pub struct Buffers {
     work: Vec<u32>,
 }
 
-impl Default for Buffers {
-    fn default() -> Buffers {
+impl Buffers {
+    pub fn new() -> Buffers {
         Buffers { trace: vec![0; TRACE], work: vec![0; lanq::WORK_WORDS] }
     }
 }

@@ -6,8 +6,6 @@ use std::time::{Duration, Instant};
 
 use lanq::{Answer, End, Translation, MOST_TABLE_WORDS, WORK_WORDS};
 
-use crate::hostile;
-
 /// Bytes of a long text, unless another number is asked for.
 pub const LONG: usize = 1_000_000;
 /// Entries of the run, the most that there may be.
@@ -17,90 +15,68 @@ const PATIENCE: Duration = Duration::from_millis(500);
 const MOST_CALLS: usize = 50;
 
 /// A text to translate.
-pub struct Text {
-    pub name: &'static str,
-    /// A long text is timed on a part of the length that is asked for, where its time grows with
-    /// the square of it.
-    part: usize,
-    make: fn(usize) -> String,
+struct Text {
+    name: &'static str,
+    text: String,
 }
 
-impl Text {
-    /// The text, of nearly so many bytes where it is a long one.
-    pub fn of(&self, bytes: usize) -> String {
-        (self.make)(bytes)
+/// `before`, then the passages of the numbers from 0 on as long as there is room, then
+/// `after`: a text of nearly so many bytes.
+fn long(bytes: usize, before: &str, passage: impl Fn(usize) -> String, after: &str) -> String {
+    let mut text = before.to_string();
+    for number in 0.. {
+        let next = passage(number);
+        if text.len() + next.len() + after.len() > bytes {
+            break;
+        }
+        text += &next;
     }
+    text + after
 }
 
-fn text(name: &'static str, make: fn(usize) -> String) -> Text {
-    Text { name, part: 1, make }
+/// An expression in as many brackets as there is room for.
+fn nested(bytes: usize, before: &str, [open, close]: [&str; 2], after: &str) -> String {
+    let inside = "1";
+    let depth = (bytes - before.len() - inside.len() - after.len()) / (open.len() + close.len());
+    format!("{before}{}{inside}{}{after}", open.repeat(depth), close.repeat(depth))
 }
 
-fn shorter(name: &'static str, part: usize, make: fn(usize) -> String) -> Text {
-    Text { name, part, make }
+/// Printable bytes in an order of no kind, most of them in tokens.
+fn noise(bytes: usize) -> String {
+    let mut state: u64 = 1;
+    let byte = |_| {
+        state = state.wrapping_mul(6_364_136_223_846_793_005).wrapping_add(1_442_695_040_888_963_407);
+        char::from(32 + (state >> 57) as u8 % 95)
+    };
+    (0..bytes).map(byte).collect()
 }
 
-/// The texts that have a figure for a byte of theirs.
-pub fn ordinary_ones() -> Vec<Text> {
-    vec![text("text-ordinary", |_| ordinary()), text("text-4096", |_| instructions())]
-}
-
-fn long_ones() -> Vec<Text> {
+/// The texts, the long ones of so many bytes.
+fn all(bytes: usize) -> Vec<Text> {
+    let text = |name, text| Text { name, text };
+    let main = "void main() { ";
+    let calls = "int f(int a) { return a; } void main() { int a; a = ";
+    let declares = |n| format!("int v{n}; ");
+    let assigns = |n: usize| ["a = b; ", "b = c; ", "c = a; "][n % 3].to_string();
+    let half = long(bytes / 2, main, declares, "");
+    // their time grows with the square of their length
+    let short = bytes / 50;
     vec![
-        text("names-few", hostile::names_few),
-        text("names-declared", hostile::names_declared),
-        text("names-far-back", hostile::names_far_back),
-        text("names-random", hostile::names_random),
-        shorter("names-alike", 10, hostile::names_alike),
-        shorter("names-assigned", 50, hostile::names_assigned),
-        shorter("names-assigned-in-turn", 50, hostile::names_assigned_in_turn),
-        text("brackets-plain", hostile::brackets_plain),
-        text("brackets-balanced", hostile::brackets_balanced),
-        text("brackets-assigned", hostile::brackets_assigned),
-        shorter("calls-nested", 50, hostile::calls_nested),
-        shorter("calls-in-first", 50, hostile::calls_in_first),
-        shorter("calls-in-last", 50, hostile::calls_in_last),
-        shorter("calls-in-second", 50, hostile::calls_in_second),
-        text("arguments", hostile::arguments),
-        text("arguments-parameters", hostile::arguments_parameters),
-        text("arguments-calls", hostile::arguments_calls),
-        text("blocks", hostile::blocks),
-        text("blocks-open", hostile::blocks_open),
-        text("blocks-again", hostile::blocks_again),
-        shorter("methods", 50, hostile::methods),
-        shorter("methods-calling", 50, hostile::methods_calling),
-        shorter("methods-called-last", 50, hostile::methods_called_last),
-        shorter("methods-random", 50, hostile::methods_random),
-        shorter("methods-alike", 50, hostile::methods_alike),
-        shorter("mixed", 10, hostile::mixed),
-        text("noise", hostile::noise),
-        text("noise-at-the-end", hostile::noise_at_the_end),
-        text("white-space", hostile::white_space),
+        text("4,096 instructions", format!("{main}int a; {}}}", "a = 1; ".repeat(1_365))),
+        text("ordinary", ordinary()),
+        text("names, few", long(bytes, "void main() { int a, b, c; ", assigns, "}")),
+        text("names, declared", long(bytes, main, declares, "}")),
+        text("names, far back", long(bytes, &half, |_| "v0 = v0; ".into(), "}")),
+        text("brackets, plain", "(".repeat(bytes)),
+        text("brackets, balanced", nested(bytes, "void main() { int a; a = ", ["(", ")"], "; }")),
+        text("brackets, calls", nested(short, calls, ["f(", ")"], "; }")),
+        text("brackets, assigned", nested(bytes, calls, ["(a = ", ")"], "; }")),
+        text("blocks", long(bytes, main, |_| "{ int a; a = 1; } ".into(), "}")),
+        text("methods", long(short, "void main() { } ", |n| format!("void f{n}() {{ f{}(); }} ", n / 2), "")),
+        text("noise", noise(bytes)),
+        text("noise, at the end", format!("{main}{}@", ";".repeat(bytes - main.len() - 1))),
+        text("white space", " ".repeat(bytes)),
     ]
-}
-
-/// All of them.
-pub fn all() -> Vec<Text> {
-    ordinary_ones().into_iter().chain(long_ones()).collect()
-}
-
-/// Translates a text of so many bytes once, and says what was answered.
-pub fn once(text: &Text, bytes: usize) -> String {
-    let text = text.of(bytes);
-    let answer = lanq::translate(black_box(text.as_bytes()), &mut vec![0; MOST_TABLE_WORDS]);
-    format!("{} bytes, {}", text.len(), said(answer))
-}
-
-fn said(answer: Translation) -> String {
-    match answer {
-        Translation::Refused(refusal) => refusal.to_string(),
-        Translation::Table(words) | Translation::Short(words) => format!("{words} words"),
-    }
-}
-
-/// One method, of 4,096 instructions.
-fn instructions() -> String {
-    format!("void main() {{ int a; {}}}", "a = 1; ".repeat(1_365))
 }
 
 /// Three stations that main hands a qubit and an int to and gets them back from, again and
@@ -229,16 +205,18 @@ fn milliseconds(time: Duration) -> f64 {
 /// Every text, the long ones of so many bytes, with its size, its answer and the time of its
 /// translation; then a run.
 pub fn print(bytes: usize) -> Result<(), String> {
-    if bytes < 100_000 {
-        return Err(format!("{bytes}: a long text has 100000 bytes at least"));
+    if bytes < 1_000 {
+        return Err(format!("{bytes}: a long text has 1000 bytes at least"));
     }
     println!("{:22} {:>9}  {:16} {:>12}", "translation of", "bytes", "answer", "ms");
     let mut table = vec![0; MOST_TABLE_WORDS];
-    for text in all() {
-        let name = text.name;
-        let text = text.of(bytes / text.part);
+    for Text { name, text } in all(bytes) {
         let (time, answer) = best(|| lanq::translate(black_box(text.as_bytes()), &mut table));
-        println!("{name:22} {:9}  {:16} {:12.3}", text.len(), said(answer), milliseconds(time));
+        let answer = match answer {
+            Translation::Refused(refusal) => refusal.to_string(),
+            Translation::Table(words) | Translation::Short(words) => format!("{words} words"),
+        };
+        println!("{name:22} {:9}  {answer:16} {:12.3}", text.len(), milliseconds(time));
     }
     print_run(1)?;
     print_run(64)

@@ -1,4 +1,4 @@
-//! Calls that read a trace. One call each.
+//! Calls that read a trace. One call each: what is counted is the call alone.
 
 use std::hint::black_box;
 
@@ -7,17 +7,15 @@ pub struct Call {
     pub name: &'static str,
     /// The function of the C interface that it calls.
     pub function: &'static str,
-    /// The number of lines that is counted.
-    pub lines: usize,
+    /// The numbers of lines that are counted.
+    pub lines: &'static [usize],
     call: fn(usize) -> String,
 }
 
 pub fn all() -> Vec<Call> {
-    let look_up = |name, lines| Call { name, function: "lanq_holder", lines, call: last_line_decides };
-    let same = |name, call| Call { name, function: "lanq_same_lines", lines: 10_000, call };
+    let same = |name, call| Call { name, function: "lanq_same_lines", lines: &[10_000], call };
     vec![
-        look_up("look-up-short", 1),
-        look_up("look-up-long", 60_000),
+        Call { name: "look-up", function: "lanq_holder", lines: &[1, 60_000], call: last_line_decides },
         same("same-lines", |lines| same_lines(lines, |_| ())),
         same("other-column", |lines| same_lines(lines, |line| line[5] = 1)),
         same("other-gap", |lines| same_lines(lines, |line| line[0] += 1)),

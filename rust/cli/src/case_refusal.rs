@@ -9,7 +9,6 @@ use crate::code::{Origin, Site};
 use crate::error::Place;
 use crate::input::case::Case;
 use crate::text::place::TextPlace;
-use crate::text::reason::Statement;
 
 /// A refusal of a case.
 #[derive(Clone, Debug, PartialEq, Eq)]
@@ -36,13 +35,7 @@ pub enum RefusalPlace {
     /// An index in the outcome list.
     Outcome(usize),
     /// In a LanQ text.
-    Text {
-        at: TextPlace,
-        /// The method that 32 refuses, whose name stands there.
-        method: Option<String>,
-        /// The statement that is at fault.
-        statement: Option<Statement>,
-    },
+    Text(TextPlace),
 }
 
 impl CaseRefusal {
@@ -60,18 +53,17 @@ impl CaseRefusal {
         CaseRefusal { name: case.name.clone(), refusal, rule, at }
     }
 
-    /// Line and column, where the file has them: of the statement at fault, or of the
-    /// refusal's place.
+    /// Line and column, where the file has them.
     fn place(&self) -> Option<Place> {
-        if let RefusalPlace::Text { at, statement, .. } = &self.at {
-            return Some(statement.as_ref().map_or(at.place, |statement| statement.at.place));
+        if let RefusalPlace::Text(at) = &self.at {
+            return Some(at.place);
         }
         let written = match &self.at {
             RefusalPlace::Method { header, .. } => *header,
             RefusalPlace::Instruction(site) => site.written,
             _ => None,
         };
-        written.filter(|(_, written)| *written != Origin::Listing).map(|(place, _)| place)
+        written.filter(|(_, written)| *written == Origin::Text).map(|(place, _)| place)
     }
 }
 
@@ -99,16 +91,15 @@ impl fmt::Display for RefusalPlace {
         match self {
             RefusalPlace::Nowhere => Ok(()),
             RefusalPlace::Method { name, header: None, .. } => write!(f, "{name}"),
-            RefusalPlace::Method { name, header: Some((place, origin)), .. } => {
-                write!(f, "method {name} ({})", origin.words(*place))
+            RefusalPlace::Method { name, header: Some((place, Origin::Text)), .. } => {
+                write!(f, "method {name} (line {})", place.line)
+            }
+            RefusalPlace::Method { name, header: Some((place, Origin::Listing)), .. } => {
+                write!(f, "method {name} (line {} of the listing)", place.line)
             }
             RefusalPlace::Instruction(site) => site.fmt(f),
             RefusalPlace::Outcome(index) => write!(f, "outcome {index}, counted from 0"),
-            RefusalPlace::Text { at, method, statement: Some(statement) } => {
-                let method = method.as_deref().unwrap_or_default();
-                write!(f, "{}\n    in method {method}, whose name is the refusal's place, {at}", statement.at)
-            }
-            RefusalPlace::Text { at, .. } => at.fmt(f),
+            RefusalPlace::Text(at) => at.fmt(f),
         }
     }
 }

@@ -12,10 +12,8 @@ use crate::names::{MethodNames, Scope};
 /// What the places of names are places of.
 #[derive(Clone, Copy, Debug, PartialEq, Eq)]
 pub enum Origin {
-    /// The text of the assembler that was read.
+    /// The text that was read.
     Text,
-    /// The LanQ text that was read.
-    Lanq,
     /// What `lanq list` writes.
     Listing,
 }
@@ -29,7 +27,7 @@ pub struct Code {
 }
 
 /// An instruction, by its method and its number in it, by its number over the
-/// table, and by its place in the text or the listing.
+/// table, and by the line of the text or the listing.
 #[derive(Clone, Debug, PartialEq, Eq)]
 pub struct Site {
     pub method: usize,
@@ -102,25 +100,16 @@ impl Site {
     }
 }
 
-/// Where something was written, to be put after a comma.
-impl Origin {
-    pub fn words(self, place: Place) -> String {
-        let Place { line, column } = place;
-        match self {
-            Origin::Text => format!("line {line}"),
-            Origin::Lanq => format!("line {line}, column {column}"),
-            Origin::Listing => format!("line {line} of the listing"),
-        }
-    }
-}
-
 /// Method and instruction, with the table's number and the line beside it, then
-/// the instruction: `main 14 (table 14, line 28): GET q`. A line of a LanQ text may
-/// have many, so that the column stands there too.
+/// the instruction: `main 14 (table 14, line 28): GET q`.
 impl fmt::Display for Site {
     fn fmt(&self, f: &mut fmt::Formatter) -> fmt::Result {
         let Site { method_name, instruction, place, text, .. } = self;
-        let written = self.written.map(|(place, origin)| format!(", {}", origin.words(place))).unwrap_or_default();
-        write!(f, "{method_name} {instruction} (table {place}{written}): {text}")
+        let line = match self.written {
+            Some((place, Origin::Text)) => format!(", line {}", place.line),
+            Some((place, Origin::Listing)) => format!(", line {} of the listing", place.line),
+            None => String::new(),
+        };
+        write!(f, "{method_name} {instruction} (table {place}{line}): {text}")
     }
 }

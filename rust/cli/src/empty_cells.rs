@@ -1,11 +1,11 @@
 //! Why slots and pending values are empty that once held something.
 
 use std::collections::BTreeMap;
+use std::fmt;
 
 use data::{Event, Frame, Line, Thing, Value};
 
 use crate::history::Step;
-use crate::naming::Naming;
 
 /// A slot or a pending value of a frame, counted from the lowest.
 #[derive(Clone, Copy, Debug, PartialEq, Eq, PartialOrd, Ord)]
@@ -28,20 +28,19 @@ pub enum Cause {
     Giving { thing: Thing, to: u16 },
 }
 
-impl Emptying {
-    /// `qubit 0, given to bob at entry 15`
-    pub fn words(&self, naming: &Naming) -> String {
+/// `qubit 0, given to process 1 at entry 15`
+impl fmt::Display for Emptying {
+    fn fmt(&self, f: &mut fmt::Formatter) -> fmt::Result {
         let Emptying { value, entry, by } = self;
         match by {
-            Cause::Clear => format!("{value}, cleared at entry {entry}"),
-            Cause::Giving { thing, to } => {
-                let to = naming.station(*to);
-                match thing {
-                    thing if Some(*thing) == value.thing() => format!("{value}, given to {to} at entry {entry}"),
-                    Thing::End(_, side) => format!("{value}, whose end {side} was given to {to} at entry {entry}"),
-                    _ => format!("{value}, whose channel was given to {to} at entry {entry}"),
-                }
+            Cause::Clear => write!(f, "{value}, cleared at entry {entry}"),
+            Cause::Giving { thing, to } if Some(*thing) == value.thing() => {
+                write!(f, "{value}, given to process {to} at entry {entry}")
             }
+            Cause::Giving { thing: Thing::End(_, side), to } => {
+                write!(f, "{value}, whose end {side} was given to process {to} at entry {entry}")
+            }
+            Cause::Giving { to, .. } => write!(f, "{value}, whose channel was given to process {to} at entry {entry}"),
         }
     }
 }

@@ -29,7 +29,7 @@ pub fn each_step(given: &CaseOptions, case: &Case, run: &Run, mut visit: impl Fn
     let mut before = configuration(case, &mut runner, 0);
     let mut lines = run.lines.as_slice();
     let mut holders = Holders::default();
-    let mut progress = if given.is_one_of_many { Progress::silent() } else { Progress::new("entries", run.entries) };
+    let mut progress = if given.silent { Progress::silent() } else { Progress::new("entries", run.entries) };
     for entry in 0..run.entries {
         let after = configuration(case, &mut runner, entry + 1);
         let written = lines.iter().take_while(|line| usize::from(line.entry) == entry).count();

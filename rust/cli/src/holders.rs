@@ -6,8 +6,6 @@ use std::collections::BTreeMap;
 
 use data::{Event, Line, Side, Thing};
 
-use crate::naming::Naming;
-
 /// Qubits and channel ends with their holders.
 #[derive(Clone, Debug, Default, PartialEq, Eq)]
 pub struct Holders {
@@ -49,8 +47,8 @@ impl Holders {
         }
     }
 
-    /// By station: `q0` is qubit 0, `c1.0` end 0 of channel 1.
-    pub fn text(&self, naming: &Naming) -> String {
+    /// By process: `q0` is qubit 0, `c1.0` end 0 of channel 1.
+    pub fn text(&self) -> String {
         let mut held: BTreeMap<u16, String> = BTreeMap::new();
         for (qubit, holder) in &self.qubits {
             *held.entry(*holder).or_default() += &format!(" q{qubit}");
@@ -59,8 +57,7 @@ impl Holders {
             *held.entry(*holder).or_default() += &format!(" c{channel}.{side}");
         }
         let held = held.iter();
-        let held: Vec<String> =
-            held.map(|(holder, things)| format!("by {}:{things}", naming.station(*holder))).collect();
+        let held: Vec<String> = held.map(|(holder, things)| format!("by {holder}:{things}")).collect();
         match held.is_empty() {
             true => "nothing yet".to_string(),
             false => held.join("; "),

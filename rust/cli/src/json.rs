@@ -45,30 +45,9 @@ impl Json {
         }
     }
 
-    /// An object with a key set, in its place or at the end.
-    pub fn with(self, key: &str, value: Json) -> Json {
-        match self {
-            Json::Object(mut keys) => {
-                match keys.iter_mut().find(|(name, _)| name == key) {
-                    Some((_, old)) => *old = value,
-                    None => keys.push((key.to_string(), value)),
-                }
-                Json::Object(keys)
-            }
-            other => other,
-        }
-    }
-
     pub fn as_text(&self) -> Option<&str> {
         match self {
             Json::Text(text) => Some(text),
-            _ => None,
-        }
-    }
-
-    pub fn as_bool(&self) -> Option<bool> {
-        match self {
-            Json::Bool(value) => Some(*value),
             _ => None,
         }
     }

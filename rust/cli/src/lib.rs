@@ -6,10 +6,8 @@
 //!   program's names, and where each instruction stands
 //! - [`machine`]: the proved library, or the model where it is asked for
 //! - [`case_refusal`]: refusals in words
-//! - [`naming`]: what the stations and the things of a run are called
-//! - [`stations`]: what each station does, in its order
 //! - [`explain`]: a run in words, with [`sentence`], [`holders`], [`history`],
-//!   [`readiness`], [`standing`] and [`empty_cells`]
+//!   [`readiness`] and [`empty_cells`]
 //! - [`timeline`]: a run as a drawing, in [`svg`]
 //! - [`report`]: a run for other programs, in [`json`]
 //! - [`batch`]: every case of a directory; [`progress`]: how far it has come
@@ -32,14 +30,11 @@ pub mod input;
 pub mod json;
 pub mod machine;
 pub mod names;
-pub mod naming;
 pub mod options;
 pub mod progress;
 pub mod readiness;
 pub mod report;
 pub mod sentence;
-pub mod standing;
-pub mod stations;
 pub mod svg;
 pub mod text;
 pub mod timeline;

@@ -2,14 +2,13 @@
 
 #![forbid(unsafe_code)]
 
-use std::ffi::OsString;
 use std::io::{ErrorKind, Write};
 use std::process::ExitCode;
 
 use cli::commands::call;
 
 fn main() -> ExitCode {
-    let words: Vec<OsString> = std::env::args_os().skip(1).collect();
+    let words: Vec<String> = std::env::args_os().skip(1).map(|word| word.to_string_lossy().into_owned()).collect();
     // The whole answer is there before the first byte of it is written.
     let done = call(&words);
     let mut out = std::io::stdout();

@@ -1,14 +1,11 @@
 //! The words of a call: options with their values, and the words that are no
 //! options.
 
-use std::ffi::{OsStr, OsString};
-use std::os::unix::ffi::OsStrExt;
-use std::path::{Path, PathBuf};
+use std::path::PathBuf;
 
 use crate::error::{Error, Failure};
 use crate::input::case::{outcomes_file, schedule_file, CaseOptions};
 use crate::input::numbers;
-use crate::input::open::{Format, Which};
 use crate::machine::Machine;
 
 /// An option that a command takes.
@@ -33,16 +30,11 @@ pub const fn flag(name: &'static str, about: &'static str) -> Opt {
 /// The parts of a case.
 pub const INPUTS: &[Opt] = &[
     valued("--program", "FILE", "the program, in place of the case's"),
-    valued("--schedule", "S", "0*11,(0,1)*30 or round-robin:N or until-stuck, in place of the case's"),
+    valued("--schedule", "S", "0,0,1*5 or round-robin:N or until-stuck, in place of the case's"),
     valued("--schedule-file", "FILE", "the same, from a file"),
     valued("--outcomes", "DIGITS", "0120 or 1*20, where 2 is no click, in place of the case's"),
     valued("--outcomes-file", "FILE", "the same, from a file"),
-    FORMAT,
 ];
-
-/// What a file is, whatever its name says.
-pub const FORMAT: Opt =
-    valued("--format", "F", "the program is lanq, lqa or bin; else its name or its content says so");
 
 /// How a case is run.
 pub const RUN: &[Opt] = &[valued("--room", "LINES", "end the run with 3 where the trace would have more lines"), MODEL];
@@ -50,35 +42,31 @@ pub const RUN: &[Opt] = &[valued("--room", "LINES", "end the run with 3 where th
 /// Asks the model in place of the proved library.
 pub const MODEL: Opt = flag("--model", "ask the Rust model in place of the proved library, to compare them");
 
-/// A call's words, read. Paths need not be UTF-8.
+/// A call's words, read.
 #[derive(Clone, Debug, Default, PartialEq, Eq)]
 pub struct Arguments {
-    pub words: Vec<OsString>,
-    options: Vec<(&'static str, OsString)>,
+    pub words: Vec<String>,
+    options: Vec<(&'static str, String)>,
 }
-
-/// The values that are paths.
-const PATHS: [&str; 2] = ["FILE", "OUT"];
 
 impl Arguments {
     /// Reads the words after a command's name.
-    pub fn read(words: &[OsString], taken: &[&Opt]) -> Result<Arguments, Failure> {
+    pub fn read(words: &[String], taken: &[&Opt]) -> Result<Arguments, Failure> {
         let mut arguments = Arguments::default();
         let mut words = words.iter();
         while let Some(word) = words.next() {
-            if !word.as_bytes().starts_with(b"--") {
+            if !word.starts_with("--") {
                 arguments.words.push(word.clone());
                 continue;
             }
-            let (name, given) = match word.as_bytes().iter().position(|byte| *byte == b'=') {
-                Some(at) => (&word.as_bytes()[..at], Some(OsStr::from_bytes(&word.as_bytes()[at + 1..]).to_owned())),
-                None => (word.as_bytes(), None),
+            let (name, given) = match word.split_once('=') {
+                Some((name, value)) => (name, Some(value.to_string())),
+                None => (word.as_str(), None),
             };
-            let option = taken.iter().find(|option| option.name.as_bytes() == name);
-            let name = String::from_utf8_lossy(name);
+            let option = taken.iter().find(|option| option.name == name);
             let option = option.ok_or_else(|| Failure::Call(format!("no option {name}")))?;
             let value = match (option.value, given) {
-                (None, None) => OsString::new(),
+                (None, None) => String::new(),
                 (None, Some(_)) => return Err(Failure::Call(format!("{name} takes no value"))),
                 (Some(_), Some(value)) => value,
                 (Some(what), None) => {
@@ -86,9 +74,6 @@ impl Arguments {
                     next.ok_or_else(|| Failure::Call(format!("{name} wants its value, {what}")))?
                 }
             };
-            if value.to_str().is_none() && !option.value.is_some_and(|what| PATHS.contains(&what)) {
-                return Err(Failure::Call(format!("{name} wants text in UTF-8")));
-            }
             if arguments.has(option.name) && !REPEATED.contains(&option.name) {
                 return Err(Failure::Call(format!("{name} is given twice")));
             }
@@ -101,19 +86,13 @@ impl Arguments {
         self.options.iter().any(|(one, _)| *one == name)
     }
 
-    /// The value of an option that is no path.
     pub fn value(&self, name: &str) -> Option<&str> {
-        self.options.iter().find(|(one, _)| *one == name).and_then(|(_, value)| value.to_str())
-    }
-
-    /// The value of an option that is a path.
-    pub fn path(&self, name: &str) -> Option<PathBuf> {
-        self.paths(name).next()
+        self.options.iter().find(|(one, _)| *one == name).map(|(_, value)| value.as_str())
     }
 
     /// The values of an option that may be given more than once.
-    pub fn paths<'a>(&'a self, name: &'a str) -> impl Iterator<Item = PathBuf> + 'a {
-        self.options.iter().filter(move |(one, _)| *one == name).map(|(_, value)| PathBuf::from(value))
+    pub fn values<'a>(&'a self, name: &'a str) -> impl Iterator<Item = &'a str> {
+        self.options.iter().filter(move |(one, _)| *one == name).map(|(_, value)| value.as_str())
     }
 
     /// A number from `least` on.
@@ -122,14 +101,6 @@ impl Arguments {
         let number = text.parse().ok().filter(|number| *number >= least);
         let number = number.ok_or_else(|| Failure::Call(format!("{name} wants a number from {least} on, not {text}")));
         number.map(Some)
-    }
-
-    /// What a file is said to be.
-    pub fn format(&self) -> Result<Option<Format>, Failure> {
-        let Some(name) = self.value(FORMAT.name) else { return Ok(None) };
-        let format = Format::named(name);
-        let all = Format::ALL.map(Format::ending).join(", ");
-        format.map(Some).ok_or_else(|| Failure::Call(format!("{} wants one of {all}, not {name}", FORMAT.name)))
     }
 
     /// The machine that is asked.
@@ -141,36 +112,35 @@ impl Arguments {
     }
 
     /// The words that have to stand there, and no others.
-    pub fn exactly<const N: usize>(&self, what: &str) -> Result<[&Path; N], Failure> {
-        let words: Vec<&Path> = self.words.iter().map(Path::new).collect();
+    pub fn exactly<const N: usize>(&self, what: &str) -> Result<[&str; N], Failure> {
+        let words: Vec<&str> = self.words.iter().map(String::as_str).collect();
         words.try_into().map_err(|_| Failure::Call(format!("wants {what}")))
     }
 
     /// The case that the options give; its file or directory is a word.
-    pub fn given(&self, path: Option<&Path>) -> Result<CaseOptions, Failure> {
+    pub fn given(&self, path: Option<&str>) -> Result<CaseOptions, Failure> {
         let from_text = |name: &str, error: Error| Failure::Call(format!("{name}:{error}"));
         let schedule = self.value("--schedule").map(numbers::schedule).transpose();
         let outcomes = self.value("--outcomes").map(numbers::outcomes).transpose();
         let mut given = CaseOptions {
-            path: path.map(Path::to_path_buf),
-            program: self.path("--program"),
+            path: path.map(PathBuf::from),
+            program: self.value("--program").map(PathBuf::from),
             schedule: schedule.map_err(|error| from_text("--schedule", error))?,
             outcomes: outcomes.map_err(|error| from_text("--outcomes", error))?,
-            format: self.format()?,
             room: self.number("--room", 0)?,
             machine: self.machine(),
-            is_one_of_many: false,
+            silent: false,
         };
         for (option, file) in [("--schedule", "--schedule-file"), ("--outcomes", "--outcomes-file")] {
             if self.has(option) && self.has(file) {
                 return Err(Failure::Call(format!("{option} and {file} exclude each other")));
             }
         }
-        if let Some(path) = self.path("--schedule-file") {
-            given.schedule = Some(schedule_file(&path, Which::Named)?);
+        if let Some(path) = self.value("--schedule-file") {
+            given.schedule = Some(schedule_file(path.as_ref())?);
         }
-        if let Some(path) = self.path("--outcomes-file") {
-            given.outcomes = Some(outcomes_file(&path, Which::Named)?);
+        if let Some(path) = self.value("--outcomes-file") {
+            given.outcomes = Some(outcomes_file(path.as_ref())?);
         }
         Ok(given)
     }
@@ -178,7 +148,7 @@ impl Arguments {
     /// The case of a command that takes one, by a word or by options alone.
     pub fn one_case(&self) -> Result<CaseOptions, Failure> {
         match (self.words.as_slice(), self.has("--program")) {
-            ([path], _) => self.given(Some(Path::new(path))),
+            ([path], _) => self.given(Some(path)),
             ([], true) => self.given(None),
             ([], false) => Err(Failure::Call("wants a case".to_string())),
             _ => Err(Failure::Call("wants one case".to_string())),

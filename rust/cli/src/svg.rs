@@ -75,18 +75,6 @@ impl Svg {
         ));
     }
 
-    /// The number of whoever holds a band, in a class of its own.
-    pub fn holder(&mut self, (x, y): (f64, f64), fill: &str, number: &str) {
-        self.add(format!(
-            r#"<text class="holder" x="{x:.1}" y="{y:.1}" font-size="10" text-anchor="start" fill="{fill}">{number}</text>"#
-        ));
-    }
-
-    /// What the whole drawing is called.
-    pub fn name(&mut self, name: &str) {
-        self.add(format!("<title>{}</title>", escaped(name)));
-    }
-
     /// A text that is shown where the pointer rests on a place.
     pub fn hint(&mut self, (x, y): (f64, f64), (width, height): (f64, f64), text: &str) {
         let text = escaped(text);

@@ -25,24 +25,16 @@ fn block(document: &str, line: &str) -> String {
 }
 
 /// The calls that a document shows after `$ ` and a name of the command, each
-/// with the lines that it shows for it; an empty line may stand between them.
+/// with the lines that it shows for it.
 fn calls<'d>(document: &'d str, command: &str) -> Vec<(&'d str, Vec<&'d str>)> {
     let mark = format!("    $ {command} ");
-    let lines: Vec<&str> = document.lines().collect();
-    let is_shown =
-        |line: Option<&&str>| line.is_some_and(|line| line.starts_with("    ") && !line.starts_with("    $"));
+    let mut lines = document.lines().peekable();
     let mut calls = Vec::new();
-    for (at, line) in lines.iter().enumerate() {
+    while let Some(line) = lines.next() {
         let Some(call) = line.strip_prefix(&mark) else { continue };
         let mut shown = Vec::new();
-        for next in at + 1.. {
-            if is_shown(lines.get(next)) {
-                shown.push(&lines[next][4..]);
-            } else if lines.get(next) == Some(&"") && is_shown(lines.get(next + 1)) {
-                shown.push("");
-            } else {
-                break;
-            }
+        while let Some(line) = lines.next_if(|line| line.starts_with("    ") && !line.starts_with("    $")) {
+            shown.push(&line[4..]);
         }
         calls.push((call, shown));
     }

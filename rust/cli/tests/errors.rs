@@ -44,9 +44,8 @@ fn sections() {
     let section = "`method`, `schedule` or `outcomes`";
     assert_eq!(said("\n  GET q\n"), format!("2:3: expected {section}, found `GET`"));
     assert_eq!(said(" ( "), format!("1:2: expected {section}, found `(`"));
-    let process = format!("expected a process from 0 to 255, `round-robin:N` or `until-stuck`, {section}");
-    assert_eq!(said("schedule 0\n  RET"), format!("2:3: {process}, found `RET`"));
-    assert_eq!(said("outcomes 0\n  RET"), format!("2:3: expected outcomes, one digit each, {section}, found `RET`"));
+    let number = format!("expected a number, {section}");
+    assert_eq!(said("schedule 0\n  RET"), format!("2:3: {number}, found `RET`"));
     assert_eq!(
         said("outcomes\nschedule\n outcomes"),
         "3:2: expected one `outcomes`, found a second (the first is in line 1)"
@@ -174,28 +173,12 @@ fn sizes() {
 
 #[test]
 fn entries() {
-    let process = "expected a process from 0 to 255, `round-robin:N` or `until-stuck`, found";
-    let outcome = "expected outcomes, one digit each, found";
-    assert_eq!(said("schedule 256"), format!("1:10: {process} `256`"));
-    assert_eq!(said("schedule -1"), format!("1:10: {process} `-1`"));
-    assert_eq!(said("schedule\n 0 (1)"), "2:7: expected `*`, found the end of the line");
-    assert_eq!(said("schedule 0 one"), format!("1:12: {process} `one`"));
-    assert_eq!(said("outcomes\n 0,, 1"), format!("2:4: {outcome} `,`"));
-    assert_eq!(said("outcomes\n a: 1"), format!("2:2: {outcome} `a`"));
-    assert_eq!(said("outcomes raw(256)"), "1:14: expected a number from 0 to 255, found `256`");
-    assert_eq!(said("outcomes 01*3"), "1:10: expected one digit before `*`, or brackets around more");
-    // A schedule that is made stands alone.
-    let alone = "for a schedule that is made stands alone";
-    assert_eq!(said("schedule until-stuck\n 0"), format!("2:2: expected nothing more, {alone}"));
-    assert_eq!(said("schedule 0\n until-stuck"), format!("2:2: expected entries, {alone}"));
-    assert_eq!(
-        said("schedule round-robin:0"),
-        "1:10: expected `round-robin:` and a number of entries from 1 to 65535, found `round-robin:0`"
-    );
-    assert_eq!(
-        said("schedule until-stuck:2"),
-        "1:10: expected `until-stuck` with nothing after it, found `until-stuck:2`"
-    );
+    let number = "expected a number from 0 to 255, found";
+    assert_eq!(said("schedule 256"), format!("1:10: {number} `256`"));
+    assert_eq!(said("schedule -1"), format!("1:10: {number} `-1`"));
+    assert_eq!(said("schedule\n 0 (1)"), format!("2:4: {number} `(`"));
+    assert_eq!(said("outcomes\n 0, 1"), format!("2:3: {number} `,`"));
+    assert_eq!(said("outcomes\n a: 1"), format!("2:2: {number} `a`"));
     let count = "expected a count from 1 to 65535, found";
     assert_eq!(said("schedule 0*0"), format!("1:12: {count} `0`"));
     assert_eq!(said("schedule 0*65536"), format!("1:12: {count} `65536`"));
@@ -204,7 +187,7 @@ fn entries() {
 
 #[test]
 fn texts_that_ask_for_too_much() {
-    let long = "expected at most 100000 numbers, found more";
+    let long = "expected at most 100000 entries, found more";
     let schedule = "schedule 0*65535 1*34465";
     assert!(assemble(&main_of(&format!("  RET\n{schedule}"))).is_ok());
     assert_eq!(said(&format!("outcomes\n{schedule}\n 1 2")), format!("3:2: {long}"));

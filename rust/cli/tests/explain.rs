@@ -2,14 +2,15 @@
 
 mod common;
 
+use std::fs;
+
 use cli::code::Code;
 use cli::explain::explain;
 use cli::holders::Holders;
 use cli::input::case::{Case, CaseOptions};
 use cli::input::file::Parts;
-use cli::naming::Naming;
-use cli::sentence::sentences;
-use common::{assembled, bytes, entries, example, examples, expect, lanq, lanq_in, write};
+use cli::sentence::sentence;
+use common::{assembled, bytes, example, examples, lanq, lanq_in, write};
 use data::program::table;
 use data::{Line, Side, Thing};
 use generate::file;
@@ -25,7 +26,7 @@ fn case_of(text: &str) -> Case {
         text: None,
         program: table(&assembled.code.methods),
         code: Some(assembled.code),
-        schedule: entries(assembled.schedule),
+        schedule: assembled.schedule.unwrap_or_default(),
         outcomes: assembled.outcomes.unwrap_or_default(),
         made: None,
         unscheduled: false,
@@ -55,10 +56,9 @@ const PRINTED: CaseOptions = CaseOptions {
     program: None,
     schedule: None,
     outcomes: None,
-    format: None,
     room: Some(4_096),
     machine: cli::machine::Machine::Proved,
-    is_one_of_many: true,
+    silent: true,
 };
 
 /// The explanation of a case that runs.
@@ -69,6 +69,13 @@ fn explained_case(case: &Case, all: bool) -> Option<String> {
 
 fn explained(text: &str) -> String {
     explained_case(&case_of(text), false).expect("the text runs")
+}
+
+/// Compares with a file of tests/expected.
+fn expect(name: &str, text: &str) {
+    let path = common::repository("rust/cli/tests/expected").join(name);
+    let expected = fs::read_to_string(&path).unwrap_or_else(|error| panic!("{}: {error}", path.display()));
+    assert_eq!(text, expected, "{name}");
 }
 
 #[test]
@@ -89,10 +96,9 @@ fn every_entry_in_words() {
 /// The numbers at the start of the explanation's lines, as they are printed.
 fn numbers_of(explained: &str) -> String {
     let lines = explained.lines().filter(|line| starts_with_numbers(line));
-    // A sentence starts after 22 columns or, after more numbers, after a blank.
-    let numbers = lines.map(|line| match line.split(' ').nth(5) {
-        Some(_) if !line.starts_with("end ") => line.split(' ').take(6).collect::<Vec<&str>>().join(" "),
-        _ => line.to_string(),
+    let numbers = lines.map(|line| match line.split_once(" process ") {
+        Some((numbers, _)) => numbers.trim_end(),
+        None => line,
     });
     numbers.map(|line| format!("{line}\n")).collect()
 }
@@ -100,7 +106,7 @@ fn numbers_of(explained: &str) -> String {
 /// A trace line, or the line of the end, which has no colon.
 fn starts_with_numbers(line: &str) -> bool {
     let end = line.starts_with("end ") && !line.contains(':');
-    end || line.starts_with(|c: char| c.is_ascii_digit())
+    end || line.starts_with(|c: char| c.is_ascii_digit()) && line.contains(" process ")
 }
 
 #[test]
@@ -150,16 +156,15 @@ fn holders_are_those_of_the_lines() {
 #[test]
 fn a_channel_given_gives_its_ends() {
     let mut holders = Holders::default();
-    let naming = Naming::default();
-    assert_eq!(holders.text(&naming), "nothing yet");
+    assert_eq!(holders.text(), "nothing yet");
     holders.read(&Line::from_words([0, 0, 2, 0, 65535, 65535]));
     holders.read(&Line::from_words([1, 0, 1, 4, 65535, 65535]));
-    assert_eq!(holders.text(&naming), "by process 0: q4 c0.0 c0.1");
+    assert_eq!(holders.text(), "by 0: q4 c0.0 c0.1");
     holders.read(&Line::from_words([2, 0, 6, 1, 4, 0]));
     holders.read(&Line::from_words([3, 0, 6, 2, 3, 4]));
-    assert_eq!(holders.text(&naming), "by process 1: c0.0 c0.1; by process 2: q4");
+    assert_eq!(holders.text(), "by 1: c0.0 c0.1; by 2: q4");
     holders.read(&Line::from_words([4, 1, 6, 2, 5, 0]));
-    assert_eq!(holders.text(&naming), "by process 1: c0.1; by process 2: q4 c0.0");
+    assert_eq!(holders.text(), "by 1: c0.1; by 2: q4 c0.0");
 }
 
 /// The sentence beside the numbers that start so.
@@ -173,17 +178,17 @@ fn sentence_of(explained: &str, numbers: &str) -> String {
 fn every_kind_has_a_sentence() {
     let teleport = explained(&example("teleport").text);
     for (numbers, expected) in [
-        ("0 0 2 0 - -", "main makes channel 0 (lineA)"),
-        ("19 0 5 1 1 2", "main forks alice with 2 arguments"),
-        ("19 0 6 1 5 2", "main gives end 0 (bob) of channel 2 to alice"),
-        ("24 1 1 0 - -", "alice makes qubit 0 (message)"),
-        ("26 1 3 4 0 -", "alice applies H to qubit 0 (message)"),
-        ("39 0 3 6 1 2", "main applies CX to qubit 2 (right), controlled by qubit 1 (left)"),
-        ("42 0 7 1 0 0", "main meets alice over channel 0 (lineA), sending from end 0 (toAlice)"),
-        ("42 0 6 1 3 1", "main gives qubit 1 (left) to alice"),
-        ("56 1 4 0 1 -", "alice measures qubit 0 (message), outcome 1"),
-        ("60 1 8 1 0 -", "alice sends the value 1"),
-        ("94 2 9 - - -", "bob finishes"),
+        ("0 0 2 0 - -", "process 0 makes channel 0"),
+        ("19 0 5 1 1 2", "process 0 forks process 1 in method alice with 2 arguments"),
+        ("19 0 6 1 5 2", "process 0 gives end 0 of channel 2 to process 1"),
+        ("24 1 1 0 - -", "process 1 makes qubit 0"),
+        ("26 1 3 4 0 -", "process 1 applies H to qubit 0"),
+        ("39 0 3 6 1 2", "process 0 applies CX to qubit 2, controlled by qubit 1"),
+        ("42 0 7 1 0 0", "process 0 meets process 1 over channel 0, sending from end 0"),
+        ("42 0 6 1 3 1", "process 0 gives qubit 1 to process 1"),
+        ("56 1 4 0 1 -", "process 1 measures qubit 0, outcome 1"),
+        ("60 1 8 1 0 -", "process 1 sends the value 1"),
+        ("94 2 9 - - -", "process 2 finishes"),
     ] {
         assert_eq!(sentence_of(&teleport, numbers), expected);
     }
@@ -213,13 +218,14 @@ schedule 0*20
 fn the_other_sentences() {
     let explained = explained(GATES_AND_CHANNEL);
     for (numbers, expected) in [
-        ("4 0 3 8 0 1", "main applies SWAP to qubit 0 (a) and qubit 1 (b)"),
-        ("7 0 3 7 0 1", "main applies CZ to qubit 0 (a) and qubit 1 (b)"),
-        ("9 0 6 1 4 0", "main gives channel 0 (c) to keeper"),
+        ("4 0 3 8 0 1", "process 0 applies SWAP to qubits 0 and 1"),
+        ("7 0 3 7 0 1", "process 0 applies CZ to qubits 0 and 1"),
+        ("9 0 6 1 4 0", "process 0 gives channel 0 to process 1"),
     ] {
         assert_eq!(sentence_of(&explained, numbers), expected);
     }
-    let line = |words| sentences(&[Line::from_words(words)], &Naming::default()).concat();
+    let code = case_of(GATES_AND_CHANNEL).code.expect("the text has methods");
+    let line = |words| sentence(&Line::from_words(words), &code);
     assert_eq!(line([0, 1, 8, 65_534, 65_535, 65_535]), "process 1 sends the value -2");
     assert_eq!(line([0, 1, 4, 3, 0, 65_535]), "process 1 measures qubit 3, outcome 0");
     assert_eq!(line([0, 1, 4, 3, 2, 65_535]), "process 1 measures qubit 3, outcome 2: no click");
@@ -259,7 +265,7 @@ fn a_process_that_would_meet_itself() {
     let stopped = [
         "end 1: every process made has finished or stopped",
         "entries used: 8 of 9, lines written: 2, outcomes used: 0 of 1",
-        "main (process 0) was stopped by fault 33: the opposite end is held by the process itself, or by one that has \
+        "process 0 was stopped by fault 33: the opposite end is held by the process itself, or by one that has \
          finished or stopped",
         "    end 1 of channel 0 is held by itself, and none meets itself",
     ];
@@ -268,8 +274,8 @@ fn a_process_that_would_meet_itself() {
     let cut = [
         "end 0: the schedule is used up",
         "entries used: 7 of 7, lines written: 1, outcomes used: 0 of 1",
-        "main (process 0) is able to move, to be stopped by fault 33: end 1 of channel 0 is held by itself, and none \
-         meets itself",
+        "process 0 is able to move, to be stopped by fault 33: end 1 of channel 0 is held by itself, and none meets \
+         itself",
     ];
     assert_eq!(outro(&explained(&ALONE.replace("0*9", "0*7"))), [&cut[..], &frame].concat());
 }
@@ -314,8 +320,8 @@ fn who_waits_for_whom() {
     let main = [
         "    frame 0 stands at main 17 (table 17, line 20): RECV",
         "        slots: mine = end 0 of channel 0, other = end 0 of channel 1",
-        "        emptied: c (channel 0, whose end 1 was given to leaves at entry 7), \
-         d (channel 1, whose end 1 was given to waits at entry 15)",
+        "        emptied: c (channel 0, whose end 1 was given to process 1 at entry 7), \
+         d (channel 1, whose end 1 was given to process 2 at entry 15)",
         "        pending: end 0 of channel 0",
     ];
     let second = [
@@ -327,50 +333,47 @@ fn who_waits_for_whom() {
     let waiting = of_schedule("2 0 2 0");
     assert_eq!(outro(&waiting)[..6], [
         &["end 0: the schedule is used up", "entries used: 20 of 20, lines written: 6, outcomes used: 0 of 0"][..],
-        &["main (process 0) waits to receive over end 0 (mine) of channel 0, for leaves, which holds end 1 and stands at \
-           leaves 0 (table 20, line 24): RET"],
+        &["process 0 waits to receive over end 0 of channel 0, for process 1, which holds end 1 and stands at leaves 0 \
+           (table 20, line 24): RET"],
         &main[..3],
     ]
     .concat());
     let for_main =
-        "waits (process 2) waits to receive over end 1 (e) of channel 1, for main, which holds end 0 and waits too, \
+        "process 2 waits to receive over end 1 of channel 1, for process 0, which holds end 0 and waits too, \
                     at main 17 (table 17, line 20): RECV";
     assert!(waiting.lines().any(|line| line == for_main), "{waiting}");
     // The first station has left: main is to be stopped, and the second still
     // waits for main.
     let left = of_schedule("2 0 1 2");
     let to_be_stopped =
-        "main (process 0) is able to move, to be stopped by fault 33: end 1 (e) of channel 0 is held by leaves, \
+        "process 0 is able to move, to be stopped by fault 33: end 1 of channel 0 is held by process 1, \
                          which has finished";
     let for_main =
-        "waits (process 2) waits to receive over end 1 (e) of channel 1, for main, which holds end 0 and stands at \
+        "process 2 waits to receive over end 1 of channel 1, for process 0, which holds end 0 and stands at \
                     main 17 (table 17, line 20): RECV";
     for expected in [to_be_stopped, for_main] {
         assert!(left.lines().any(|line| line == expected), "{left}");
     }
     // One after the other.
     let fault = "33: the opposite end is held by the process itself, or by one that has finished or stopped";
-    let stopped = [
-        format!("main (process 0) was stopped by fault {fault}"),
-        format!("waits (process 2) was stopped by fault {fault}"),
-    ];
+    let stopped =
+        [format!("process 0 was stopped by fault {fault}"), format!("process 2 was stopped by fault {fault}")];
     let gone = of_schedule("2 0 1 0 2");
     let expected = [
         &["end 1: every process made has finished or stopped"][..],
         &["entries used: 21 of 21, lines written: 9, outcomes used: 0 of 0", &stopped[0]],
-        &["    end 1 (e) of channel 0 is held by leaves, which has finished"],
+        &["    end 1 of channel 0 is held by process 1, which has finished"],
         &main,
-        &["leaves (process 1) has finished", &stopped[1]],
-        &["    end 0 (other) of channel 1 is held by main, which was stopped"],
+        &["process 1 has finished", &stopped[1]],
+        &["    end 0 of channel 1 is held by process 0, which was stopped"],
         &second,
     ];
     assert_eq!(outro(&gone), expected.concat());
     // Cut before main gets there.
     let cut = of_schedule("1 2 2");
-    let waits =
-        "waits (process 2) waits to receive over end 1 (e) of channel 1, for main, which holds end 0 and stands at \
+    let waits = "process 2 waits to receive over end 1 of channel 1, for process 0, which holds end 0 and stands at \
                  main 16 (table 16, line 19): GET mine";
-    assert!(cut.contains("\nmain (process 0) is able to move\n") && cut.contains(waits), "{cut}");
+    assert!(cut.contains("\nprocess 0 is able to move\n") && cut.contains(waits), "{cut}");
 }
 
 /// Two that wait for each other: end 2, and each is explained.
@@ -382,10 +385,10 @@ fn waiting_for_each_other() {
     );
     let stuck = explained(&text.replace("2 0 1 0 2", "0 1 2 0"));
     assert_eq!(outro(&stuck)[0], "end 2: no process is able to move");
-    for (number, partner) in [(0, "leaves"), (1, "main"), (2, "main")] {
-        let waits = format!("(process {number}) waits to receive");
-        let waits = stuck.lines().find(|line| line.contains(&waits)).unwrap_or("");
-        assert!(waits.contains(&format!("for {partner}, which holds end")), "{stuck}");
+    for (number, partner) in [(0, 1), (1, 0), (2, 0)] {
+        let waits =
+            stuck.lines().find(|line| line.starts_with(&format!("process {number} waits to receive"))).unwrap_or("");
+        assert!(waits.contains(&format!("for process {partner}, which holds end")), "{stuck}");
         assert!(waits.contains("and waits too, at "), "{stuck}");
     }
 }
@@ -413,7 +416,7 @@ schedule 0*4
         [
             "end 0: the schedule is used up",
             "entries used: 4 of 4, lines written: 1, outcomes used: 0 of 0",
-            "main (process 0) is able to move",
+            "process 0 is able to move",
             "    frame 0 goes on at main 3 (table 3, line 6 of the listing): RET",
             "        slots: s0 = 3",
             "        pending: none",
@@ -447,8 +450,8 @@ method void other(channel(int) c)
 schedule 0*11
 ";
     let explained = explained(text);
-    let emptied = "        emptied: q (qubit 0, cleared at entry 3), c (channel 0, given to other at entry 10), \
-                   a (end 0 of channel 0, whose channel was given to other at entry 10)";
+    let emptied = "        emptied: q (qubit 0, cleared at entry 3), c (channel 0, given to process 1 at entry 10), \
+                   a (end 0 of channel 0, whose channel was given to process 1 at entry 10)";
     assert!(explained.lines().any(|line| line == emptied), "{explained}");
 }
 

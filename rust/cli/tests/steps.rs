@@ -12,9 +12,27 @@ use cli::input::case::{Case, CaseOptions};
 use cli::input::make::make;
 use cli::input::numbers::Schedule;
 use cli::readiness::{readiness, Readiness};
-use common::generated;
 use data::{Configuration, End, Line, Value};
+use generate::case;
+use lanq::Program;
 use model::machine::{Machine, Readiness as Models};
+
+/// A generated case that runs.
+fn running(seed: u64) -> Option<Case> {
+    let case = case(seed);
+    let methods = Program::from(case.program.as_slice()).methods().ok()?;
+    let case = Case {
+        name: format!("seed {seed}"),
+        text: None,
+        program: case.program,
+        code: Some(Code::of_table(methods)),
+        schedule: case.schedule,
+        outcomes: case.outcomes,
+        made: None,
+        unscheduled: false,
+    };
+    CaseOptions::default().run(&case).is_ok().then_some(case)
+}
 
 fn code(case: &Case) -> &Code {
     case.code.as_ref().expect("a case that runs has methods")
@@ -47,7 +65,7 @@ fn of_model(machine: &Machine, number: usize) -> &'static str {
 fn steps_and_standings_are_the_models() {
     let given = CaseOptions::default();
     let mut seen = BTreeSet::new();
-    for case in (0..150).filter_map(generated) {
+    for case in (0..150).filter_map(running) {
         let run = given.run(&case).expect("it runs");
         let program = model::check(&case.program, &[], &[], data::WORK_WORDS).expect("it runs");
         let mut machine = Machine::new(&program, &case.outcomes, 6 * 100_000);
@@ -82,7 +100,7 @@ fn value(configuration: &Configuration, process: usize, frame: usize, cell: Cell
 fn what_is_emptied() {
     let given = CaseOptions::default();
     let mut met = BTreeSet::new();
-    for case in (0..150).filter_map(generated) {
+    for case in (0..150).filter_map(running) {
         let run = given.run(&case).expect("it runs");
         let mut emptied = EmptyCells::default();
         each_step(&given, &case, &run, |step| {
@@ -133,7 +151,7 @@ fn until_stuck() {
     let given = CaseOptions::default();
     let mut ends = BTreeSet::new();
     let mut idle_free = 0;
-    for mut case in (0..120).filter_map(generated) {
+    for mut case in (0..120).filter_map(running) {
         let Ok(made) = make(&Schedule::UntilStuck, &case, &CaseOptions::default()) else {
             continue;
         };
@@ -158,7 +176,7 @@ fn until_stuck() {
 /// What is written of a made schedule gives it again.
 #[test]
 fn made_schedules_can_be_given() {
-    for case in (0..60).filter_map(generated) {
+    for case in (0..60).filter_map(running) {
         for asked in [Schedule::RoundRobin(1), Schedule::RoundRobin(7), Schedule::RoundRobin(100), Schedule::UntilStuck]
         {
             let Ok(made) = make(&asked, &case, &CaseOptions::default()) else { continue };

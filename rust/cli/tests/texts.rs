@@ -51,8 +51,8 @@ fn the_command_prints_the_examples() {
 #[test]
 fn names_of_a_text() {
     let explained = lanq(&["explain", "half-evaluated.lanq"]).quiet();
-    assert!(explained.contains("at main 18 (table 18, line 8, column 5): CALL pair\n"), "{explained}");
-    assert!(explained.contains("emptied: q (qubit 0, given to station at entry "), "{explained}");
+    assert!(explained.contains("at main 18 (table 18, line 21 of the listing): CALL pair\n"), "{explained}");
+    assert!(explained.contains("emptied: q (qubit 0, given to process 1 at entry "), "{explained}");
     let folder = folder("text-names");
     let text = "int f(int a) { int b; { int a, b; a = b; } return a; } void main() { f(1); }";
     write(&folder, "twice.lanq", text);
@@ -202,9 +202,7 @@ wrong.lanq:5:18: refused 31 48: no variable `tru` is declared here
     assert_eq!(
         object.get("refused").expect("it is refused").to_string(),
         "{\"number\":31,\"place\":48,\"rule\":\"no variable `tru` is declared here\",\"method\":null,\"method_name\":null,\
-         \"instruction\":null,\"line\":5,\"column\":18,\"statement\":null,\"statement_line\":null,\"statement_column\":null,\
-         \"wanted\":null,\"found\":null,\"question\":\"Is every name declared, once in its block or once as a method, \
-         main among them, and called with as many arguments as it takes?\"}"
+         \"instruction\":null,\"line\":5,\"column\":18}"
     );
 }
 
@@ -225,30 +223,21 @@ fn places_of_bytes() {
 /// The words for a text's refusal, as the command finds them.
 fn words(text: &[u8], machine: Machine) -> Option<String> {
     let refusal = machine.translate(text).err()?;
-    Some(reason(text, refusal, &|text| machine.translate(text).err()).words)
-}
-
-/// Each text with its words.
-fn are_told(texts: &[(&str, &str)]) {
-    for (text, expected) in texts {
-        for machine in [Machine::Proved, Machine::Model] {
-            assert_eq!(words(text.as_bytes(), machine).as_deref(), Some(*expected), "{text}");
-        }
-    }
+    Some(reason(text, refusal, &|text| machine.translate(text).err()))
 }
 
 #[test]
 fn words_of_each_refusal() {
     let nested = format!("void main() {} {}", "{ ".repeat(33), "} ".repeat(33));
+    let long = format!("void main() {{ int a; {} }}", "a = 1; ".repeat(1_366));
     let many = format!("void main() {{ }} {}", (1..33).map(|n| format!("void f{n}() {{ }} ")).collect::<String>());
     let slots = "void main() { int a, b, c, d, e, f, g, h, i, j, k, l, m, n, o, p, q; }";
-    let gates = "the gates are X, Y, Z, H, S, CX, CZ, SWAP";
-    are_told(&[
+    let types = "a value is missing or has another type, or more than 8 are pending";
+    for (text, expected) in [
         ("", "expected a type or `void`, found the text's end"),
         ("void main() {", "expected a type, a statement or `}`, found the text's end"),
         ("void main() { return; }", "expected an expression, found `;`"),
         ("void main() { int a; a = 1 2; }", "expected an operator or `;`, found `2`"),
-        ("void main() { int a, b; a = a b a; }", "expected an operator, `(`, `;` or `=`, found `b`"),
         ("void main() { ; int a; }", "expected a statement or `}`, found `int`"),
         ("void main() { if (true) ; else else }", "expected a statement, found `else`"),
         ("void main() { if (true) ; 7 }", "expected a statement, `}` or `else`, found `7`"),
@@ -256,7 +245,6 @@ fn words_of_each_refusal() {
         ("void main() { channel[void] a; }", "expected `int`, `boolean` or `qbit`, found `void`"),
         ("void main(int) { }", "expected a name, found `)`"),
         ("void main(a = b) { }", "expected a type or `)`, found `a`"),
-        ("main() { }", "expected a type or `void`, found `main`"),
         ("void main() { a = new qbit(x = 1); }", "expected `)`, found `x`"),
         ("void main() { a = 1; \u{3c8} }", "the byte 207 belongs to no word, number or mark"),
         (
@@ -270,237 +258,48 @@ fn words_of_each_refusal() {
         (&nested, "a body or block of depth 33 starts here, and 32 is the greatest depth"),
         ("void f() { }", "there is no method main"),
         ("void main() { x = 1; }", "no variable `x` is declared here"),
-        ("void main() { g(); }", &format!("there is no method and no gate `g`; {gates}")),
+        ("void main() { g(); }", "there is no method and no gate `g`"),
         ("void main() { fork g(); }", "there is no method `g`"),
         ("void main() { qbit q; q = H(q); }", "`H` is a gate; in an expression and after fork only methods are meant"),
-        ("void main() { qbit q; if (true) CX(q); }", "`CX` takes 2 arguments, and 1 is given"),
-        ("void f(int a) { f(a, f(a), (a)); } void main() { }", "`f` takes 1 argument, and 3 are given"),
+        ("void main() { qbit q; if (true) CX(q); }", "`CX` takes 2 arguments, 1 stand here"),
+        ("void f(int a) { f(a, f(a), (a)); } void main() { }", "`f` takes 1 argument, 3 stand here"),
         ("void main(int a) { boolean b;\nqbit a; }", "`a` is declared already in this block, in line 1"),
         ("void f() { }\nvoid main() { }\nvoid f() { }", "there is a method `f` already, in line 1"),
         (&many, "it is method 33 of the text, and a table has at most 32"),
+        (&long, "the instructions of the methods up to and with it are more than 4096"),
         (
             "void main() { } void f(int a, int b, int c, int d, int e, int f, int g, int h, int i) { }",
             "it has 9 parameters, at most 8",
         ),
         (slots, "it has 17 slots, at most 16: its parameters and all its variables"),
-        (
-            "void main() { } int f() { int a, b, c, d, e, f, g, h, i, j, k, l, m, n, o, p; }",
-            "it has 17 slots, at most 16: its parameters and all its variables and one for what it returns",
-        ),
         ("int main() { }", "main has to be void"),
         ("void main(int a) { }", "main has to be without parameters"),
-    ]);
-}
-
-/// What other languages have, and what there is in its place.
-#[test]
-fn words_for_what_texts_do_not_have() {
-    let types = "the types are int, boolean, qbit, channel[..] and channelEnd[..]";
-    let boolean = format!("there is no type `bool`: it is called boolean here; {types}");
-    let qbit = format!("there is no type `qubit`: it is called qbit here; {types}");
-    let gates = "the gates are X, Y, Z, H, S, CX, CZ, SWAP";
-    are_told(&[
-        ("// a comment\nvoid main() { }", "there are no comments in a text"),
-        ("void main() { ; // nothing\n}", "there are no comments in a text"),
-        ("void main() { /* nothing */ }", "there are no comments in a text"),
-        ("# a comment\nvoid main() { }", "there are no comments in a text"),
-        ("void main() { bool b; }", &boolean),
-        ("void main() { int a; bool b; b = true; }", &boolean),
-        ("void f(bool b) { } void main() { }", &boolean),
-        ("bool f() { return true; } void main() { }", &boolean),
-        ("void main() { channel[bool] c; }", &boolean),
-        ("void main() { qubit q; }", &qbit),
-        ("void main() { chan[int] c; }", &format!("there is no type `chan`; {types}")),
-        ("void main() { Int a; }", &format!("there is no type `Int`: it is called int here; {types}")),
         (
-            "void main() { boolean b; b = !b; }",
-            "there is no `!`: what is done where a boolean is false stands in the else of an if",
-        ),
-        (
-            "void main() { int a; if (a != 1) ; }",
-            "there is no `!=`: the comparisons are == and <, and an else has what is done where one is false",
-        ),
-        ("void main() { int a; if (a > 1) ; }", "there is no `>`: write b < a for a > b"),
-        (
-            "void main() { int a; if (a >= 1) ; }",
-            "there is no `>=`: a >= b is true where a < b is false, in the else of an if",
-        ),
-        (
-            "void main() { int a; if (a <= 1) ; }",
-            "there is no `<=`: a <= b is true where b < a is false, in the else of an if",
-        ),
-        ("void main() { if (true && false) ; }", "there is no `&&`: write an if inside an if"),
-        ("void main() { if (true || false) ; }", "there is no `||`: write an if, and another in its else"),
-        ("void main() { int a; a = 2 * 3; }", "there is no `*`: the operators are +, -, == and <"),
-        ("void main() { int a; a = 6 / 3; }", "there is no `/`: the operators are +, -, == and <"),
-        ("void main() { int a; a = 6 % 4; }", "there is no `%`: the operators are +, -, == and <"),
-        ("void main() { int a; a++; }", "there is no `++`: write a = a + 1"),
-        ("void main() { int a; a += 2; }", "there is no `+=`: write a = a + b"),
-        ("void main() { int a; a = -5; }", "a number has no sign: write 0 - 5"),
-        ("void main() { int a; a = \"a\"; }", "there are no texts in quotation marks among the values"),
-        (
-            "void main() { qbit a, b; CNOT(a, b); }",
-            &format!("there is no method and no gate `CNOT`: it is called CX here; {gates}"),
-        ),
-        ("void main() { qbit a; T(a); }", &format!("there is no method and no gate `T`; {gates}")),
-    ]);
-}
-
-/// What types say: what was wanted and what was found, with the statement, and the
-/// method's name after it.
-#[test]
-fn words_of_types() {
-    let long = format!("void main() {{ int a;\n {} }}", "a = 1; ".repeat(1_366));
-    let longer = format!("void main() {{ int a; {} }}\nvoid f() {{ }}", "a = 1; ".repeat(1_365));
-    for (text, told, at, types) in [
-        ("void main() { int x;\n x = true; }", "`x` is int, and `true` is boolean", "2:2", "int boolean"),
-        ("void main() { qbit q;\n q = 7; }", "`q` is qbit, and `7` is int", "2:2", "qbit int"),
-        ("void main() { int n;\n  H(n); }", "`H` takes a qbit, and `n` is int", "2:3", "qbit int"),
-        ("void main() { qbit q;\n  CX(q, 1); }", "`CX` takes two qbits, and `1` is int", "2:3", "qbit int"),
-        (
-            "void f(boolean b) { } void main() {\n f(1); }",
-            "the argument of `f` is boolean, and `1` is int",
-            "2:2",
-            "boolean int",
-        ),
-        (
-            "void f(int a, channelEnd[qbit] e) { } void main() { qbit q;\n fork f(1, q); }",
-            "argument 2 of `f` is channelEnd[qbit], and `q` is qbit",
-            "2:2",
-            "channelEnd[qbit] qbit",
-        ),
-        ("void main() {\n return 0; }", "`main` is void and returns no value, and `0` is int", "2:2", "void int"),
-        ("int f() {\n return true; } void main() { }", "`f` returns int, and `true` is boolean", "2:2", "int boolean"),
-        ("void g() { } int f() {\n return g(); } void main() { }", "`f` returns int, and `g()` is void", "2:2", "int void"),
-        ("void g() { } void main() { int a;\n a = (g()); }", "`a` is int, and `(g())` is void", "2:2", "int void"),
-        ("void main() { int a; a = 1;\n if (a) a = true; }", "`if` takes a boolean, and `a` is int", "2:2", "boolean int"),
-        (
-            "void main() { int a; a = 1;\n  while (a < 3) {\n    a = true;\n    a = false; } }",
-            "`a` is int, and `true` is boolean",
-            "3:5",
-            "int boolean",
-        ),
-        (
-            "void main() { int a; boolean b;\n b = (a + 1) == b; }",
-            "`==` takes two ints, and `b` is boolean",
-            "2:2",
-            "int boolean",
-        ),
-        (
-            "void main() { int a; boolean b;\n b = a + 1 == 2; }",
-            "operators group to the right, so that brackets are needed, as in (a + b) == c: `+` takes two ints, and `1 == \
-             2` is boolean",
-            "2:2",
-            "int boolean",
-        ),
-        ("void main() { int a; boolean b;\n b = a + (1 == 2); }", "`+` takes two ints, and `(1 == 2)` is boolean", "2:2", "int boolean"),
-        ("void main() { int n;\n measure(StdBasis, n); }", "`measure` takes a qbit, and `n` is int", "2:2", "qbit int"),
-        (
-            "void main() { channel[int] c;\n recv(c); }",
-            "`recv` takes a channel end, and `c` is channel[int]",
-            "2:2",
-            "a channel end channel[int]",
-        ),
-        (
-            "void main() { channel[int] c;\n send(c, 1); }",
-            "`send` takes a channel end first, and `c` is channel[int]",
-            "2:2",
-            "a channel end channel[int]",
-        ),
-        (
-            "void main() { channel[qbit] c withends [a, b];\n send(a, 5); }",
-            "`a` carries qbit, and `5` is int",
-            "2:2",
-            "qbit int",
-        ),
-        (
-            "void main() { int a;\n a = 1 + 2 + 3 + 4 + 5 + 6 + 7 + 8 + 9; }",
-            "`9` would be a ninth pending value, and at most 8 may be; with brackets that group to the left, as (a + b) + \
-             c, there are fewer",
-            "2:2",
-            "",
-        ),
-        ("void main() { int a;\na = 1; a = 032768; a = 2; }", "032768 is above 32767, the largest number", "2:8", ""),
-        (
-            "void main() { channelEnd[int] e;\n e = new channelEnd[int](); }",
-            "an end comes with its channel, by withends, and is not made by itself",
-            "2:2",
-            "",
+            "void main() { int a;\na = 1; a = 032768; a = 2; }",
+            "in line 2, column 8, `a = 032768`: 032768 is above 32767, the largest number",
         ),
         (
             "void main() { channelEnd[int] e; e = new channelEnd[int](); }",
-            "an end comes with its channel, by withends, and is not made by itself",
-            "1:34",
-            "",
+            "in line 1, column 34, `e = new channelEnd[int]()`: no op makes a channel end by itself",
         ),
-        ("void main() { int a; a = 1; if (a) a = true; }", "`if` takes a boolean, and `a` is int", "1:29", "boolean int"),
         (
-            &long,
-            "the methods up to and with `main` have 4099 instructions, and a table has at most 4096",
-            "2:9557",
-            "",
+            "void main() { int a; a = 1;\n  while (a < 3) {\n    a = true;\n    a = false; } }",
+            &format!("in line 3, column 5, `a = true`: {types}"),
         ),
-        (&longer, "the methods up to and with `f` have 4097 instructions, and a table has at most 4096", "", ""),
+        ("void main() { int a; a = 1; if (a) a = true; }", &format!("in line 1, column 33, `a`: {types}")),
     ] {
         for machine in [Machine::Proved, Machine::Model] {
-            let refusal = machine.translate(text.as_bytes()).expect_err(text);
-            assert_eq!(refusal.question, Question::Limits, "{text}");
-            let found = reason(text.as_bytes(), refusal, &|text| machine.translate(text).err());
-            assert_eq!(found.words, told, "{text}");
-            let place = found.statement.as_ref().map(|one| format!("{}:{}", one.at.place.line, one.at.place.column));
-            assert_eq!(place.unwrap_or_default(), at, "{text}");
-            let found = found.statement.and_then(|one| one.types).map(|(wanted, found)| format!("{wanted} {found}"));
-            assert_eq!(found.unwrap_or_default(), types, "{text}");
+            assert_eq!(words(text.as_bytes(), machine).as_deref(), Some(expected), "{text}");
         }
     }
-}
-
-/// The statement first, with a mark under it and under what is wrong in it; then the
-/// method's name, which is the refusal's place.
-#[test]
-fn a_type_error_is_shown() {
-    let folder = folder("text-typed");
-    write(&folder, "typed.lanq", "void bob() { }\n\nvoid main() {\n    int x;\n\n    x = 1 + (true);\n}\n");
-    let notes = lanq_in(&folder, &["check", "typed.lanq"]).failed(1);
-    let expected = "\
-typed.lanq:6:5: refused 32 21: `+` takes two ints, and `(true)` is boolean
-    at byte 46, line 6, column 5
-            x = 1 + (true);
-            ^       ~~~~~~
-    in method main, whose name is the refusal's place, byte 21, line 3, column 6
-        void main() {
-             ^
-    question 32: Does the text's table pass questions 1 to 5?
-";
-    assert_eq!(notes, expected);
-    let called = lanq_in(&folder, &["run", "typed.lanq", "--json"]);
-    let json = Json::read(called.out.trim_end()).expect("JSON");
-    let refused = json.get("refused").expect("it is refused");
-    let expected =
-        "{\"number\":32,\"place\":21,\"rule\":\"`+` takes two ints, and `(true)` is boolean\",\"method\":null,\
-                    \"method_name\":\"main\",\"instruction\":null,\"line\":3,\"column\":6,\
-                    \"statement\":\"x = 1 + (true)\",\"statement_line\":6,\"statement_column\":5,\"wanted\":\"int\",\
-                    \"found\":\"boolean\",\"question\":\"Does the text's table pass questions 1 to 5?\"}";
-    assert_eq!(refused.to_string(), expected);
-    // A passage in another line has no mark, and one beyond what is shown has none.
-    write(&folder, "lines.lanq", "void main() { int x; x =\n    true; }");
-    let notes = lanq_in(&folder, &["check", "lines.lanq"]).failed(1);
-    assert!(
-        notes.contains("        void main() { int x; x =\n                             ^\n    in method"),
-        "{notes}"
-    );
-    let long = format!("void main() {{ int x; x = {}1 + true; }}", "1 + ".repeat(5) + &" ".repeat(200));
-    write(&folder, "long.lanq", long);
-    let notes = lanq_in(&folder, &["check", "long.lanq"]).failed(1);
-    assert!(notes.lines().nth(3).is_some_and(|line| line.trim_end().ends_with('^')), "{notes}");
 }
 
 /// What the words of a refusal have in them, by what the model finds to be
 /// wrong.
 fn mark(reason: Reason) -> &'static [&'static str] {
     match reason {
-        Reason::Token => &["expected ", " cannot stand here", "there is no ", "a number has no sign"],
-        Reason::Byte => &["the byte ", "there is no ", "there are no "],
+        Reason::Token => &["expected ", " cannot stand here"],
+        Reason::Byte => &["the byte "],
         Reason::Stops => &[", found the text's end"],
         Reason::Nesting => &["depth 33"],
         Reason::Withends => &["was declared withends"],
@@ -511,13 +310,13 @@ fn mark(reason: Reason) -> &'static [&'static str] {
         Reason::Count | Reason::GateCount => &[" takes "],
         Reason::NoMain => &["there is no method main"],
         Reason::Methods => &["it is method "],
-        Reason::Instructions => &["a table has at most 4096"],
+        Reason::Instructions => &["more than 4096"],
         Reason::Parameters => &[" parameters, at most 8"],
         Reason::Slots => &[" slots, at most 16"],
         Reason::Main => &["main has to be "],
         Reason::Number => &[" is above 32767"],
-        Reason::Instruction => &["is not made by itself"],
-        Reason::Types => &[", and `", "a ninth pending value"],
+        Reason::Instruction => &["no op makes "],
+        Reason::Types => &["has another type"],
     }
 }
 

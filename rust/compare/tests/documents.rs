@@ -74,18 +74,18 @@ fn is_part_of_a_name(c: char) -> bool {
     c.is_alphanumeric() || c == '_' || c == '-'
 }
 
-/// Every word of the definitions, proofs, code, header and tests, this one left out,
-/// and the names of the edits.
+/// Every word of the definitions, proofs, code and tests, this one left out, and
+/// the names of the edits.
 fn words() -> BTreeSet<String> {
     let mut all = BTreeSet::new();
-    let paths = ["crates", "rust", "include"].map(|folder| files(&root().join(folder))).concat();
+    let paths = [files(&root().join("crates")), files(&root().join("rust"))].concat();
     for path in paths.into_iter().filter(|path| !path.ends_with("tests/documents.rs")) {
         let stem = path.file_stem().expect("a name").to_string_lossy().into_owned();
         match path.extension().and_then(|ending| ending.to_str()) {
             Some("edit") => {
                 all.insert(stem);
             }
-            Some("antt" | "rt" | "rs" | "h") => {
+            Some("antt" | "rt" | "rs") => {
                 all.extend(text(&path).split(|c| !is_part_of_a_name(c)).map(str::to_owned));
             }
             _ => {}
@@ -141,8 +141,8 @@ fn every_definition_that_is_named_is_there() {
 #[test]
 fn every_word_of_the_documents_is_there() {
     let all = words();
-    // The page on Python has a test of its own, in Python, and the page on the port names what had other names.
-    let others = ["CAMPAIGNS.md", "CHANGES.md", "COMMAND.md", "PERFORMANCE.md", "PORT.md", "PYTHON.md"];
+    // The page on the port names what had other names.
+    let others = ["CAMPAIGNS.md", "CHANGES.md", "COMMAND.md", "PERFORMANCE.md", "PORT.md"];
     for (name, document) in documents().into_iter().filter(|(name, _)| !others.contains(&name.as_str())) {
         // The names of the prover's library have a test of their own.
         let document = match name.as_str() {
@@ -251,43 +251,6 @@ fn every_crate_is_listed() {
     assert_eq!(named, expected);
 }
 
-/// The limits of docs/LIMITS.md are those of include/lanq.h, and every one of them is
-/// there.
-#[test]
-fn the_limits_are_the_headers() {
-    let limits = document("docs/LIMITS.md");
-    let header = document("include/lanq.h");
-    let number = |name: &str| {
-        let after = |mark: &str| header.split_once(&format!("{name}{mark}")).map(|(_, rest)| rest);
-        let rest = after(" = ").or_else(|| after(" ")).unwrap_or_else(|| panic!("{name}"));
-        rest.chars().take_while(char::is_ascii_digit).collect::<String>()
-    };
-    let mut listed = BTreeSet::new();
-    for row in rows(&limits) {
-        let Some(name) = row.get(3).and_then(|cell| cell.strip_prefix('`')?.strip_suffix('`')) else { continue };
-        assert_eq!(row[1].replace(',', ""), number(name), "{name}");
-        listed.insert(name);
-    }
-    let is_limit = |word: &&str| word.starts_with("LANQ_MOST_") || *word == "LANQ_SLOTS";
-    let defined: BTreeSet<&str> = header.split(|c| !is_part_of_a_name(c)).filter(is_limit).collect();
-    assert_eq!(listed, defined);
-    assert!(limits.contains("8,256 words (`LANQ_WORK_WORDS`") && number("LANQ_WORK_WORDS") == "8256");
-}
-
-/// docs/PAPERS.md has the fourteen papers of document 02, and says which have landed:
-/// those have a part of docs/CHANGES.md.
-#[test]
-fn the_papers_that_have_landed() {
-    let (papers, changes) = (document("docs/PAPERS.md"), document("docs/CHANGES.md"));
-    let table = table(&papers, "| paper | asks for | landed |");
-    assert_eq!(table.len(), 14);
-    for (row, number) in table.iter().zip(1..) {
-        assert_eq!(row[0], format!("Paper {number}"));
-        let has_landed = changes.contains(&format!("\n## Paper {number}:"));
-        assert_eq!(row[2] == "yes", has_landed, "Paper {number}");
-    }
-}
-
 /// The tables of docs/MACHINE.md have the numbers, names and words of the crate
 /// data.
 #[test]
@@ -344,52 +307,4 @@ fn kinds(rows: &[Vec<&str>]) {
         let unused = [line.a, line.b, line.c].map(|column| column == UNUSED);
         assert_eq!([row[3], row[4], row[5]].map(|cell| cell == "unused"), unused, "{}", event.name());
     }
-}
-
-/// The figures of rust/bench/budgets.txt, by the names of their workloads.
-fn budgets(file: &str) -> BTreeMap<&str, &str> {
-    let lines = file.lines().filter(|line| !line.starts_with('#'));
-    lines.filter_map(|line| line.split_whitespace().next().zip(line.split_whitespace().nth(1))).collect()
-}
-
-/// The first table under each of these headings of docs/PERFORMANCE.md has a workload in its first
-/// column and its figure in the last. They are those of the file, none missing and none other.
-#[test]
-fn the_counted_figures_are_those_of_the_budgets() {
-    let page = document("docs/PERFORMANCE.md");
-    let file = document("rust/bench/budgets.txt");
-    let headings = ["The run", "The check", "The look-up and the same-lines answer", "The translation"];
-    let mut shown = BTreeMap::new();
-    for heading in headings {
-        let lines = section(&page, heading).lines().skip_while(|line| !line.starts_with('|')).skip(2);
-        for row in lines.take_while(|line| line.starts_with('|')).flat_map(rows) {
-            shown.insert(row[0], row[row.len() - 1].replace(',', ""));
-        }
-    }
-    let budgets = budgets(&file);
-    assert_eq!(BTreeSet::from_iter(shown.keys()), BTreeSet::from_iter(budgets.keys()));
-    for (name, figure) in budgets {
-        assert_eq!(shown[name], figure, "{name}: docs/PERFORMANCE.md has another figure than rust/bench/budgets.txt");
-    }
-}
-
-/// Where the table of growth comes to a workload that has a figure, it has that figure.
-#[test]
-fn the_growth_comes_to_the_figures_of_the_budgets() {
-    let page = document("docs/PERFORMANCE.md");
-    let file = document("rust/bench/budgets.txt");
-    let budgets = budgets(&file);
-    let counted = |with: &str, place: usize| {
-        let grown = table(&page, "| with | sizes | machine instructions | |");
-        let row = grown.into_iter().find(|row| row[0] == with).unwrap_or_else(|| panic!("{with}"));
-        let figures: Vec<&str> = row[2].split([',', ' ']).filter(|word| word.contains('.')).collect();
-        figures[place].to_string()
-    };
-    for place in 0..4 {
-        assert_eq!(counted("the instructions of the table, arithmetic", place), budgets["arithmetic"]);
-    }
-    assert_eq!(counted("the processes, in turn", 0), budgets["arithmetic"]);
-    assert_eq!(counted("the processes, in turn", 3), budgets["round-robin"]);
-    assert_eq!(counted("the frames, recursion", 3), budgets["calls"]);
-    assert_eq!(counted("the giver's frames, hand-over", 0), budgets["hand-over"]);
 }

@@ -34,7 +34,7 @@ const PRINTED_BY_CPP: &str = "\
 entry 14: process 0 gives qubit 0 to process 1
 entry 15: process 1 applies gate 4 to qubit 0
 entry 17: process 0 is stopped by fault 20
-lanq VERSION: end 1, 9 lines
+lanq 0.3: end 1, 9 lines
 from its text: end 1, 9 lines
 ";
 
@@ -153,22 +153,8 @@ fn the_desk_in_the_readme() {
 fn the_example_in_cpp_prints_the_worked_run() {
     let source = root().join("examples/given-whole.cpp");
     for standard in ["c++11", "c++17", "c++20"] {
-        let expected = PRINTED_BY_CPP.replace("VERSION", env!("CARGO_PKG_VERSION"));
-        assert_eq!(printed(&CPP, standard, &source), expected);
+        assert_eq!(printed(&CPP, standard, &source), PRINTED_BY_CPP);
     }
-}
-
-/// The header has the version of the crates, in one piece and in numbers.
-#[test]
-fn the_headers_version_is_ours() {
-    let header = std::fs::read_to_string(root().join("include/lanq.h")).expect("the header");
-    let defined = |name: &str| {
-        let line = header.lines().find_map(|line| line.strip_prefix(&format!("#define LANQ_VERSION{name} ")));
-        line.map(str::to_string).unwrap_or_default()
-    };
-    assert_eq!(defined(""), format!("\"{}\"", env!("CARGO_PKG_VERSION")));
-    let numbers = ["_MAJOR", "_MINOR", "_PATCH"].map(defined);
-    assert_eq!(numbers.join("."), env!("CARGO_PKG_VERSION"));
 }
 
 /// The header's names with their numbers, from the types that have them.
@@ -273,9 +259,7 @@ fn the_headers_numbers_are_ours() {
         header.lines().flat_map(|line| line.split([',', '{', '}'])).filter_map(|part| part.split_once(" = "));
     let named: Vec<&str> = assigned.map(|(name, _)| name.trim()).filter(|name| name.starts_with("LANQ_")).collect();
     let limits = ["PARAMETERS", "PENDING", "FRAMES", "PROCESSES", "QUBITS", "CHANNELS", "ENTRIES"];
-    // What a call takes of the stack has a test of its own, stack.rs.
-    let is_limit =
-        |name: &str| name.starts_with("LANQ_STACK_") || limits.iter().any(|limit| name == format!("LANQ_MOST_{limit}"));
+    let is_limit = |name: &str| limits.iter().any(|limit| name == format!("LANQ_MOST_{limit}"));
     assert!(named.len() > 70);
     for name in named {
         assert!(is_limit(name) || numbers.iter().any(|(one, _)| one == name), "{name}");

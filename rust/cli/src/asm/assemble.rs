@@ -11,7 +11,6 @@ use crate::asm::lex::Token;
 use crate::asm::parse::{parse, Instruction, InstructionForm, Method, Source};
 use crate::code::{Code, Origin};
 use crate::error::Error;
-use crate::input::numbers::Schedule;
 use crate::names::{MethodNames, Scope};
 
 /// What a text stands for, with its names. Schedule and outcomes are none where
@@ -19,7 +18,7 @@ use crate::names::{MethodNames, Scope};
 #[derive(Clone, Debug, PartialEq, Eq)]
 pub struct Assembly {
     pub code: Code,
-    pub schedule: Option<Schedule>,
+    pub schedule: Option<Vec<u8>>,
     pub outcomes: Option<Vec<u8>>,
 }
 

@@ -45,27 +45,6 @@ impl<'l, 't> Cursor<'l, 't> {
         word && ahead.next().is_some_and(|token| token.text == ":")
     }
 
-    /// The next tokens with nothing between them, as one text, and how many they are.
-    pub fn adjacent(&self) -> (String, usize) {
-        let mut text = String::new();
-        let mut count = 0;
-        let mut end = None;
-        for token in &self.line.tokens[self.index..] {
-            if end.is_some_and(|end| end != token.place.column) {
-                break;
-            }
-            text += token.text;
-            count += 1;
-            end = Some(token.place.column + token.text.len());
-        }
-        (text, count)
-    }
-
-    /// Passes over so many tokens.
-    pub fn pass(&mut self, tokens: usize) {
-        self.index += tokens;
-    }
-
     /// An error at the next token, or at the line's end.
     pub fn error(&self, what: &str) -> Error {
         match self.peek() {

@@ -4,7 +4,7 @@ use data::program::Method;
 use data::SLOTS;
 
 use crate::asm::ops::{instruction_text, Op};
-use crate::asm::types::{self, RAW, UNUSED};
+use crate::asm::types::{self, UNUSED};
 use crate::error::Place;
 use crate::names::{MethodNames, Scope};
 
@@ -49,7 +49,7 @@ pub fn listing_by(methods: &[Method], mut names: Vec<MethodNames>) -> Listing {
 
 /// The sections of the schedule and of the outcomes.
 pub fn list_inputs(schedule: &[u8], outcomes: &[u8]) -> String {
-    format!("{}\n{}", list_numbers("schedule", items(schedule)), list_numbers("outcomes", outcome_items(outcomes)))
+    format!("{}\n{}", list_numbers("schedule", schedule), list_numbers("outcomes", outcomes))
 }
 
 fn count(method: &Method) -> usize {
@@ -100,10 +100,10 @@ fn slot_text(method: &Method, names: &MethodNames, slot: usize) -> String {
 }
 
 /// The section's word, then the numbers in lines of some length.
-fn list_numbers(section: &str, items: Vec<String>) -> String {
+fn list_numbers(section: &str, bytes: &[u8]) -> String {
     let mut text = format!("{section}\n");
     let mut line = String::new();
-    for item in items {
+    for item in items(bytes) {
         if line.len() + item.len() + 1 > WIDTH {
             text += &format!("   {line}\n");
             line.clear();
@@ -116,23 +116,14 @@ fn list_numbers(section: &str, items: Vec<String>) -> String {
     text
 }
 
-/// A schedule's numbers as they are written, three equal ones or more as one item.
+/// Numbers as they are written, three equal ones or more as one item.
 pub fn items(bytes: &[u8]) -> Vec<String> {
-    written(bytes, |byte| byte.to_string())
-}
-
-fn written(bytes: &[u8], word: impl Fn(u8) -> String) -> Vec<String> {
     let runs = bytes.chunk_by(|one, next| one == next);
     let items = runs.flat_map(|run| match run {
-        [_] | [_, _] => run.iter().map(|byte| word(*byte)).collect(),
-        _ => vec![format!("{}*{}", word(run[0]), run.len())],
+        [_] | [_, _] => run.iter().map(u8::to_string).collect(),
+        _ => vec![format!("{}*{}", run[0], run.len())],
     });
     items.collect()
-}
-
-/// The same of outcomes, whose words are digits: a byte beyond 9 is written as it is.
-pub fn outcome_items(bytes: &[u8]) -> Vec<String> {
-    written(bytes, |byte| if byte < 10 { byte.to_string() } else { format!("{RAW}({byte})") })
 }
 
 /// Names for a table without a text: main, m1, m2; s0 to s15; L and the

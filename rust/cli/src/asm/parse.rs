@@ -1,19 +1,20 @@
 //! The grammar of the text form, which stands in docs/COMMAND.md. What is
 //! read here is the form alone; names are looked up when all are known.
 
+use std::num::NonZeroU16;
+
 use crate::asm::cursor::{Cursor, Phrase};
 use crate::asm::lex::{lines, Kind, Token};
 use crate::asm::ops::Op;
 use crate::asm::types;
 use crate::error::{Error, Place};
-use crate::input::numbers::{List, Schedule};
 
 /// A whole text.
 #[derive(Debug, Default)]
 pub struct Source<'t> {
     pub methods: Vec<Method<'t>>,
     /// None where the text has no such section.
-    pub schedule: Option<Schedule>,
+    pub schedule: Option<Vec<u8>>,
     pub outcomes: Option<Vec<u8>>,
     /// Where the last line ends.
     pub end: Place,
@@ -71,26 +72,24 @@ enum Section {
 #[derive(Debug)]
 struct Parser<'t> {
     source: Source<'t>,
-    schedule: Option<List>,
-    outcomes: Option<List>,
     section: Section,
     /// The sections of numbers seen so far.
     seen: Vec<(Section, Place)>,
 }
 
+/// More than any schedule that is run.
+pub const MOST_NUMBERS: usize = 100_000;
+
 const A_SECTION: &str = "`method`, `schedule` or `outcomes`";
 
 /// Reads a text.
 pub fn parse(text: &str) -> Result<Source<'_>, Error> {
-    let source = Source::default();
-    let mut parser = Parser { source, schedule: None, outcomes: None, section: Section::Start, seen: Vec::new() };
+    let mut parser = Parser { source: Source::default(), section: Section::Start, seen: Vec::new() };
     for line in lines(text)? {
         parser.line(&mut Cursor::new(&line))?;
         parser.source.end = line.end;
     }
-    let schedule = parser.schedule.map(List::into_schedule);
-    let outcomes = parser.outcomes.map(List::into_outcomes);
-    Ok(Source { schedule, outcomes, ..parser.source })
+    Ok(parser.source)
 }
 
 impl<'t> Parser<'t> {
@@ -102,7 +101,8 @@ impl<'t> Parser<'t> {
             (_, Section::Start) => Err(line.error(A_SECTION)),
             (Some("slots"), Section::Method) => self.slots(line),
             (_, Section::Method) => self.instruction(line),
-            (_, Section::Schedule | Section::Outcomes) => self.numbers(line),
+            (Some(_), _) => Err(line.error(&format!("a number, {A_SECTION}"))),
+            (None, _) => self.numbers(line),
         }
     }
 
@@ -173,27 +173,41 @@ impl<'t> Parser<'t> {
         }
         self.seen.push((section, place));
         self.section = section;
-        match section {
-            Section::Outcomes => self.outcomes = Some(List::outcomes()),
-            _ => self.schedule = Some(List::schedule()),
-        }
+        self.bytes();
         self.numbers(line)
     }
 
-    /// A line of the list of the section, or its rest.
+    /// `NUMBER` or `NUMBER * COUNT`, up to the line's end.
     fn numbers(&mut self, line: &mut Cursor<'_, 't>) -> Result<(), Error> {
-        let list = match self.section {
-            Section::Outcomes => &mut self.outcomes,
-            _ => &mut self.schedule,
-        };
-        match list {
-            // At a line's start another section may come.
-            Some(list) if line.keyword().is_some() && !list.begins(line) => {
-                Err(line.error(&format!("{}, {A_SECTION}", list.expected())))
+        while !line.at_end() {
+            let place = line.place();
+            let number = read_number(line, "a number from 0 to 255")?;
+            let mut count = NonZeroU16::MIN;
+            if line.skip("*") {
+                count = read_number(line, "a count from 1 to 65535")?;
             }
-            Some(list) => list.line(line),
-            None => Err(line.error(A_SECTION)),
+            self.add(number, usize::from(count.get()), place)?;
         }
+        Ok(())
+    }
+
+    /// The numbers of the section that the line stands in.
+    fn bytes(&mut self) -> &mut Vec<u8> {
+        let bytes = match self.section {
+            Section::Outcomes => &mut self.source.outcomes,
+            _ => &mut self.source.schedule,
+        };
+        bytes.get_or_insert_default()
+    }
+
+    /// Stops before a small text asks for endless room.
+    fn add(&mut self, number: u8, count: usize, place: Place) -> Result<(), Error> {
+        let bytes = self.bytes();
+        if bytes.len() + count > MOST_NUMBERS {
+            return Err(Error::at(place, format!("expected at most {MOST_NUMBERS} entries, found more")));
+        }
+        bytes.extend(std::iter::repeat_n(number, count));
+        Ok(())
     }
 }
 

@@ -7,14 +7,13 @@ use std::path::{Path, PathBuf};
 use std::time::{Duration, Instant};
 
 use crate::error::Failure;
-use crate::input::open::shown;
 use crate::json::Json;
 
 /// After so long the journal is on the disk even if the power fails.
 const SYNCED: Duration = Duration::from_secs(1);
 
 fn failure(path: &Path, what: &str) -> impl Fn(std::io::Error) -> Failure {
-    let message = format!("{}: {what}", shown(path));
+    let message = format!("{}: {what}", path.display());
     move |error| Failure::Said(format!("{message}: {error}"))
 }
 

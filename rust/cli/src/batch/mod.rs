@@ -8,7 +8,6 @@ mod journal;
 mod summary;
 
 use std::collections::{BTreeMap, HashMap};
-use std::ffi::{OsStr, OsString};
 use std::path::{Path, PathBuf};
 use std::sync::atomic::{AtomicUsize, Ordering};
 use std::sync::mpsc::{channel, Sender};
@@ -16,10 +15,9 @@ use std::sync::mpsc::{channel, Sender};
 use crate::batch::journal::{read_results, Journal, Results};
 use crate::error::Failure;
 use crate::input::case::{is_case, CaseOptions};
-use crate::input::open::shown;
 use crate::json::Json;
 use crate::progress::Progress;
-use crate::report::{asked_digest, case_json, digest, file_json, Detail, FORMAT, VERSION};
+use crate::report::{case_json, digest, file_json, Detail, FORMAT, VERSION};
 
 pub use crate::batch::summary::Summary;
 
@@ -80,19 +78,19 @@ impl Batch {
     }
 
     /// The names of the cases of this part, in their order.
-    fn names(&self) -> Result<Vec<OsString>, Failure> {
-        let unread = |error: std::io::Error| Failure::of(&shown(&self.directory), format!("cannot be read: {error}"));
+    fn names(&self) -> Result<Vec<String>, Failure> {
+        let shown = self.directory.display().to_string();
+        let unread = |error: std::io::Error| Failure::of(&shown, format!("cannot be read: {error}"));
         let mut names = Vec::new();
         for entry in std::fs::read_dir(&self.directory).map_err(unread)? {
             let entry = entry.map_err(unread)?;
-            let name = entry.file_name();
-            let is_hidden = name.as_encoded_bytes().starts_with(b".");
-            if !is_hidden && is_case(&entry.path(), self.given.program.is_some()) {
+            let name = entry.file_name().to_string_lossy().into_owned();
+            if !name.starts_with('.') && is_case(&entry.path(), self.given.program.is_some()) {
                 names.push(name);
             }
         }
         if names.is_empty() {
-            return Err(Failure::of(&shown(&self.directory), "has no case"));
+            return Err(Failure::of(&shown, "has no case"));
         }
         names.sort();
         let (part, of) = self.part;
@@ -116,7 +114,7 @@ impl Batch {
     /// Hands every case's result on as it comes.
     fn each(
         &self,
-        names: &[OsString],
+        names: &[String],
         old: &HashMap<String, Vec<Json>>,
         mut take: impl FnMut(CaseResult) -> Result<(), Failure>,
     ) -> Result<(), Failure> {
@@ -136,18 +134,11 @@ impl Batch {
     }
 
     /// Takes one case after the other until there is none left.
-    fn work(
-        &self,
-        names: &[OsString],
-        old: &HashMap<String, Vec<Json>>,
-        next: &AtomicUsize,
-        sender: Sender<CaseResult>,
-    ) {
+    fn work(&self, names: &[String], old: &HashMap<String, Vec<Json>>, next: &AtomicUsize, sender: Sender<CaseResult>) {
         loop {
             let number = next.fetch_add(1, Ordering::Relaxed);
             let Some(name) = names.get(number) else { return };
-            let old = old.get(&shown(name.as_ref())).map(Vec::as_slice).unwrap_or_default();
-            let (json, old) = self.result(name, old);
+            let (json, old) = self.result(name, old.get(name).map(Vec::as_slice).unwrap_or_default());
             if sender.send(CaseResult { number, json, old }).is_err() {
                 return;
             }
@@ -155,53 +146,34 @@ impl Batch {
     }
 
     /// A case's result, and whether it was there already.
-    fn result(&self, file: &OsStr, old: &[Json]) -> (Json, bool) {
-        let path = Some(self.directory.join(file));
-        let given = CaseOptions { path, is_one_of_many: true, ..self.given.clone() };
-        let name = &shown(file.as_ref());
-        let failed = |failure| match failure {
-            Failure::Refused(refused) => file_json(name, given.machine, &refused),
-            Failure::Call(why) | Failure::Said(why) => unread_json(name, &why),
+    fn result(&self, name: &str, old: &[Json]) -> (Json, bool) {
+        let given = CaseOptions { path: Some(self.directory.join(name)), silent: true, ..self.given.clone() };
+        let case = match given.case() {
+            Ok(case) => case,
+            Err(Failure::Refused(refused)) => return (file_json(name, given.machine, &refused), false),
+            Err(Failure::Call(why) | Failure::Said(why)) => return (unread_json(name, &why), false),
         };
-        let prepared = match given.prepare() {
-            Ok(prepared) => prepared,
-            Err(failure) => return (failed(failure), false),
-        };
-        // What was asked for in the same way has the same schedule, which need not be
-        // made again to see that.
-        let asked = asked_digest(&prepared, given.room);
-        if let Some(json) = old.iter().find(|json| self.is_of(json, ASKED, &asked)) {
+        if let Some(json) = old.iter().find(|json| self.is_of(json, &digest(&case, given.room))) {
             return (json.clone(), true);
         }
-        let case = match given.scheduled(prepared) {
-            Ok(case) => case,
-            Err(failure) => return (failed(failure), false),
-        };
-        let with_asked = |json: Json| json.with(ASKED, Json::text(&asked));
-        if let Some(json) = old.iter().find(|json| self.is_of(json, "inputs", &digest(&case, given.room))) {
-            return (with_asked(json.clone()), false);
-        }
-        let json = |result| with_asked(case_json(name, &given, &case, result, self.detail));
+        let json = |result| case_json(name, &case, given.machine, given.room, result, self.detail);
         match given.run(&case) {
             Ok(run) => (json(Ok(&run)), false),
             Err(Failure::Refused(refused)) => (json(Err(&refused)), false),
-            Err(failure) => (failed(failure), false),
+            Err(Failure::Call(why) | Failure::Said(why)) => (unread_json(name, &why), false),
         }
     }
 
     /// Whether an old result is of these inputs, by this machine and version, and
     /// says enough.
-    fn is_of(&self, json: &Json, key: &str, digest: &str) -> bool {
+    fn is_of(&self, json: &Json, digest: &str) -> bool {
         let text = |key| json.get(key).and_then(Json::as_text);
         let format = json.get("format").and_then(Json::as_number);
         let whole = self.detail == Detail::Short || json.get("end").is_none() || json.get("trace").is_some();
-        let same = [(key, digest), ("machine", self.given.machine.name()), ("version", VERSION)];
+        let same = [("inputs", digest), ("machine", self.given.machine.name()), ("version", VERSION)];
         whole && format == Some(i64::from(FORMAT)) && same.iter().all(|(key, value)| text(key) == Some(*value))
     }
 }
-
-/// The key of a digest that goes by how the schedule was asked for.
-const ASKED: &str = "asked";
 
 fn keep(all: &mut HashMap<String, Vec<Json>>, json: Json) {
     if let Some(name) = json.get("case").and_then(Json::as_text) {

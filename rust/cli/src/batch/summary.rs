@@ -17,8 +17,6 @@ pub struct Summary {
     pub faults: BTreeMap<i64, usize>,
     /// Cases that could not be read, with the reason.
     pub unread: Vec<String>,
-    /// Cases that have no schedule.
-    pub unscheduled: Vec<String>,
 }
 
 impl Summary {
@@ -32,9 +30,6 @@ impl Summary {
             *self.refused.entry(refused).or_default() += 1;
         } else if let Some(end) = number(json.get("end")) {
             *self.ends.entry(end).or_default() += 1;
-        }
-        if json.get("unscheduled").and_then(Json::as_bool) == Some(true) {
-            self.unscheduled.extend(json.get("case").and_then(Json::as_text).map(str::to_string));
         }
         for fault in json.get("faults").map(Json::as_list).unwrap_or_default() {
             if let Some(fault) = number(fault.get("fault")) {

@@ -9,7 +9,7 @@ use crate::options::{Arguments, INPUTS};
 pub const COMMAND: Command = Command {
     name: "asm",
     usage: "CASE > FILE.bin [options]",
-    about: "writes a case as an input file of print_run, which prints runs, to standard output",
+    about: "writes a case as the printing program's input file, to standard output",
     more: "\
 A text is assembled: its names are looked up and its table is written. What is wrong in it is shown
 with line, column and what was expected there, and nothing is written then. The questions from 3 on

@@ -1,7 +1,9 @@
 //! `lanq batch`
 
-use crate::batch::{default_out, Batch, Summary};
-use crate::commands::{unscheduled, Command, CommandResult};
+use std::path::PathBuf;
+
+use crate::batch::{default_out, Batch};
+use crate::commands::{Command, CommandResult};
 use crate::error::Failure;
 use crate::options::{flag, valued, Arguments, Opt, INPUTS, RUN};
 use crate::report::Detail;
@@ -28,13 +30,13 @@ const OPTIONS: &[Opt] = &[
 
 fn run(arguments: &Arguments) -> Result<CommandResult, Failure> {
     let [directory] = arguments.exactly("a directory")?;
-    let directory = directory.to_path_buf();
+    let directory = PathBuf::from(directory);
     let cores = std::thread::available_parallelism().map_or(1, usize::from);
     let part = arguments.value("--part").map(part).transpose()?.unwrap_or((0, 1));
     let batch = Batch {
         jobs: arguments.number("--jobs", 1)?.unwrap_or(cores),
-        out: arguments.path("--out").unwrap_or_else(|| default_out(&directory, part)),
-        others: arguments.paths("--use").collect(),
+        out: arguments.value("--out").map_or_else(|| default_out(&directory, part), PathBuf::from),
+        others: arguments.values("--use").map(PathBuf::from).collect(),
         detail: if arguments.has("--full") { Detail::Whole } else { Detail::Short },
         given: arguments.given(None)?,
         directory,
@@ -43,15 +45,9 @@ fn run(arguments: &Arguments) -> Result<CommandResult, Failure> {
     let summary = batch.run()?;
     Ok(CommandResult {
         out: summary.to_string().into_bytes(),
-        notes: notes(&summary),
+        notes: summary.unread.iter().map(|why| format!("{why}\n")).collect(),
         status: u8::from(!summary.all_ran()),
     })
-}
-
-/// Which cases could not be read and why, and which have no schedule.
-fn notes(summary: &Summary) -> String {
-    let unread = summary.unread.iter().map(|why| format!("{why}\n"));
-    unread.chain(summary.unscheduled.iter().map(|name| unscheduled(name))).collect()
 }
 
 /// `K/M`, K counted from 1.

@@ -3,12 +3,11 @@
 use crate::commands::{Command, CommandResult};
 use crate::error::Failure;
 use crate::explain::explain;
-use crate::explain::json::explain_json;
 use crate::options::{flag, Arguments, Opt, INPUTS, RUN};
 
 pub const COMMAND: Command = Command {
     name: "explain",
-    usage: "CASE [--all] [--json] [options]",
+    usage: "CASE [--all] [options]",
     about: "runs a case and explains its run in words",
     more: "\
 Each line of the trace has a sentence and who holds what after it. Then come the end, the counts,
@@ -18,10 +17,7 @@ in them, with the entry and the reason.",
     run,
 };
 
-const OPTIONS: &[Opt] = &[
-    flag("--all", "show every entry: idle ones with the reason, those without a line in blocks"),
-    flag("--json", "print one JSON object"),
-];
+const OPTIONS: &[Opt] = &[flag("--all", "show every entry: idle ones with the reason, those without a line in blocks")];
 
 fn run(arguments: &Arguments) -> Result<CommandResult, Failure> {
     let given = arguments.one_case()?;
@@ -29,10 +25,5 @@ fn run(arguments: &Arguments) -> Result<CommandResult, Failure> {
     let run = given.run(&case)?;
     // A case that runs has passed questions 1 and 2.
     let Some(code) = &case.code else { return Err(Failure::of(&case.name, "has no methods")) };
-    let all = arguments.has("--all");
-    let explained = match arguments.has("--json") {
-        true => format!("{}\n", explain_json(&given, &case, code, &run, all)),
-        false => explain(&given, &case, code, &run, all),
-    };
-    Ok(CommandResult::of_case(&case, explained))
+    Ok(CommandResult::of_case(&case, explain(&given, &case, code, &run, arguments.has("--all"))))
 }

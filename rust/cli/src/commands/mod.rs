@@ -8,17 +8,13 @@ mod holder;
 mod list;
 mod run;
 mod same;
-mod stations;
 mod timeline;
 mod translate;
 
-use std::ffi::OsString;
-
-use crate::case_refusal::CaseRefusal;
 use crate::error::Failure;
 use crate::input::case::Case;
 use crate::options::{Arguments, Opt};
-use crate::report::{file_json, VERSION};
+use crate::report::VERSION;
 
 /// A command of `lanq`.
 #[derive(Debug)]
@@ -38,7 +34,6 @@ pub static COMMANDS: &[Command] = &[
     run::COMMAND,
     check::COMMAND,
     explain::COMMAND,
-    stations::COMMAND,
     timeline::COMMAND,
     holder::COMMAND,
     same::COMMAND,
@@ -70,74 +65,40 @@ impl CommandResult {
     }
 }
 
-/// A refusal in words, and for standard output what else it is printed as.
-fn refusal(refused: &CaseRefusal, out: String) -> CommandResult {
-    CommandResult { out: out.into_bytes(), notes: refused.to_string(), status: 1 }
-}
-
 /// A made schedule as it can be given, or that there is none.
 fn schedule_note(case: &Case) -> String {
+    let name = &case.name;
     match (&case.made, case.unscheduled) {
-        (Some(written), _) => format!("{}: made --schedule '{written}'\n", case.name),
-        (None, true) => unscheduled(&case.name),
+        (Some(written), _) => format!("{name}: made --schedule '{written}'\n"),
+        (None, true) => {
+            format!("{name}: there is no schedule, so no entry is run; --schedule until-stuck makes one\n")
+        }
         _ => String::new(),
     }
 }
 
-/// What is said of a case without a schedule.
-pub fn unscheduled(name: &str) -> String {
-    format!("{name}: there is no schedule, so no entry is run; --schedule until-stuck makes one\n")
-}
-
 /// Does what the words of a call ask for.
-pub fn call(words: &[OsString]) -> CommandResult {
-    let Some((name, rest)) = words.split_first() else {
-        return failed(None, Failure::Call("wants a command".to_string()));
+pub fn call(words: &[String]) -> CommandResult {
+    let (name, rest) = match words.split_first() {
+        None => return failed(None, Failure::Call("wants a command".to_string())),
+        Some((name, rest)) => (name.as_str(), rest),
     };
-    let name = name.to_string_lossy();
-    let is_help = |word: &OsString| HELP.iter().any(|help| word == help);
-    if name == "help" || HELP.contains(&name.as_ref()) {
+    if ["help", "--help", "-h"].contains(&name) {
         return help(rest);
     }
-    if ["version", "--version"].contains(&name.as_ref()) {
-        return match rest {
-            [] => CommandResult::said(format!("lanq {VERSION}\n")),
-            rest if rest.iter().any(is_help) => CommandResult::said(VERSION_HELP),
-            _ => failed(None, Failure::Call("version wants nothing after it".to_string())),
-        };
+    if ["version", "--version"].contains(&name) && rest.is_empty() {
+        return CommandResult::said(format!("lanq {VERSION}\n"));
     }
     let Some(command) = COMMANDS.iter().find(|command| command.name == name) else {
         return failed(None, Failure::Call(format!("no command {name}")));
     };
-    if rest.iter().any(is_help) {
+    if rest.iter().any(|word| word == "--help") {
         return CommandResult::said(command_help(command));
     }
     let options: Vec<&Opt> = command.options.iter().copied().flatten().collect();
-    let done = Arguments::read(rest, &options).and_then(|arguments| match (command.run)(&arguments) {
-        // Who reads JSON reads a refusal as JSON, too.
-        Err(Failure::Refused(refused)) if arguments.has("--json") => {
-            Ok(refusal(&refused, format!("{}\n", file_json(&refused.name, arguments.machine(), &refused))))
-        }
-        done => done,
-    });
+    let done = Arguments::read(rest, &options).and_then(|arguments| (command.run)(&arguments));
     done.unwrap_or_else(|failure| failed(Some(command), failure))
 }
-
-/// The words that ask for help wherever they stand.
-const HELP: [&str; 2] = ["--help", "-h"];
-
-const VERSION_HELP: &str = "\
-usage: lanq version
-
-Says the command's version, which is that of the library and of include/lanq.h. It rises where what
-a run answers has changed, or what is written of it.
-";
-
-const HELP_HELP: &str = "\
-usage: lanq help [COMMAND]
-
-Lists the commands, or says more of one; so does lanq COMMAND --help, or -h.
-";
 
 /// What is said of a failure, and its exit status.
 fn failed(command: Option<&Command>, failure: Failure) -> CommandResult {
@@ -155,13 +116,10 @@ fn failed(command: Option<&Command>, failure: Failure) -> CommandResult {
     }
 }
 
-fn help(words: &[OsString]) -> CommandResult {
-    let words: Vec<String> = words.iter().map(|word| word.to_string_lossy().into_owned()).collect();
-    match words.iter().map(String::as_str).collect::<Vec<&str>>().as_slice() {
+fn help(words: &[String]) -> CommandResult {
+    match words {
         [] => CommandResult::said(overview()),
-        ["version"] => CommandResult::said(VERSION_HELP),
-        ["help"] => CommandResult::said(HELP_HELP),
-        [name] => match COMMANDS.iter().find(|command| command.name == *name) {
+        [name] => match COMMANDS.iter().find(|command| command.name == name) {
             Some(command) => CommandResult::said(command_help(command)),
             None => failed(None, Failure::Call(format!("no command {name}"))),
         },
@@ -175,9 +133,9 @@ fn overview() -> String {
 usage: lanq COMMAND ...
 
 A CASE is a program with its schedule and outcomes: a LanQ text (.lanq, these in .lanq.run beside
-it), a text of the assembler (.lqa), an input file of print_run, the program that prints a run
-(.bin), or a directory with program.lanq, program.lqa or program.bin, schedule.txt and outcomes.txt.
-- is standard input. Options give each part in place of the case's own.
+it), a text of the assembler (.lqa), an input file of the printing program (.bin), or a directory
+with program.lanq, program.lqa or program.bin, schedule.txt and outcomes.txt. Options give each part
+in place of the case's own.
 
 "
     .to_string();

@@ -1,19 +1,19 @@
 //! `lanq run`
 
-use crate::commands::{refusal, schedule_note, Command, CommandResult};
+use crate::case_refusal::CaseRefusal;
+use crate::commands::{schedule_note, Command, CommandResult};
 use crate::error::Failure;
 use crate::input::case::CaseOptions;
 use crate::options::{flag, Arguments, Opt, INPUTS, RUN};
-use crate::report::{case_json, csv, Detail};
+use crate::report::{case_json, csv, file_json, Detail};
 
 pub const COMMAND: Command = Command {
     name: "run",
     usage: "CASE [--json | --csv] [options]",
     about: "checks and runs a case, and prints its trace",
     more: "\
-Prints the lines and the end as print_run does, the program that prints a run: entry, process, kind,
-a, b, c, with - for an unused column, and last the end, the entries used, the lines written and the
-outcomes used.",
+Prints the lines and the end as the printing program does: entry, process, kind, a, b, c, with -
+for an unused column, and last the end, the entries used, the lines written and the outcomes used.",
     options: &[OPTIONS, INPUTS, RUN],
     run,
 };
@@ -46,8 +46,15 @@ fn plain(given: &CaseOptions, text: impl Fn(&data::Run) -> String) -> Result<Com
 }
 
 fn json(given: &CaseOptions) -> Result<CommandResult, Failure> {
-    let case = given.case()?;
-    let object = |result| format!("{}\n", case_json(&case.name, given, &case, result, Detail::Whole));
+    let case = match given.case() {
+        Err(Failure::Refused(refused)) => {
+            let object = file_json(&refused.name, given.machine, &refused);
+            return Ok(refusal(&refused, format!("{object}\n")));
+        }
+        case => case?,
+    };
+    let object =
+        |result| format!("{}\n", case_json(&case.name, &case, given.machine, given.room, result, Detail::Whole));
     match given.run(&case) {
         Ok(run) => Ok(CommandResult::of_case(&case, object(Ok(&run)))),
         Err(Failure::Refused(refused)) => {
@@ -56,4 +63,8 @@ fn json(given: &CaseOptions) -> Result<CommandResult, Failure> {
         }
         Err(failure) => Err(failure),
     }
+}
+
+fn refusal(refused: &CaseRefusal, out: String) -> CommandResult {
+    CommandResult { out: out.into_bytes(), notes: refused.to_string(), status: 1 }
 }

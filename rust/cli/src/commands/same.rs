@@ -5,29 +5,26 @@ use data::Line;
 use crate::commands::holder::lines;
 use crate::commands::{Command, CommandResult};
 use crate::error::Failure;
-use crate::options::{valued, Arguments, Opt, MODEL};
+use crate::options::{Arguments, MODEL};
 
 pub const COMMAND: Command = Command {
     name: "same",
-    usage: "CASE|TRACE CASE|TRACE [options]",
+    usage: "CASE|TRACE CASE|TRACE [--model]",
     about: "says whether two traces have the same lines, with the same gaps between their entries",
     more: "\
 A TRACE is what lanq run printed, in a file that ends in .trace, or with --csv in one that ends in
 .csv. Of a case the trace of its run is taken. Lines are the same where they differ in nothing but
 the entry; from each line to the next the entry has to change by the same amount. The exit status is
 0 where they are the same, 1 where they are not.",
-    options: &[&[BOTH_FORMATS, MODEL]],
+    options: &[&[MODEL]],
     run,
 };
 
-const BOTH_FORMATS: Opt =
-    valued("--format", "F", "both are lanq, lqa, bin, trace or csv; else their names or their contents say so");
-
 fn run(arguments: &Arguments) -> Result<CommandResult, Failure> {
     let [one, other] = arguments.exactly("two cases or traces")?;
-    let [one, other] = [lines(arguments, Some(one))?, lines(arguments, Some(other))?];
-    let notes = one.notes + &other.notes;
-    let [one, other] = [one.lines, other.lines];
+    let (one, mut notes) = lines(arguments, Some(one))?;
+    let (other, more) = lines(arguments, Some(other))?;
+    notes += &more;
     let done = match arguments.machine().same(&one, &other) {
         true => CommandResult::said(format!("same: {} lines\n", one.len())),
         false => {

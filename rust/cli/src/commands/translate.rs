@@ -1,13 +1,14 @@
 //! `lanq translate`
 
+use std::path::Path;
+
 use data::program::Method;
 use data::SLOTS;
 
 use crate::asm::list::listing_by;
 use crate::commands::{Command, CommandResult};
 use crate::error::Failure;
-use crate::input::open::{bytes, shown, Which};
-use crate::input::source::refused_text;
+use crate::input::source::{bytes, refused_text};
 use crate::machine::Machine;
 use crate::options::{flag, Arguments, Opt};
 use crate::text::names::code;
@@ -20,7 +21,7 @@ pub const COMMAND: Command = Command {
 The proved library translates the text. Methods and slots have the text's names; a name that two
 variables of a method have gets a number the second time, as q_2, and hole is the slot that is never
 filled. A refusal by 30, 31 or 32 is shown with its byte, its line and a mark, and nothing is
-written then. lanq asm writes the table of a LanQ text as an input file of print_run.",
+written then. lanq asm writes the table of a LanQ text as an input file of the printing program.",
     options: &[OPTIONS],
     run,
 };
@@ -28,9 +29,8 @@ written then. lanq asm writes the table of a LanQ text as an input file of print
 const OPTIONS: &[Opt] = &[flag("--words", "the words of the table as numbers: sizes, pairs, rows, instructions")];
 
 fn run(arguments: &Arguments) -> Result<CommandResult, Failure> {
-    let [path] = arguments.exactly("a LanQ text")?;
-    let text = bytes(path, Which::Named)?;
-    let name = &shown(path);
+    let [name] = arguments.exactly("a LanQ text")?;
+    let text = bytes(Path::new(name))?;
     let machine = Machine::Proved;
     let program = machine.translate(&text).map_err(|refusal| refused_text(name, &text, refusal, machine))?;
     let methods = lanq::Program::from(program.as_slice()).methods();

@@ -3,13 +3,15 @@
 
 use std::collections::BTreeMap;
 
-use crate::code::Site;
+use crate::code::{Code, Site};
 use crate::empty_cells::EmptyCells;
+use crate::explain::processes::how;
 use crate::explain::{RunContext, INDENT};
 use crate::history::{each_step, Step};
 use crate::holders::Holders;
 use crate::input::case::CaseOptions;
-use crate::sentence::sentences;
+use crate::readiness::readiness;
+use crate::sentence::sentence;
 
 /// So many instructions of a row of them are written out.
 const MOST_INSTRUCTIONS: usize = 8;
@@ -25,19 +27,18 @@ pub fn entries(given: &CaseOptions, context: RunContext) -> (String, EmptyCells)
     each_step(given, context.case, context.run, |step| {
         emptied.read(step);
         if step.lines.is_empty() {
-            block.read(context, step);
+            block.read(context.code, step);
             return;
         }
-        text += &std::mem::take(&mut block).text(context);
-        let station = context.naming.station(step.process.into());
-        text += &format!("entry {}: {station}, at {}\n", step.entry, at(context, step));
-        for (line, sentence) in step.lines.iter().zip(sentences(step.lines, context.naming)) {
+        text += &std::mem::take(&mut block).text();
+        text += &format!("entry {}: process {}, {}\n", step.entry, step.process, at(context.code, step));
+        for line in step.lines {
             holders.read(line);
-            text += &format!("{line:INDENT$} {sentence}\n");
+            text += &format!("{line:INDENT$} {}\n", sentence(line, context.code));
         }
-        text += &format!("{:INDENT$} held {}\n", "", holders.text(context.naming));
+        text += &format!("{:INDENT$} held {}\n", "", holders.text());
     });
-    text += &block.text(context);
+    text += &block.text();
     let (used, all) = (context.run.entries, context.case.schedule.len());
     if used < all {
         text += &format!("{} not used\n", spans(&(used..all).collect::<Vec<usize>>()));
@@ -46,10 +47,10 @@ pub fn entries(given: &CaseOptions, context: RunContext) -> (String, EmptyCells)
 }
 
 /// Where the process of an entry stands before it.
-fn at(context: RunContext, step: &Step) -> String {
+fn at(code: &Code, step: &Step) -> String {
     let process = step.before.processes.get(usize::from(step.process));
     let frame = process.and_then(|process| process.top());
-    let site = frame.and_then(|frame| context.code.site(frame.place));
+    let site = frame.and_then(|frame| code.site(frame.place));
     site.map(|site| site.to_string()).unwrap_or_default()
 }
 
@@ -70,33 +71,32 @@ struct SilentEntries {
 }
 
 impl Block {
-    fn read(&mut self, context: RunContext, step: &Step) {
+    fn read(&mut self, code: &Code, step: &Step) {
         self.entries.push(step.entry);
         let number = usize::from(step.process);
         let silent = self.processes.entry(step.process).or_default();
-        if context.standing(step.before, step.holders).readiness(number).is_able() {
+        if readiness(code, step.before, step.holders, number).is_able() {
             let frame = step.before.processes[number].top();
-            silent.steps.extend(frame.and_then(|frame| context.code.site(frame.place)));
+            silent.steps.extend(frame.and_then(|frame| code.site(frame.place)));
             return;
         }
         if silent.idle.is_empty() {
-            silent.why = context.standing(step.before, step.holders).words(number);
+            silent.why = how(code, step.before, step.holders, number);
         }
         silent.idle.push(step.entry);
     }
 
-    fn text(&self, context: RunContext) -> String {
+    fn text(&self) -> String {
         if self.entries.is_empty() {
             return String::new();
         }
         let mut text = format!("{}: no line\n", spans(&self.entries));
         for (number, silent) in &self.processes {
-            let station = context.naming.station((*number).into());
             if !silent.steps.is_empty() {
-                text += &format!("    {station} takes {}\n", rows(&silent.steps));
+                text += &format!("    process {number} takes {}\n", rows(&silent.steps));
             }
             if !silent.idle.is_empty() {
-                text += &format!("    {station} is idle at {}: it {}\n", spans(&silent.idle), silent.why);
+                text += &format!("    process {number} is idle at {}: it {}\n", spans(&silent.idle), silent.why);
             }
         }
         text

@@ -2,19 +2,16 @@
 //! entry where that is asked for, then the end, the counts and each process.
 
 mod blocks;
-pub mod json;
 mod processes;
 
-use data::{Configuration, Run, Side, Thing};
+use data::Run;
 
 use crate::code::Code;
 use crate::empty_cells::EmptyCells;
 use crate::history::each_step;
 use crate::holders::Holders;
 use crate::input::case::{Case, CaseOptions};
-use crate::naming::Naming;
-use crate::sentence::sentences;
-use crate::standing::Standing;
+use crate::sentence::sentence;
 
 /// Sentences start after the numbers of most lines.
 const INDENT: usize = 22;
@@ -29,71 +26,42 @@ struct RunContext<'r> {
     case: &'r Case,
     code: &'r Code,
     run: &'r Run,
-    naming: &'r Naming,
-}
-
-impl<'r> RunContext<'r> {
-    /// How processes stand in a configuration of the run.
-    fn standing(self, configuration: &'r Configuration, holders: &'r Holders) -> Standing<'r> {
-        Standing { code: self.code, naming: self.naming, configuration, holders }
-    }
 }
 
 /// Explains a run of a case. With `all`, every entry is shown, idle ones too.
 pub fn explain(given: &CaseOptions, case: &Case, code: &Code, run: &Run, all: bool) -> String {
-    let naming = &Naming::new(given, case, code, run);
-    let context = RunContext { case, code, run, naming };
-    let mut text = legend(context);
-    let emptied = if all {
+    let context = RunContext { case, code, run };
+    let mut text = LEGEND.to_string();
+    let mut emptied = None;
+    if all {
         let (entries, last) = blocks::entries(given, context);
         text += &entries;
-        Some(last)
+        emptied = Some(last);
     } else {
         text += &lines(context);
-        emptied(given, context)
-    };
+        if run.entries <= MOST_STEPPED {
+            let mut last = EmptyCells::default();
+            each_step(given, case, run, |step| last.read(step));
+            emptied = Some(last);
+        }
+    }
     text += &counts(context);
     text += &processes::processes(context, emptied.as_ref());
     text
 }
 
-/// What was emptied in a run, where it is not too long to be gone through.
-fn emptied(given: &CaseOptions, context: RunContext) -> Option<EmptyCells> {
-    let is_short = context.run.entries <= MOST_STEPPED;
-    is_short.then(|| {
-        let mut last = EmptyCells::default();
-        each_step(given, context.case, context.run, |step| last.read(step));
-        last
-    })
-}
+const LEGEND: &str = "\
+q0 is qubit 0, c1.0 is end 0 of channel 1, bob 2 (table 20) is instruction 2 of method bob and 20 of the table, from 0
 
-/// What stations, qubits, channels and instructions are called below.
-fn legend(context: RunContext) -> String {
-    let RunContext { run, naming, .. } = context;
-    let stations = naming.stations.iter().map(|station| format!("{} (process {})", station.name, station.process));
-    let qubits =
-        (0..run.configuration.qubits).map(|qubit| format!("q{qubit}{}", naming.in_brackets(Thing::Qubit(qubit))));
-    let channels = (0..run.configuration.channels).map(|channel| {
-        let end = |side| format!("c{channel}.{side}{}", naming.in_brackets(Thing::End(channel, side)));
-        let [end_0, end_1] = Side::ALL.map(end);
-        format!("c{channel}{} with its ends {end_0} and {end_1}", naming.in_brackets(Thing::Channel(channel)))
-    });
-    let mut text = format!("stations: {}\n", stations.collect::<Vec<String>>().join(", "));
-    for (what, things) in [("qubits", qubits.collect::<Vec<String>>()), ("channels", channels.collect())] {
-        if !things.is_empty() {
-            text += &format!("{what}: {}\n", things.join(", "));
-        }
-    }
-    text + "main 2 (table 2) is instruction 2 of method main and 2 of the table, both from 0\n\n"
-}
+";
 
 /// Each line with a sentence and the holders so far.
 fn lines(context: RunContext) -> String {
     let mut holders = Holders::default();
-    let sentences = sentences(&context.run.lines, context.naming);
-    let lines = context.run.lines.iter().zip(sentences).map(|(line, sentence)| {
+    let lines = context.run.lines.iter().map(|line| {
         holders.read(line);
-        format!("{line:INDENT$} {sentence}\n{:INDENT$} held {}\n", "", holders.text(context.naming))
+        let sentence = sentence(line, context.code);
+        format!("{line:INDENT$} {sentence}\n{:INDENT$} held {}\n", "", holders.text())
     });
     lines.collect()
 }

@@ -1,7 +1,7 @@
 //! What a command works on: a program, a schedule and outcomes.
 //!
 //! - [`case`]: all three, from a file, a directory or options
-//! - [`mod@open`]: files by their paths, and what they are; [`source`]: a program from one
+//! - [`source`]: a program from a file, by the file's ending
 //! - [`numbers`]: schedules and outcomes as they are written
 //! - [`make`]: schedules that are made and not given
 //! - [`mod@file`]: the input file of the printing program
@@ -11,6 +11,5 @@ pub mod case;
 pub mod file;
 pub mod make;
 pub mod numbers;
-pub mod open;
 pub mod source;
 pub mod trace;

@@ -5,6 +5,11 @@ use data::{Line, LINE_WORDS, UNUSED};
 
 use crate::error::{Error, Place};
 
+/// The ending of a file of printed lines.
+pub const PRINTED: &str = "trace";
+/// The ending of a file of lines with commas.
+pub const CSV: &str = "csv";
+
 /// Reads printed lines: six columns, unused ones as "-". The line of the end is
 /// passed over.
 pub fn printed(text: &str) -> Result<Vec<Line>, Error> {

@@ -2,9 +2,8 @@
 //! of a refusal; here a refusal is put into words, and the names of a text are
 //! found for its table.
 //!
-//! - [`token`]: the tokens of a text; [`outline`]: its methods and declarations
-//! - [`reader`]: its instructions with their places, and what types forbid;
-//!   [`types`]: types by their names in a text
+//! - [`token`]: the tokens of a text; [`outline`]: its methods, declarations
+//!   and statements
 //! - [`place`]: a byte's line and column, with the line shown
 //! - [`reason`]: what is wrong, in words
 //! - [`names`]: a table with the names of its text
@@ -12,7 +11,5 @@
 pub mod names;
 pub mod outline;
 pub mod place;
-pub mod reader;
 pub mod reason;
 pub mod token;
-pub mod types;

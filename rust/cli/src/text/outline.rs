@@ -1,6 +1,6 @@
-//! The methods of a text with what they declare, by its tokens alone. A text that
-//! keeps to the grammar is read whole; of any other the outline says nothing of
-//! use.
+//! The methods of a text with what they declare and their statements, by its
+//! tokens alone. A text that keeps to the grammar is read whole; of any other
+//! the outline says nothing of use.
 
 use std::ops::Range;
 
@@ -10,9 +10,11 @@ use crate::text::token::{tokens, Kind, Token, TYPES};
 #[derive(Clone, Debug, PartialEq, Eq)]
 pub struct Method<'t> {
     pub name: Token<'t>,
+    pub is_void: bool,
     pub parameters: Vec<Variable<'t>>,
     /// What its blocks declare, in text order; a channel with ends is three.
     pub variables: Vec<Variable<'t>>,
+    pub units: Vec<Unit>,
 }
 
 /// A name that is declared, and the block that it stands in, by a number.
@@ -20,6 +22,29 @@ pub struct Method<'t> {
 pub struct Variable<'t> {
     pub name: Token<'t>,
     pub block: usize,
+}
+
+/// What is evaluated by itself: a statement that holds no other, without its
+/// semicolon, or the condition of an if or a while. The bytes of the text.
+#[derive(Clone, Debug, PartialEq, Eq)]
+pub enum Unit {
+    Statement(Range<usize>),
+    Condition(Range<usize>),
+}
+
+impl Unit {
+    pub fn bytes(&self) -> &Range<usize> {
+        match self {
+            Unit::Statement(bytes) | Unit::Condition(bytes) => bytes,
+        }
+    }
+}
+
+impl Method<'_> {
+    /// Parameters, variables and, where it returns a value, the hole.
+    pub fn slots(&self) -> usize {
+        self.parameters.len() + self.variables.len() + usize::from(!self.is_void)
+    }
 }
 
 /// The methods in text order.
@@ -90,12 +115,13 @@ struct Walk<'w, 't> {
 impl<'t> Walk<'_, 't> {
     fn method(&mut self) -> Option<Method<'t>> {
         let rest = &self.tokens[self.at..];
+        let is_void = rest.first()?.is("void");
         let name = *rest.iter().find(|token| token.kind == Kind::Name)?;
         let open = self.at + rest.iter().position(|token| token.is("("))?;
         let close = closing(self.tokens, open)?;
         self.blocks += 1;
         let parameters = self.names(open..close, self.blocks);
-        let mut method = Method { name, parameters, variables: Vec::new() };
+        let mut method = Method { name, is_void, parameters, variables: Vec::new(), units: Vec::new() };
         self.at = close + 1;
         self.body(&mut method);
         Some(method)
@@ -135,7 +161,10 @@ impl<'t> Walk<'_, 't> {
         let first = self.tokens[self.at];
         let last = self.tokens.len() - 1;
         if first.is_one_of(&["if", "while"]) {
-            self.at = closing(self.tokens, self.at).unwrap_or(last) + 1;
+            let close = closing(self.tokens, self.at).unwrap_or(last);
+            let bytes = self.tokens[(self.at + 1).min(last)].end()..self.tokens[close].at;
+            method.units.push(Unit::Condition(bytes));
+            self.at = close + 1;
             return;
         }
         let length = self.tokens[self.at..].iter().position(|token| token.is(";"));
@@ -143,6 +172,8 @@ impl<'t> Walk<'_, 't> {
         if first.is_one_of(&TYPES) {
             let declared = self.names(self.at..end, block);
             method.variables.extend(declared);
+        } else {
+            method.units.push(Unit::Statement(first.at..self.tokens[end].at));
         }
         self.at = end + 1;
     }

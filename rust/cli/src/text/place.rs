@@ -1,7 +1,6 @@
 //! A byte's place in a text: line and column, and the line with a mark under it.
 
 use std::fmt;
-use std::ops::Range;
 
 use crate::error::Place;
 
@@ -19,9 +18,6 @@ pub struct TextPlace {
     shown: String,
     /// How many characters of it stand before the byte.
     before: usize,
-    /// A passage in the line, from the byte on: how many characters after it, and how
-    /// many characters long.
-    marked: Option<(usize, usize)>,
 }
 
 impl TextPlace {
@@ -45,43 +41,12 @@ impl TextPlace {
             shown += "...";
         }
         let before = before.len() - cut + if cut > 0 { 3 } else { 0 };
-        TextPlace { byte, place: Place { line, column }, shown: shown.trim_end().to_string(), before, marked: None }
-    }
-
-    /// With a passage marked, as far as it stands in the line that is shown.
-    pub fn marking(self, text: &[u8], bytes: &Range<usize>) -> TextPlace {
-        let between = text.get(self.byte..bytes.start).unwrap_or_default();
-        let passage = text.get(bytes.clone()).unwrap_or_default();
-        let length = characters(passage).len();
-        let in_line = passage.iter().position(|byte| *byte == b'\n').unwrap_or(length);
-        let is_here = bytes.start >= self.byte && !between.contains(&b'\n') && in_line > 0;
-        TextPlace { marked: is_here.then(|| (characters(between).len(), in_line)), ..self }
+        TextPlace { byte, place: Place { line, column }, shown: shown.trim_end().to_string(), before }
     }
 
     /// `line 3, column 7`
     pub fn words(&self) -> String {
         format!("line {}, column {}", self.place.line, self.place.column)
-    }
-}
-
-/// The places of a text's bytes, for many of them.
-#[derive(Clone, Debug)]
-pub struct Places {
-    /// Where each line starts.
-    lines: Vec<usize>,
-}
-
-impl Places {
-    /// Of a text of one byte a character, as every text is that 30 does not refuse.
-    pub fn new(text: &[u8]) -> Places {
-        let starts = text.iter().enumerate().filter(|(_, byte)| **byte == b'\n').map(|(at, _)| at + 1);
-        Places { lines: std::iter::once(0).chain(starts).collect() }
-    }
-
-    pub fn of(&self, byte: usize) -> Place {
-        let line = self.lines.partition_point(|start| *start <= byte);
-        let start = line.checked_sub(1).map_or(0, |before| self.lines[before]);
-        Place { line: line.max(1), column: byte - start + 1 }
     }
 }
 
@@ -91,18 +56,12 @@ fn characters(bytes: &[u8]) -> Vec<char> {
     text.chars().map(|one| if one.is_control() { ' ' } else { one }).collect()
 }
 
-/// Byte, line and column; then the line, with a mark under the byte and another one
-/// under a passage.
+/// Byte, line and column; then the line, and a mark under the byte.
 impl fmt::Display for TextPlace {
     fn fmt(&self, f: &mut fmt::Formatter) -> fmt::Result {
-        let TextPlace { byte, shown, before, marked, .. } = self;
+        let TextPlace { byte, shown, before, .. } = self;
         writeln!(f, "byte {byte}, {}", self.words())?;
         writeln!(f, "        {shown}")?;
-        let (after, length) = marked.unwrap_or_default();
-        // What stands beyond the part of the line that is shown has no mark.
-        let room = shown.chars().count().saturating_sub(*before);
-        let end = (after + length).min(room);
-        let under: String = (1..end).map(|at| if at >= after { '~' } else { ' ' }).collect();
-        write!(f, "        {:before$}^{}", "", under.trim_end())
+        write!(f, "        {:before$}^", "")
     }
 }

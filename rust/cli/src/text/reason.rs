@@ -1,61 +1,36 @@
 //! What is wrong with a refused text, in words. Number and place are the
-//! machine's. What is said of them goes by the tokens around the place; of 30, by
-//! what the machine answers for the text with another token there; and of 32, by
-//! the types of what stands in the method.
-
-use std::ops::Range;
+//! machine's. What is said of them goes by the tokens around the place, and by
+//! what the machine answers for the text with a part of it changed: which tokens
+//! could stand at the place, and which statement it is that a method is refused
+//! for.
 
 use data::program::{MOST_INSTRUCTIONS, MOST_METHODS};
-use data::{Gate, Question, Refusal, Type, SLOTS};
+use data::{Gate, Question, Refusal, SLOTS};
 
-use crate::text::outline::{closing, outline, starts_statement, Method};
+use crate::text::outline::{closing, outline, starts_statement, Method, Unit};
 use crate::text::place::TextPlace;
-use crate::text::reader::{self, read, shown};
-use crate::text::token::{tokens, Kind, Token, MARKS, OPERATORS, RESERVED, TYPES};
+use crate::text::token::{tokens, Kind, Token, MARKS, RESERVED, TYPES};
 
 /// What a machine answers for a text: its refusal, or none.
 pub type Ask<'m> = &'m dyn Fn(&[u8]) -> Option<Refusal>;
 
 /// In a longer text it is not asked which tokens could stand at a place.
 const MOST_ASKED: usize = 100_000;
+/// So many characters of a statement are shown.
+const SHOWN: usize = 60;
 const MOST_PARAMETERS: usize = 8;
+const LARGEST_NUMBER: u64 = 32_767;
 
-/// What is wrong, and where.
-#[derive(Clone, Debug, Default, PartialEq, Eq)]
-pub struct TextReason {
-    pub words: String,
-    /// The name of the method that 32 refuses.
-    pub method: Option<String>,
-    /// The statement in it that is at fault, where it is one.
-    pub statement: Option<Statement>,
-}
-
-/// A statement that is at fault.
-#[derive(Clone, Debug, PartialEq, Eq)]
-pub struct Statement {
-    pub at: TextPlace,
-    /// Its text, in one line.
-    pub text: String,
-    /// The types that were wanted and found, where it is these.
-    pub types: Option<(String, String)>,
-}
-
-impl TextReason {
-    fn new(words: impl Into<String>) -> TextReason {
-        TextReason { words: words.into(), ..TextReason::default() }
-    }
-}
-
-/// Why a text is refused by 30, 31 or 32.
-pub fn reason(text: &[u8], refusal: Refusal, ask: Ask) -> TextReason {
+/// The words for a refusal of a text by 30, 31 or 32.
+pub fn reason(text: &[u8], refusal: Refusal, ask: Ask) -> String {
     let tokens = tokens(text);
     let index = tokens.iter().position(|token| token.at >= refusal.place);
     let found = index.filter(|index| tokens[*index].at == refusal.place);
     match (refusal.question, found) {
-        (Question::Grammar, _) => TextReason::new(grammar(text, &tokens, index, refusal.place, ask)),
-        (Question::Names, None) => TextReason::new("there is no method main"),
-        (Question::Names, Some(index)) => TextReason::new(names(text, &tokens, index)),
-        (_, _) => limits(text, refusal.place),
+        (Question::Grammar, _) => grammar(text, &tokens, index, refusal.place, ask),
+        (Question::Names, None) => "there is no method main".to_string(),
+        (Question::Names, Some(index)) => names(text, &tokens, index),
+        (_, _) => limits(text, refusal, ask),
     }
 }
 
@@ -73,104 +48,15 @@ fn grammar(text: &[u8], tokens: &[Token], index: Option<usize>, place: usize, as
     if is_deep && starts_statement(tokens, index) {
         return "a body or block of depth 33 starts here, and 32 is the greatest depth".to_string();
     }
-    let wants_type = expected.as_ref().is_some_and(|what| what.contains("a type"));
-    let unlike = mark_of_others(text, tokens, index).or_else(|| no_such_type(tokens, index, wants_type));
-    if let Some(words) = unlike {
-        return words;
-    }
     match (token, expected) {
         (None, Some(what)) => format!("{what}, found the text's end"),
         (None, None) => "the text stops too early".to_string(),
         (Some(token), _) if token.kind == Kind::Other => {
             format!("the byte {} belongs to no word, number or mark", token.bytes[0])
         }
-        (Some(token), Some(what)) => format!("{what}, found `{}`", shown(text, &bytes(token))),
-        (Some(token), None) => format!("`{}` cannot stand here", shown(text, &bytes(token))),
+        (Some(token), Some(what)) => format!("{what}, found `{}`", shortened(&token.text())),
+        (Some(token), None) => format!("`{}` cannot stand here", shortened(&token.text())),
     }
-}
-
-fn bytes(token: Token) -> Range<usize> {
-    token.at..token.end()
-}
-
-/// What other languages have and texts do not, by how it starts, and what there is
-/// in its place. A longer one stands before a shorter one.
-const UNLIKE_OTHERS: [(&str, &str); 18] = [
-    ("//", "there are no comments in a text"),
-    ("/*", "there are no comments in a text"),
-    ("#", "there are no comments in a text"),
-    ("!=", "there is no `!=`: the comparisons are == and <, and an else has what is done where one is false"),
-    ("!", "there is no `!`: what is done where a boolean is false stands in the else of an if"),
-    (">=", "there is no `>=`: a >= b is true where a < b is false, in the else of an if"),
-    (">", "there is no `>`: write b < a for a > b"),
-    ("<=", "there is no `<=`: a <= b is true where b < a is false, in the else of an if"),
-    ("&&", "there is no `&&`: write an if inside an if"),
-    ("||", "there is no `||`: write an if, and another in its else"),
-    ("*", "there is no `*`: the operators are +, -, == and <"),
-    ("/", "there is no `/`: the operators are +, -, == and <"),
-    ("%", "there is no `%`: the operators are +, -, == and <"),
-    ("++", "there is no `++`: write a = a + 1"),
-    ("--", "there is no `--`: write a = a - 1"),
-    ("+=", "there is no `+=`: write a = a + b"),
-    ("-=", "there is no `-=`: write a = a - b"),
-    ("\"", "there are no texts in quotation marks among the values"),
-];
-
-/// Types of other languages, and what they are called in a text.
-const OTHER_TYPES: [(&str, &str); 6] = [
-    ("bool", "boolean"),
-    ("Boolean", "boolean"),
-    ("Int", "int"),
-    ("integer", "int"),
-    ("qubit", "qbit"),
-    ("Qbit", "qbit"),
-];
-
-/// A mark or a sign that texts do not have.
-fn mark_of_others(text: &[u8], tokens: &[Token], index: usize) -> Option<String> {
-    let token = *tokens.get(index)?;
-    let before = index.checked_sub(1).map(|before| tokens[before]);
-    if !matches!(token.kind, Kind::Other | Kind::Mark) {
-        return None;
-    }
-    // The first half of `<=` and the like is a token of its own.
-    let first_half = before.filter(|before| before.end() == token.at && before.kind == Kind::Mark);
-    for start in [Some(token.at), first_half.map(|before| before.at)].into_iter().flatten() {
-        let is_here =
-            |(mark, _): &&(&str, &str)| start + mark.len() > token.at && text[start..].starts_with(mark.as_bytes());
-        if let Some((_, words)) = UNLIKE_OTHERS.iter().find(is_here) {
-            return Some(words.to_string());
-        }
-    }
-    let next = tokens.get(index + 1).filter(|next| next.kind == Kind::Number)?;
-    let is_sign = token.is("-") && !before.is_some_and(may_end_operand);
-    is_sign.then(|| format!("a number has no sign: write 0 - {}", next.text()))
-}
-
-/// Whether an operator may follow a token.
-fn may_end_operand(token: Token) -> bool {
-    matches!(token.kind, Kind::Name | Kind::Number) || token.is_one_of(&[")", "true", "false"])
-}
-
-/// A name in a type's place: before the name that it would declare, or what a channel
-/// would carry.
-fn no_such_type(tokens: &[Token], index: usize, wants_type: bool) -> Option<String> {
-    let is_name = |token: Option<&Token>| token.is_some_and(|token| token.kind == Kind::Name);
-    let token = tokens.get(index)?;
-    let before = |count: usize| tokens.get(index.checked_sub(count)?);
-    let starts = index.checked_sub(1).is_some_and(|before| starts_statement(tokens, before));
-    let is_carried = before(1).is_some_and(|token| token.is("["))
-        && before(2).is_some_and(|token| token.is_one_of(&["channel", "channelEnd"]));
-    let name = match token {
-        // `bool b`, `chan[int] c`: as statements they are refused at the second token.
-        token if starts && is_name(before(1)) && (is_name(Some(token)) || token.is("[")) => before(1)?,
-        token if is_name(Some(token)) && (is_carried || wants_type && is_name(tokens.get(index + 1))) => token,
-        _ => return None,
-    };
-    let other = OTHER_TYPES.iter().find(|(other, _)| name.is(other));
-    let hint = other.map(|(_, right)| format!(": it is called {right} here")).unwrap_or_default();
-    let types = "the types are int, boolean, qbit, channel[..] and channelEnd[..]";
-    Some(format!("there is no type `{}`{hint}; {types}", name.text()))
 }
 
 /// Whether a name stands where an expression starts, with an assignment's mark
@@ -179,7 +65,7 @@ fn is_assigned_inside(tokens: &[Token], index: usize) -> bool {
     let is_assigned = tokens[index].kind == Kind::Name && tokens.get(index + 1).is_some_and(|next| next.is("="));
     let Some(before) = index.checked_sub(1).filter(|_| is_assigned) else { return false };
     match tokens[before] {
-        token if token.is_one_of(&OPERATORS) || token.is_one_of(&["=", "return"]) => true,
+        token if token.is_one_of(&["=", "+", "-", "==", "<", "return"]) => true,
         token if token.is("(") => {
             let word = before.checked_sub(1).map(|index| tokens[index]);
             // The brackets of a parameter list, of a measurement and of what is made new hold no expression.
@@ -241,7 +127,7 @@ const GROUPS: [(&str, &[&str]); 4] = [
     ("a type", &TYPES),
     ("a statement", &["name", "StdBasis", "{", ";", "measure", "recv", "fork", "send", "return", "if", "while"]),
     ("an expression", &["name", "StdBasis", "0", "(", "true", "false", "measure", "recv", "new"]),
-    ("an operator", &OPERATORS),
+    ("an operator", &["+", "-", "==", "<"]),
 ];
 
 // 31
@@ -271,18 +157,13 @@ fn names(text: &[u8], tokens: &[Token], index: usize) -> String {
     }
 }
 
-/// Gates by other names.
-const OTHER_GATES: [(&str, Gate); 4] =
-    [("CNOT", Gate::Cx), ("NOT", Gate::X), ("Hadamard", Gate::H), ("Swap", Gate::Swap)];
-
 /// A call of a method that is not there, or with a wrong number of arguments.
 fn called(tokens: &[Token], index: usize, method: Option<&Method>) -> String {
     let name = tokens[index].text();
     let count = arguments(tokens, index + 1);
     let takes = |number: usize| {
         let arguments = if number == 1 { "argument" } else { "arguments" };
-        let given = if count == 1 { "is given" } else { "are given" };
-        format!("`{name}` takes {number} {arguments}, and {count} {given}")
+        format!("`{name}` takes {number} {arguments}, {count} stand here")
     };
     if let Some(method) = method {
         return takes(method.parameters.len());
@@ -290,12 +171,7 @@ fn called(tokens: &[Token], index: usize, method: Option<&Method>) -> String {
     match Gate::ALL.iter().find(|gate| gate.to_string() == name) {
         Some(gate) if starts_statement(tokens, index) => takes(1 + usize::from(gate.takes_two())),
         Some(_) => format!("`{name}` is a gate; in an expression and after fork only methods are meant"),
-        None if starts_statement(tokens, index) => {
-            let gates: Vec<&str> = Gate::ALL.iter().map(|gate| gate.name()).collect();
-            let other = OTHER_GATES.iter().find(|(other, _)| *other == name);
-            let hint = other.map(|(_, gate)| format!(": it is called {gate} here")).unwrap_or_default();
-            format!("there is no method and no gate `{name}`{hint}; the gates are {}", gates.join(", "))
-        }
+        None if starts_statement(tokens, index) => format!("there is no method and no gate `{name}`"),
         None => format!("there is no method `{name}`"),
     }
 }
@@ -321,64 +197,96 @@ fn arguments(tokens: &[Token], open: usize) -> usize {
 
 // 32
 
-fn limits(text: &[u8], place: usize) -> TextReason {
-    let unknown = || TextReason::new("the table passes a limit with this method");
-    let names = outline(text);
-    let Some(index) = names.iter().position(|method| method.name.at == place) else { return unknown() };
-    if index >= MOST_METHODS {
-        let words = format!("it is method {} of the text, and a table has at most {MOST_METHODS}", index + 1);
-        return TextReason { method: Some(names[index].name.text()), ..TextReason::new(words) };
-    }
-    let Some(methods) = read(text, index + 1) else { return unknown() };
-    let Some(method) = methods.last() else { return unknown() };
-    TextReason { method: Some(method.name.text()), ..of_method(text, &methods, method) }
-}
-
-/// Why a method is refused: by its head, by its instructions or by its types.
-fn of_method(text: &[u8], methods: &[reader::Method], method: &reader::Method) -> TextReason {
+fn limits(text: &[u8], refusal: Refusal, ask: Ask) -> String {
+    let methods = outline(text);
+    let Some(index) = methods.iter().position(|method| method.name.at == refusal.place) else {
+        return "the table passes a limit with this method".to_string();
+    };
+    let method = &methods[index];
     let is_main = method.name.is("main");
     let (parameters, slots) = (method.parameters.len(), method.slots());
-    let is_void = method.returns == Type::None;
-    let head = if parameters > MOST_PARAMETERS {
+    if index >= MOST_METHODS {
+        format!("it is method {} of the text, and a table has at most {MOST_METHODS}", index + 1)
+    } else if parameters > MOST_PARAMETERS {
         format!("it has {parameters} parameters, at most {MOST_PARAMETERS}")
     } else if slots > SLOTS {
-        let hole = if is_void { "" } else { " and one for what it returns" };
+        let hole = if method.is_void { "" } else { " and one for what it returns" };
         format!("it has {slots} slots, at most {SLOTS}: its parameters and all its variables{hole}")
     } else if is_main && parameters > 0 {
         "main has to be without parameters".to_string()
-    } else if is_main && !is_void {
+    } else if is_main && !method.is_void {
         "main has to be void".to_string()
     } else {
-        return of_code(text, methods, method);
-    };
-    TextReason::new(head)
+        of_a_unit(text, method, refusal, ask)
+    }
 }
 
-fn of_code(text: &[u8], methods: &[reader::Method], method: &reader::Method) -> TextReason {
-    let statement = |number: usize, marked: &Range<usize>, types: Option<(String, String)>| {
-        let bytes = &method.statements[number];
-        let at = TextPlace::new(text, bytes.start).marking(text, marked);
-        Statement { at, text: shown(text, bytes), types }
-    };
-    let code = method.code.as_deref().unwrap_or_default();
-    let before: usize = methods[..methods.len() - 1].iter().flat_map(|one| &one.code).map(Vec::len).sum();
-    if before + code.len() > MOST_INSTRUCTIONS {
-        let words = format!(
-            "the methods up to and with `{}` have {} instructions, and a table has at most {MOST_INSTRUCTIONS}",
-            method.name.text(),
-            before + code.len()
-        );
-        // The statement with which they become too many.
-        let first = MOST_INSTRUCTIONS.checked_sub(before).and_then(|first| code.get(first));
-        let number = first.and_then(|instruction| instruction.statement);
-        let statement = number.map(|number| statement(number, &(0..0), None));
-        return TextReason { statement, ..TextReason::new(words) };
+/// The first statement or condition with which the method is refused. Each is
+/// evaluated by itself, so with all others left out it is refused too, unless it
+/// is the number of instructions that is too large.
+fn of_a_unit(text: &[u8], method: &Method, refusal: Refusal, ask: Ask) -> String {
+    let many = format!("the instructions of the methods up to and with it are more than {MOST_INSTRUCTIONS}");
+    let is_refused = |keeps: &dyn Fn(usize) -> bool| ask(&with(text, method, keeps)) == Some(refusal);
+    if is_refused(&|_| false) {
+        return many;
     }
-    match &method.wrong {
-        None => TextReason::new("the table passes a limit with this method"),
-        Some(wrong) => TextReason {
-            statement: Some(statement(wrong.statement, &wrong.bytes, wrong.types.clone())),
-            ..TextReason::new(wrong.words.clone())
-        },
+    // With the first `low` of them it is accepted, with the first `high` it is refused.
+    let (mut low, mut high) = (0, method.units.len());
+    while low + 1 < high {
+        let middle = (low + high) / 2;
+        if is_refused(&|unit| unit < middle) {
+            high = middle;
+        } else {
+            low = middle;
+        }
+    }
+    let Some(unit) = high.checked_sub(1).and_then(|last| method.units.get(last)) else { return many };
+    if !is_refused(&|other| other + 1 == high) {
+        return many;
+    }
+    let bytes = &text[unit.bytes().clone()];
+    let place = TextPlace::new(text, unit.bytes().start).words();
+    format!("in {place}, `{}`: {}", shortened(&String::from_utf8_lossy(bytes)), wrong(bytes))
+}
+
+/// The text with only some of a method's units: no statement in place of the
+/// others, and `true` for a condition.
+fn with(text: &[u8], method: &Method, keeps: &dyn Fn(usize) -> bool) -> Vec<u8> {
+    let mut left = Vec::new();
+    let mut from = 0;
+    for (_, unit) in method.units.iter().enumerate().filter(|(number, _)| !keeps(*number)) {
+        left.extend(&text[from..unit.bytes().start]);
+        if matches!(unit, Unit::Condition(_)) {
+            left.extend(b" true ");
+        }
+        from = unit.bytes().end;
+    }
+    left.extend(&text[from..]);
+    left
+}
+
+/// What is wrong in a statement or a condition.
+fn wrong(bytes: &[u8]) -> String {
+    let tokens = tokens(bytes);
+    let is_large = |token: &&Token| {
+        let number = token.text().parse::<u64>();
+        token.kind == Kind::Number && number.map_or(true, |number| number > LARGEST_NUMBER)
+    };
+    if let Some(number) = tokens.iter().find(is_large) {
+        return format!("{} is above {LARGEST_NUMBER}, the largest number", shortened(&number.text()));
+    }
+    if tokens.windows(2).any(|two| two[0].is("new") && two[1].is("channelEnd")) {
+        return "no op makes a channel end by itself".to_string();
+    }
+    "a value is missing or has another type, or more than 8 are pending".to_string()
+}
+
+/// The beginning of a passage, in one line.
+fn shortened(text: &str) -> String {
+    let words: Vec<&str> = text.split_whitespace().collect();
+    let line = words.join(" ");
+    match line.char_indices().nth(SHOWN) {
+        Some((end, _)) => format!("{}...", &line[..end]),
+        None => line,
     }
 }

@@ -48,9 +48,6 @@ pub const MARKS: [&str; 13] = ["(", ")", "{", "}", "[", "]", ",", ";", "+", "-",
 /// The words that a type of a variable starts with.
 pub const TYPES: [&str; 5] = ["int", "boolean", "qbit", "channel", "channelEnd"];
 
-/// The marks between two expressions.
-pub const OPERATORS: [&str; 4] = ["+", "-", "==", "<"];
-
 impl Token<'_> {
     /// Whether it is this word or mark.
     pub fn is(self, wanted: &str) -> bool {

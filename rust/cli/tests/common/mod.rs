@@ -6,12 +6,8 @@ use std::path::{Path, PathBuf};
 use std::process::{Command, Output};
 
 use cli::asm::assemble::{assemble, Assembly};
-use cli::code::Code;
-use cli::input::case::{Case, CaseOptions};
-use cli::input::numbers::Schedule;
 use data::file::file;
 use data::program::table;
-use lanq::Program;
 
 /// An example: its name, its text and what is printed for it.
 pub struct Example {
@@ -67,41 +63,7 @@ pub fn assembled(text: &str) -> Assembly {
 /// The input file of a text.
 pub fn bytes(text: &str) -> Vec<u8> {
     let Assembly { code, schedule, outcomes } = assembled(text);
-    file(&table(&code.methods), &entries(schedule), &outcomes.unwrap_or_default())
-}
-
-/// The entries of a schedule that is written out.
-pub fn entries(schedule: Option<Schedule>) -> Vec<u8> {
-    match schedule {
-        None => Vec::new(),
-        Some(Schedule::Entries(entries)) => entries,
-        Some(made) => panic!("{made:?} is made"),
-    }
-}
-
-/// A generated case that runs.
-pub fn generated(seed: u64) -> Option<Case> {
-    let case = generate::case(seed);
-    let methods = Program::from(case.program.as_slice()).methods().ok()?;
-    let case = Case {
-        name: format!("seed {seed}"),
-        text: None,
-        program: case.program,
-        code: Some(Code::of_table(methods)),
-        schedule: case.schedule,
-        outcomes: case.outcomes,
-        made: None,
-        unscheduled: false,
-    };
-    CaseOptions::default().run(&case).is_ok().then_some(case)
-}
-
-/// Compares with a file of tests/expected, in which the version is left open.
-pub fn expect(name: &str, text: &str) {
-    let path = repository("rust/cli/tests/expected").join(name);
-    let expected = fs::read_to_string(&path).unwrap_or_else(|error| panic!("{}: {error}", path.display()));
-    let version = format!("\"version\":\"{}\"", cli::report::VERSION);
-    assert_eq!(text.replace(&version, "\"version\":\"..\""), expected, "{name}");
+    file(&table(&code.methods), &schedule.unwrap_or_default(), &outcomes.unwrap_or_default())
 }
 
 /// A text of main alone, with this body.
