@@ -1,5 +1,5 @@
 -- Question 4's test and the marks, as the loop meets them; and that exactly the targets are marked.
-use Prim.Native.Nat.{ℕ, zero, suc, ◌+◌, ◌<◌}
+use Prim.Native.Nat.{ℕ, zero, suc, ◌+◌, ◌≤◌, ◌<◌}
 use native.Mathlib.Omega.{arith}
 use native.Mathlib.Numerals.{add-one}
 use native.Mathlib.Decide.{ℕ_discrete}
@@ -10,8 +10,9 @@ use lib.Dec.{T, eqb, ltb}
 use lib.ListN.{length, get_or, set, length-set}
 use lib.Seq.{get_or-set_same, get_or-set_other, set-get_or}
 use borrow.Author.Tests.{eq-eqb, ne_eqb}
-use Rattle.lists.specs.Lists.{any, below}
+use Rattle.lists.specs.Lists.{any, below, first_false}
 use Rattle.lists.proofs.Tests.{cond_both, passes}
+use Rattle.lists.proofs.First.{first-halts}
 use Rattle.table.specs.Table.{methods, instructions, offset_of, end_of, op_at, arg_at, owner_of}
 use Rattle.table.specs.Ops.{op_of}
 use Rattle.table.specs.Reading.{op_there, jumps_to, is_target}
@@ -67,6 +68,11 @@ module _ (op at i : ℕ) (ts : List ℕ) {k : ℕ} (e : k ≡ cond (eqb op 17 ||
 pub marked-begins : (p ts : List ℕ) → ts ≡ marked p 0 ts
 unfolding marked
 marked-begins p ts = refl
+
+-- the targets up to the first instruction at fault
+pub marked-halts : (p ts us : List ℕ) (n i : ℕ) → us ≡ marked p i ts → first_false (instruction_kept p) i ≡ i → i ≤ n
+    → (i < n → instruction_kept p i ≡ false) → us ≡ marked p (first_false (instruction_kept p) n) ts
+marked-halts p ts us n i u e h t = rw (first-halts (instruction_kept p) n i e h t) u
 
 pub marks-length : (op target : ℕ) (ts : List ℕ) → length (marks op target ts) ≡ length ts
 unfolding marks

@@ -1,5 +1,5 @@
 -- What an op's argument may be, by a table over the op's number. These definitions follow the code.
-use Rattle.std.specs.Prelude.{ℕ, ◌*◌, ◌/◌, ◌%◌, Bool, cond, ◌&&◌, ◌||◌, List, [], ◌∷◌, eqb, leb, ltb, get_or}
+use Rattle.std.specs.Prelude.{ℕ, ◌*◌, ◌/◌, ◌%◌, Bool, cond, ◌&&◌, ◌||◌, List, [], ◌∷◌, eqb, leb, ltb}
 
 -- For each op four times the first number above its arguments, and 2 where the argument is a slot, and 1 where it is
 -- not 0. CALL and FORK name one of `count` methods; the bound of a jump is its method's length, and stands elsewhere.

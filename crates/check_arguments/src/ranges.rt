@@ -23,22 +23,10 @@ pub fn limits_for(count: usize) -> [usize; 24]
 }
 
 // x where b is true, else y.
-pub fn chosen(b: bool, x: usize, y: usize) -> usize
+pub fn chosen<T: Copy>(b: bool, x: T, y: T) -> T
     ensures { result ≡ cond b x y }
 {
-    if b {
-        return x;
-    }
-    y
-}
-
-pub fn chosen_byte(b: bool, x: u8, y: u8) -> u8
-    ensures { result ≡ cond b x y }
-{
-    if b {
-        return x;
-    }
-    y
+    if b { x } else { y }
 }
 
 // The type of the slot that the argument names, or of another where it is none.

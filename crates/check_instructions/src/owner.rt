@@ -24,7 +24,7 @@ impl Owner {
         Owner {
             method: m,
             row: 2 + 2 * word_at(p, 0) + 18 * m,
-            start: start,
+            start,
             end: start + word_at(p, 3 + 2 * m),
         }
     }

@@ -1,18 +1,9 @@
 // Question 6.
-ghost use Rattle.std.specs.Prelude.{◌≡◌, length};
-ghost use Rattle.lists.specs.Lists.{first_false};
-ghost use Rattle.check_questions.specs.AskCode.{outcome_kept};
+ghost use Rattle.std.specs.Prelude.{◌≡◌, position, nat_lt};
 
-// The first outcome byte that is neither 0, 1 nor 2, or their number.
-pub fn first_outcome(outcomes: &[u8]) -> usize
-    ensures { result ≡ first_false (outcome_kept outcomes.now) (length outcomes.now) }
+// The first outcome byte that is neither 0, 1 nor 2, if there is one.
+pub fn first_outcome(outcomes: &[u8]) -> Option<usize>
+    ensures { result ≡ position (λ x. nat_lt 2 x) outcomes.now }
 {
-    let mut i = 0;
-    while i < outcomes.len() {
-        if 2 < outcomes[i] {
-            return i;
-        }
-        i += 1;
-    }
-    i
+    outcomes.iter().position(|outcome| 2 < *outcome)
 }

@@ -5,9 +5,9 @@
 
 ghost use Rattle.std.specs.Prelude.{◌≡◌};
 ghost use Rattle.table.specs.Table.{methods, instructions};
-ghost use Rattle.table.specs.Questions.{questions};
+ghost use Rattle.table.specs.Questions.{table_questions, questions};
 ghost use Rattle.table.proofs.Accepted.{Sizes, Pairs};
-ghost use Rattle.check_questions.specs.Check.{verdict_of};
+ghost use Rattle.check_questions.specs.Check.{number_of, place_of, verdict_of};
 ghost use Rattle.check_questions.specs.AskCode.{input_questions, code_questions};
 ghost use Rattle.check_types.specs.RulesCode.{Rows};
 
@@ -21,10 +21,9 @@ use check_types::first_reading;
 use inputs::first_outcome;
 use table::words::word_at;
 
-// The answer: accepted, or the question that says no, with its place where it has one.
-#[derive(Drop)]
-pub enum Check {
-    Accepted,
+// The question that says no, with its place where it has one.
+#[derive(Clone, Copy, Debug, PartialEq, Eq)]
+pub enum Refusal {
     Sizes,
     Pairs(usize),
     Rows(usize),
@@ -35,69 +34,93 @@ pub enum Check {
     Work,
 }
 
+impl Refusal {
+    // The question's number in document 01.
+    pub fn number(self) -> u32
+        ensures { result ≡ number_of self }
+    {
+        match self {
+            Refusal::Sizes => 1,
+            Refusal::Pairs(_) => 2,
+            Refusal::Rows(_) => 3,
+            Refusal::Instruction(_) => 4,
+            Refusal::Reading(_) => 5,
+            Refusal::Outcome(_) => 6,
+            Refusal::Schedule => 7,
+            Refusal::Work => 8,
+        }
+    }
+
+    // The method, the instruction or the outcome at fault, 0 where the question has no place.
+    pub fn place(self) -> usize
+        ensures { result ≡ place_of self }
+    {
+        match self {
+            Refusal::Pairs(m) | Refusal::Rows(m) => m,
+            Refusal::Instruction(i) | Refusal::Reading(i) | Refusal::Outcome(i) => i,
+            Refusal::Sizes | Refusal::Schedule | Refusal::Work => 0,
+        }
+    }
+}
+
 // All eight questions: the table, the schedule, the outcome list and the length of the work store in words.
-pub fn ask(program: &[u16], schedule: &[u8], outcomes: &[u8], work: usize) -> Check
+pub fn ask(program: &[u16], schedule: &[u8], outcomes: &[u8], work: usize) -> Result<(), Refusal>
     ensures { verdict_of result
         ≡ questions program.now schedule.now outcomes.now work }
 {
-    if !sizes_kept(program) {
-        return Check::Sizes;
-    }
-    let count = word_at(program, 0);
-    let n = word_at(program, 1);
-    let pair = first_pair(program, count);
-    if pair < count {
-        return Check::Pairs(pair);
-    }
-    if !sum_kept(program, count, n) {
-        return Check::Pairs(count - 1);
-    }
-    let row = first_row(program, count);
-    if row < count {
-        return Check::Rows(row);
-    }
-    ask_code(program, count, n, schedule, outcomes, work)
-}
-
-// Questions 4 to 8.
-fn ask_code(
-    program: &[u16],
-    count: usize,
-    n: usize,
-    schedule: &[u8],
-    outcomes: &[u8],
-    work: usize,
-) -> Check
-    requires { Sizes program.now × Pairs program.now × Rows program.now × (count ≡ methods program.now)
-        × (n ≡ instructions program.now) }
-    ensures { verdict_of result
-        ≡ code_questions program.now schedule.now outcomes.now work }
-{
-    let mut targets = [0u8; 4096];
-    let at = first_instruction(program, count, n, &mut targets);
-    if at < n {
-        return Check::Instruction(at);
-    }
-    let read = first_reading(program, count, n, &targets);
-    if read < n {
-        return Check::Reading(read);
-    }
+    ask_table(program)?;
     ask_inputs(schedule, outcomes, work)
 }
 
+// Questions 1 to 5.
+fn ask_table(program: &[u16]) -> Result<(), Refusal>
+    ensures { verdict_of result ≡ table_questions program.now }
+{
+    if !sizes_kept(program) {
+        return Err(Refusal::Sizes);
+    }
+    let count = word_at(program, 0);
+    let n = word_at(program, 1);
+    if let Some(m) = first_pair(program, count) {
+        return Err(Refusal::Pairs(m));
+    }
+    if !sum_kept(program, count, n) {
+        return Err(Refusal::Pairs(count - 1));
+    }
+    if let Some(m) = first_row(program, count) {
+        return Err(Refusal::Rows(m));
+    }
+    ask_code(program, count, n)
+}
+
+// Questions 4 and 5.
+fn ask_code(program: &[u16], count: usize, n: usize) -> Result<(), Refusal>
+    requires { Sizes program.now × Pairs program.now × Rows program.now × (count ≡ methods program.now)
+        × (n ≡ instructions program.now) }
+    ensures { verdict_of result ≡ code_questions program.now }
+{
+    let mut targets = [0u8; 4096];
+    if let Some(i) = first_instruction(program, count, n, &mut targets) {
+        return Err(Refusal::Instruction(i));
+    }
+    if let Some(i) = first_reading(program, count, n, &targets) {
+        return Err(Refusal::Reading(i));
+    }
+    Ok(())
+}
+
 // Questions 6 to 8.
-fn ask_inputs(schedule: &[u8], outcomes: &[u8], work: usize) -> Check
+fn ask_inputs(schedule: &[u8], outcomes: &[u8], work: usize) -> Result<(), Refusal>
     ensures { verdict_of result ≡ input_questions schedule.now outcomes.now work }
 {
-    let at = first_outcome(outcomes);
-    if at < outcomes.len() {
-        return Check::Outcome(at);
+    if let Some(i) = first_outcome(outcomes) {
+        return Err(Refusal::Outcome(i));
     }
     if 65535 < schedule.len() {
-        return Check::Schedule;
+        return Err(Refusal::Schedule);
     }
     if work < 8256 {
-        return Check::Work;
+        return Err(Refusal::Work);
     }
-    Check::Accepted
+    Ok(())
 }

@@ -1,6 +1,6 @@
 // Question 2.
 ghost use Rattle.std.specs.Prelude.{◌≡◌, ◌&&◌, ◌≤◌, ◌<◌, eqb, leb};
-ghost use Rattle.lists.specs.Lists.{first_false};
+ghost use Rattle.lists.specs.Lists.{first_place};
 ghost use Rattle.table.specs.Table.{offset_of, length_of, end_of};
 ghost use Rattle.table.specs.Questions.{start_of, pair_kept};
 
@@ -20,21 +20,19 @@ fn end_of(p: &[u16], m: usize) -> usize
     word_at(p, 2 + 2 * m) + word_at(p, 3 + 2 * m)
 }
 
-// The first of `count` methods whose pair is at fault, or `count`.
-pub fn first_pair(p: &[u16], count: usize) -> usize
+// The first of `count` methods whose pair is at fault.
+pub fn first_pair(p: &[u16], count: usize) -> Option<usize>
     requires { count ≤ 32 }
-    ensures { result ≡ first_false (pair_kept p.now) count }
+    ensures { result ≡ first_place (pair_kept p.now) count }
 {
-    let mut m = 0;
     let mut start = 0;
-    while m < count {
+    for m in 0..count {
         if !pair_kept(p, m, start) {
-            return m;
+            return Some(m);
         }
         start = end_of(p, m);
-        m += 1;
     }
-    m
+    None
 }
 
 // Whether the methods end where the instructions do.

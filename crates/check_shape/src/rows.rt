@@ -1,6 +1,6 @@
 // Question 3.
 ghost use Rattle.std.specs.Prelude.{◌≡◌, ◌≤◌, ◌<◌};
-ghost use Rattle.lists.specs.Lists.{first_false, all_below};
+ghost use Rattle.lists.specs.Lists.{first_place, all_below};
 ghost use Rattle.table.specs.Table.{methods, row, params_of, is_type};
 ghost use Rattle.table.specs.Questions.{slot_kept, row_kept};
 
@@ -26,10 +26,8 @@ fn slots_kept(p: &[u16], m: usize, at: usize, params: usize) -> bool
     ensures { result ≡ all_below (slot_kept p.now m) 16 }
 {
     let mut kept = true;
-    let mut s = 0;
-    while s < 16 {
-        kept = kept & slot_kept(p, m, at, params, s);
-        s += 1;
+    for s in 0..16 {
+        kept &= slot_kept(p, m, at, params, s);
     }
     kept
 }
@@ -45,17 +43,15 @@ fn row_kept(p: &[u16], m: usize, at: usize) -> bool
     is_type(returns) & ((params <= 8) & (slots & main))
 }
 
-// The first of `count` methods whose row is at fault, or `count`.
-pub fn first_row(p: &[u16], count: usize) -> usize
+// The first of `count` methods whose row is at fault.
+pub fn first_row(p: &[u16], count: usize) -> Option<usize>
     requires { (count ≡ methods p.now) × (count ≤ 32) }
-    ensures { result ≡ first_false (row_kept p.now) count }
+    ensures { result ≡ first_place (row_kept p.now) count }
 {
-    let mut m = 0;
-    while m < count {
+    for m in 0..count {
         if !row_kept(p, m, 2 + 2 * count + 18 * m) {
-            return m;
+            return Some(m);
         }
-        m += 1;
     }
-    m
+    None
 }

@@ -1,5 +1,5 @@
 -- Question 5 at one instruction: its tests as the code puts them, and the types pending before the next.
-use Prim.Native.Nat.{ℕ, zero, suc, ◌+◌, ◌≤◌, ◌<◌}
+use Prim.Native.Nat.{ℕ, zero, suc, ◌+◌, ◌<◌}
 use native.Mathlib.Omega.{arith}
 use native.Mathlib.Numerals.{add-one}
 use mathlib.Core.Logic.{⊎_elim}
@@ -10,7 +10,7 @@ use mathlib.Core.Option
 use mathlib.Core.Option.{Option, none, some, none-ne-some}
 use lib.ListN.{get_or, length, drop}
 use lib.Dec.{eqb, leb, ltb, leb-zero, leb-suc-suc, eqb-suc-zero}
-use borrow.Author.Tests.{leb-true, leb-false, eqb-false}
+use borrow.Author.Tests.{eqb-false}
 use Rattle.lists.proofs.Tests.{decide, passes, cond_both}
 use Rattle.table.specs.Table.{instructions, end_of, op_at, arg_at, owner_of}
 use Rattle.table.specs.Ops.{op_of}
@@ -20,14 +20,13 @@ use Rattle.table.proofs.Accepted.{Sizes, Pairs, ReadAt, read_kept}
 use Rattle.table.proofs.Owners.{owner-inside}
 use Rattle.table.proofs.Before.{before-within}
 use Rattle.check_instructions.specs.OwnersCode.{owner_at}
-use Rattle.check_types.specs.PendingCode.{types_in, types_of, result_of, result_in, Held}
+use Rattle.check_types.specs.PendingCode.{types_in, types_of}
 use Rattle.check_types.specs.RulesCode.{rule_result, step_of, stepped, Ready}
 use Rattle.check_types.specs.ReadOnCode.{read_on, FirstFour, ReadingPoint}
 use Rattle.check_instructions.specs.declared.owner.Owner.{Owner}
 use Rattle.check_types.specs.declared.pending.Pending.{Pending}
 use Rattle.table.proofs.Ops.{closes-bare}
 use Rattle.check_instructions.proofs.Owners.{owner-method, owner-end, owner-known, owner-listed}
-use Rattle.check_types.proofs.Packed.{outcome-few, outcome-fault}
 
 -- The tests of question 5, the operands' first
 
@@ -93,7 +92,7 @@ module _ (p : List ℕ) (count : ℕ) (o : Owner) (i target : ℕ) (q : Pending)
         (ap (λ n. (op_of n).closes) (sym k) ∙ sym e ∙ sym (not-not c))
         ∙ not-both (eqb (i + 1) o.end) (not c)
 
-    pub ready : Ready p count o op a q
+    pub ready : Ready p count o op a
     unfolding instruction_kept
     ready =
         let method = owner-method p (owner_of p i) o h.owner in
@@ -104,8 +103,6 @@ module _ (p : List ℕ) (count : ℕ) (o : Owner) (i target : ℕ) (q : Pending)
           owner = owner-known p (owner_of p i) o h.owner;
           method = owner-listed p h.sizes h.pairs i o h.owner h.within;
           argument = rw (k, l, method) h.kept;
-          few = h.few;
-          held = h.held;
         }
 
     -- a last instruction that does not close its method
@@ -121,19 +118,9 @@ module _ (p : List ℕ) (count : ℕ) (o : Owner) (i target : ℕ) (q : Pending)
 
 -- From one instruction to the next
 
-pub outcome-some : (n w : ℕ) (ts : List ℕ) → result_of n w ≡ some ts → (n ≤ 8) × (types_in n w ≡ ts)
-unfolding result_of
-outcome-some n w ts e = ⊎_elim few many (decide (leb n 8))
-  where
-    few : leb n 8 ≡ true → (n ≤ 8) × (types_in n w ≡ ts)
-    few q = (leb-true n 8 q, cc (outcome-few n w (leb-true n 8 q)))
-
-    many : leb n 8 ≡ false → (n ≤ 8) × (types_in n w ≡ ts)
-    many q = absurd (none-ne-some ts (sym (outcome-fault n w (leb-false n 8 q)) ∙ e))
-
-pub read-begins : (p : List ℕ) (q : Pending) → result_in q ≡ some [] → (q.count ≤ 8) × (types_of q ≡ before p 0)
+pub read-begins : (p : List ℕ) → [] ≡ before p 0
 unfolding before
-read-begins p q e = outcome-some q.count q.types [] e
+read-begins p = refl
 
 -- where instruction i is the last of its method it leaves nothing, and elsewhere the next belongs to the same method
 before-step : (p : List ℕ) → Sizes p → Pairs p → (i : ℕ) → i < instructions p → reads p i ≡ true
@@ -155,31 +142,30 @@ before-step p s k i h e = ⊎_elim last more (decide (is_last p i))
         let ahead = eqb-false (suc i) (end_of p (owner_of p i)) q in
         before-within p s k inside (record { method = inside.method; from-offset = omega arith; ahead = omega arith })
 
-module _ (p : List ℕ) (i : ℕ) (q : Pending) (e : result_in q ≡ read_on p i) where
-  pub read-halts : 8 < q.count → reads p i ≡ false
-  unfolding read_on
-  read-halts l = by (reads p i) (sym (outcome-fault q.count q.types l) ∙ e)
-    where
-      by : (b : Bool) → none ≡ cond b (some (after p i (before p i))) none → b ≡ false
-      by true r = absurd (none-ne-some _ r)
-      by false r = refl
+pub read-halts : (p : List ℕ) (i : ℕ) → none ≡ read_on p i → reads p i ≡ false
+unfolding read_on
+read-halts p i e = by (reads p i) e
+  where
+    by : (b : Bool) → none ≡ cond b (some (after p i (before p i))) none → b ≡ false
+    by true r = absurd (none-ne-some _ r)
+    by false r = refl
 
-  pub read-goes-on : Sizes p → Pairs p → i < instructions p → q.count ≤ 8
-      → (reads p i ≡ true) × (types_of q ≡ before p (i + 1))
-  unfolding read_on
-  read-goes-on s k h l = by (reads p i) refl (sym (outcome-few q.count q.types l) ∙ e)
-    where
-      by : (b : Bool) → reads p i ≡ b → some (types_of q) ≡ cond b (some (after p i (before p i))) none
-          → (reads p i ≡ true) × (types_of q ≡ before p (i + 1))
-      by true t r = (t, rw (add-one i) (cc (before-step p s k i h t)))
-      by false t r = absurd (none-ne-some _ (sym r))
+pub read-goes-on : (p : List ℕ) (i : ℕ) (ts : List ℕ) → some ts ≡ read_on p i → Sizes p → Pairs p → i < instructions p
+    → (reads p i ≡ true) × (ts ≡ before p (i + 1))
+unfolding read_on
+read-goes-on p i ts e s k h = by (reads p i) refl e
+  where
+    by : (b : Bool) → reads p i ≡ b → some ts ≡ cond b (some (after p i (before p i))) none
+        → (reads p i ≡ true) × (ts ≡ before p (i + 1))
+    by true t r = (t, rw (add-one i) (cc (before-step p s k i h t)))
+    by false t r = absurd (none-ne-some _ (sym r))
 
 -- an instruction of a table that has passed questions 1 to 4
 pub to_read : (p : List ℕ) (count n : ℕ) (targets : List ℕ) → FirstFour p count n targets
     → (o : Owner) (i : ℕ) (q : Pending)
-    → i < n → o ≡ owner_at p i → q.count ≤ 8 → Held q → types_of q ≡ before p i
+    → i < n → o ≡ owner_at p i → types_of q ≡ before p i
     → ReadingPoint p count o i (get_or targets i 0) q
-to_read p count n targets h o i q l e few held types =
+to_read p count n targets h o i q l e types =
     let within : i < instructions p = omega (arith, h.instructions-count) in
     record {
       sizes = h.sizes;
@@ -190,7 +176,5 @@ to_read p count n targets h o i q l e few held types =
       kept = h.code i within;
       owner = e;
       mark = h.marks i l;
-      few = few;
-      held = held;
       types = types;
     }

@@ -17,12 +17,12 @@ use Rattle.lists.proofs.Tests.{passes, failed, clash, or_cases, and_both, cond_b
 use Rattle.table.specs.Table.{word, methods, row, return_of, params_of, slot_type, slot_types, param_types, is_type, is_carried, is_end, carried_by}
 use Rattle.table.specs.Ops.{returned, gate_qubits}
 use Rattle.table.proofs.Slots.{slot_types-length, slot_types-at}
-use Rattle.check_types.specs.PendingCode.{types_of, result_in, top_of, take_off, put_on, bared, dropped_one}
+use Rattle.check_types.specs.PendingCode.{types_of, top_of, take_off, put_on, bared, dropped_one}
 use Rattle.check_types.specs.RulesCode.{rule_result, step_of, take_offs, gated, sent, passed_to, called, returned_from, RowAt, SlotOf, Ready}
 use Rattle.check_instructions.specs.declared.owner.Owner.{Owner}
 use Rattle.check_types.specs.declared.pending.Pending.{Pending}
 use Rattle.check_instructions.proofs.Owners.{owner-row}
-use Rattle.check_types.proofs.Packed.{types-length, outcome-few}
+use Rattle.check_types.proofs.Packed.{types-length}
 
 -- Numbers that are types
 
@@ -43,6 +43,10 @@ carried-small t h = omega (arith, leb_yes {a = t} (and_yes (leb 1 t) (leb t 3) h
 -- The arguments of a method
 
 module _ (p : List ℕ) (m at : ℕ) (h : RowAt p m at) where
+  pub row-low : at < 1024
+  unfolding row
+  row-low = omega (arith, h.place, h.method, h.sizes.methods-most)
+
   pub return-word : {w : ℕ} → w ≡ word p at → (w ≡ return_of p m) × (w < 256)
   unfolding return_of
   return-word e =
@@ -96,12 +100,17 @@ module _ (p : List ℕ) (m at : ℕ) (h : RowAt p m at) where
       let end : 0 ≡ n = omega arith in
       ap (λ n. take_offs (reverse (take n (slot_types p m))) o) end ∙ r
 
+-- a fault stays one where a value would be put on
+pub call-missing : (t : ℕ) (o : Option (List ℕ)) → none ≡ o → none ≡ cond (eqb t 0) o (put_on t o)
+unfolding put_on
+call-missing t o e = cond_both (λ (o : Option (List ℕ)). none ≡ o) (eqb t 0) e (ap (put_on t) e)
+
 -- A rule that wants the types ws and gives the types gs
 
 abbrev wants : List ℕ → List ℕ → List ℕ → Option (List ℕ)
 wants ws gs xs = cond (same xs ws) (some gs) none
 
-offs-none : (ws : List ℕ) → take_offs ws none ≡ none
+pub offs-none : (ws : List ℕ) → take_offs ws none ≡ none
 unfolding take_offs take_off
 offs-none [] = refl
 offs-none (w ∷ ws) = offs-none ws
@@ -252,63 +261,55 @@ offs-returned t o = by (eqb t 0)
 
 -- The three kinds of rule: a value given, none, and none left
 
-module _ (q : Pending) (few : q.count ≤ 8) where
-  found : result_in q ≡ some (types_of q)
-  found = outcome-few q.count q.types few
-
+module _ (q : Pending) where
   pub gives-value : (ws : List ℕ) (g : ℕ)
-      → put_on g (take_offs ws (result_in q)) ≡ step_of (length ws) (wants ws (g ∷ [])) false (types_of q)
+      → put_on g (take_offs ws (some (types_of q))) ≡ step_of (length ws) (wants ws (g ∷ [])) false (types_of q)
   gives-value ws g =
-      ap (λ o. put_on g (take_offs ws o)) found
-      ∙ sym (step-wants ws (g ∷ []) false (types_of q) ∙ result_value g (take_offs ws (some (types_of q))))
+      sym (step-wants ws (g ∷ []) false (types_of q) ∙ result_value g (take_offs ws (some (types_of q))))
 
-  pub gives_nothing : (ws : List ℕ) → take_offs ws (result_in q) ≡ step_of (length ws) (wants ws []) false (types_of q)
+  pub gives_nothing : (ws : List ℕ) → take_offs ws (some (types_of q)) ≡ step_of (length ws) (wants ws []) false (types_of q)
   gives_nothing ws =
-      let low : length (types_of q) ≤ 8 = omega (arith, types-length q.count q.types) in
-      ap (take_offs ws) found
-      ∙ sym (step-wants ws [] false (types_of q) ∙ result-plain _ (few-offs ws (some (types_of q)) low))
+      let low : length (types_of q) ≤ 8 = omega (arith, types-length q.count q.types, q.few) in
+      sym (step-wants ws [] false (types_of q) ∙ result-plain _ (few-offs ws (some (types_of q)) low))
 
   pub leaves_nothing : (ws : List ℕ)
-      → bared (take_offs ws (result_in q)) ≡ step_of (length ws) (wants ws []) true (types_of q)
+      → bared (take_offs ws (some (types_of q))) ≡ step_of (length ws) (wants ws []) true (types_of q)
   leaves_nothing ws =
-      ap (λ o. bared (take_offs ws o)) found
-      ∙ sym (step-wants ws [] true (types_of q) ∙ result-bare (take_offs ws (some (types_of q))))
+      sym (step-wants ws [] true (types_of q) ∙ result-bare (take_offs ws (some (types_of q))))
 
   -- DROP
-  pub drops-one : dropped_one (result_in q) ≡ step_of 1 (λ xs. some []) true (types_of q)
-  drops-one = ap dropped_one found ∙ drop-rule (types_of q)
+  pub drops-one : dropped_one (some (types_of q)) ≡ step_of 1 (λ xs. some []) true (types_of q)
+  drops-one = drop-rule (types_of q)
 
   -- END and RECV, by the type on top
   pub top-changes : (test : ℕ → Bool) (f : ℕ → ℕ) → test 0 ≡ false
-      → cond (test (top_of (result_in q))) (put_on (f (top_of (result_in q))) (take_off (top_of (result_in q)) (result_in q)))
+      → cond (test (top_of (some (types_of q)))) (put_on (f (top_of (some (types_of q)))) (take_off (top_of (some (types_of q))) (some (types_of q))))
       none
       ≡ step_of 1 (λ xs. cond (test (get_or xs 0 0)) (some (f (get_or xs 0 0) ∷ [])) none) false (types_of q)
-  top-changes test f e =
-      ap (λ o. cond (test (top_of o)) (put_on (f (top_of o)) (take_off (top_of o) o)) none) found
-      ∙ top-rule test f e (types_of q)
+  top-changes test f e = top-rule test f e (types_of q)
 
   -- SEND
-  pub sends : sent (result_in q)
+  pub sends : sent (some (types_of q))
       ≡ step_of 2 (λ xs. cond (is_end (get_or xs 1 0) && eqb (get_or xs 0 0) (carried_by (get_or xs 1 0))) (some []) none) true
       (types_of q)
-  sends = ap sent found ∙ send-rule (types_of q)
+  sends = send-rule (types_of q)
 
   -- GATE
-  pub gates : (a : ℕ) → gated a (result_in q)
+  pub gates : (a : ℕ) → gated a (some (types_of q))
       ≡ step_of (gate_qubits a) (cond (leb a 5) (wants (3 ∷ []) []) (wants (3 ∷ 3 ∷ []) [])) false (types_of q)
   unfolding gated gate_qubits take_offs
   gates a = by (leb a 5)
     where
-      by : (b : Bool) → cond b (take_off 3 (result_in q)) (take_off 3 (take_off 3 (result_in q)))
+      by : (b : Bool) → cond b (take_off 3 (some (types_of q))) (take_off 3 (take_off 3 (some (types_of q))))
           ≡ step_of (cond b 1 2) (cond b (wants (3 ∷ []) []) (wants (3 ∷ 3 ∷ []) [])) false (types_of q)
       by true = gives_nothing (3 ∷ [])
       by false = gives_nothing (3 ∷ 3 ∷ [])
 
   -- RET
   pub leaves : (t : ℕ)
-      → returned_from t (result_in q) ≡ step_of (length (returned t)) (wants (returned t) []) true (types_of q)
+      → returned_from t (some (types_of q)) ≡ step_of (length (returned t)) (wants (returned t) []) true (types_of q)
   unfolding returned_from
-  leaves t = ap bared (sym (offs-returned t (result_in q))) ∙ leaves_nothing (returned t)
+  leaves t = ap bared (sym (offs-returned t (some (types_of q)))) ∙ leaves_nothing (returned t)
 
   module _ (p : List ℕ) (m at : ℕ) (h : RowAt p m at) where
     params-length : length (reverse (param_types p m)) ≡ params_of p m
@@ -320,14 +321,14 @@ module _ (q : Pending) (few : q.count ≤ 8) where
 
     -- FORK
     pub forks :
-        bared (passed_to p m (result_in q)) ≡ step_of (params_of p m) (wants (reverse (param_types p m)) []) true (types_of q)
+        bared (passed_to p m (some (types_of q))) ≡ step_of (params_of p m) (wants (reverse (param_types p m)) []) true (types_of q)
     unfolding passed_to
     forks =
         leaves_nothing (reverse (param_types p m))
         ∙ ap (λ n. step_of n (wants (reverse (param_types p m)) []) true (types_of q)) params-length
 
     -- CALL
-    pub calls : called p m (result_in q)
+    pub calls : called p m (some (types_of q))
         ≡ step_of (params_of p m) (wants (reverse (param_types p m)) (returned (return_of p m))) false (types_of q)
     unfolding called passed_to returned
     calls = by (eqb (return_of p m) 0)
@@ -340,14 +341,14 @@ module _ (q : Pending) (few : q.count ≤ 8) where
         t : ℕ
         t = return_of p m
 
-        by : (b : Bool) → cond b (take_offs ws (result_in q)) (put_on t (take_offs ws (result_in q)))
+        by : (b : Bool) → cond b (take_offs ws (some (types_of q))) (put_on t (take_offs ws (some (types_of q))))
             ≡ step_of (length ws) (wants ws (cond b [] (t ∷ []))) false (types_of q)
         by true = gives_nothing ws
         by false = gives-value ws t
 
 -- What an instruction that keeps question 4's rule stands ready with
 
-module _ (p : List ℕ) (count : ℕ) (o : Owner) (op a : ℕ) (q : Pending) (r : Ready p count o op a q) where
+module _ (p : List ℕ) (count : ℕ) (o : Owner) (op a : ℕ) (r : Ready p count o op a) where
   pub ready-slot : T (ltb a 16 && not (eqb (slot_type p o.method a) 0)) → SlotOf p o a
   ready-slot t =
       let (below, full) = and_yes (ltb a 16) _ t in

@@ -1,6 +1,8 @@
 -- The pending types packed in a word, and what is done to them. Nothing pending is `some []`; a fault is `none`. These
 -- definitions follow the code.
-use Rattle.std.specs.Prelude.{ℕ, zero, suc, ◌/◌, ◌%◌, ◌^◌, ◌≤◌, ◌<◌, cond, ◌≡◌, List, [], ◌∷◌, get_or, length, eqb, leb, ltb}
+use Rattle.std.specs.Prelude.{ℕ, zero, suc, ◌/◌, ◌%◌, cond, List, [], ◌∷◌, get_or, length, eqb, ltb}
+use Rattle.std.specs.Prelude.{Some, None}
+use Rattle.std.specs.Prelude as prelude
 use Rattle.std.proofs.Math.Option.{Option, none, some}
 use Rattle.check_types.specs.declared.pending.Pending.{Pending}
 
@@ -12,19 +14,10 @@ types_in (suc n) w = (w % 256) ∷ types_in n (w / 256)
 abbrev pub types_of : Pending → List ℕ
 types_of q = types_in q.count q.types
 
-unfoldable pub result_of : ℕ → ℕ → Option (List ℕ)
-result_of n w = cond (leb n 8) (some (types_in n w)) none
-
-abbrev pub result_in : Pending → Option (List ℕ)
-result_in q = result_of q.count q.types
-
--- a word holds no more than its n bytes, and a fault nothing
-pub record Packed (n w : ℕ) : Type 0 where
-  pub within : n ≤ 8 → w < 256 ^ n
-  pub nothing : 8 < n → w ≡ 0
-
-abbrev pub Held : Pending → Type 0
-Held q = Packed q.count q.types
+-- the types that the code answers, or a fault
+abbrev pub result_in : prelude.Option Pending → Option (List ℕ)
+result_in None = none
+result_in (Some q) = some (types_of q)
 
 -- the top type, 0 where there is none
 unfoldable pub top_of : Option (List ℕ) → ℕ

@@ -6,7 +6,7 @@ use Rattle.table.specs.Reading.{after, before, is_target, reads}
 use Rattle.table.specs.Questions.{instruction_kept}
 use Rattle.table.proofs.Accepted.{Sizes, Pairs}
 use Rattle.check_instructions.specs.OwnersCode.{owner_at}
-use Rattle.check_types.specs.PendingCode.{Held, types_of}
+use Rattle.check_types.specs.PendingCode.{types_of}
 use Rattle.check_types.specs.RulesCode.{Rows}
 use Rattle.check_instructions.specs.declared.owner.Owner.{Owner}
 use Rattle.check_types.specs.declared.pending.Pending.{Pending}
@@ -36,6 +36,4 @@ pub record ReadingPoint (p : List ℕ) (count : ℕ) (o : Owner) (i target : ℕ
   pub kept : T (instruction_kept p i)
   pub owner : o ≡ owner_at p i
   pub mark : ltb 0 target ≡ is_target p i
-  pub few : q.count ≤ 8
-  pub held : Held q
   pub types : types_of q ≡ before p i

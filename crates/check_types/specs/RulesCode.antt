@@ -8,9 +8,8 @@ use Rattle.table.specs.Ops.{op_of}
 use Rattle.table.specs.Reading.{is_nil}
 use Rattle.table.proofs.Accepted.{Sizes, Row}
 use Rattle.check_instructions.specs.OwnersCode.{owner_in}
-use Rattle.check_types.specs.PendingCode.{Held, top_of, take_off, put_on, bared}
+use Rattle.check_types.specs.PendingCode.{top_of, take_off, put_on, bared}
 use Rattle.check_instructions.specs.declared.owner.Owner.{Owner}
-use Rattle.check_types.specs.declared.pending.Pending.{Pending}
 
 -- By the table's rules
 
@@ -81,12 +80,10 @@ pub record SlotOf (p : List ℕ) (o : Owner) (a : ℕ) : Type 0 where
   pub small : slot_type p o.method a < 256
 
 -- an instruction that keeps question 4's rule stands to be read
-pub record Ready (p : List ℕ) (count : ℕ) (o : Owner) (op a : ℕ) (q : Pending) : Type 0 where
+pub record Ready (p : List ℕ) (count : ℕ) (o : Owner) (op a : ℕ) : Type 0 where
   pub sizes : Sizes p
   pub rows : Rows p
   pub methods-count : count ≡ methods p
   pub owner : o ≡ owner_in p o.method
   pub method : o.method < methods p
   pub argument : T ((op_of op).argument p o.method a)
-  pub few : q.count ≤ 8
-  pub held : Held q

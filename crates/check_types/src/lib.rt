@@ -3,10 +3,10 @@
 #![tactic(auto)]
 
 ghost use Rattle.std.specs.Prelude.{◌≡◌};
-ghost use Rattle.lists.specs.Lists.{first_false};
+ghost use Rattle.lists.specs.Lists.{first_place};
 ghost use Rattle.table.specs.Ops.{op_of};
 ghost use Rattle.table.specs.Reading.{reads};
-ghost use Rattle.check_types.specs.PendingCode.{Held, result_in};
+ghost use Rattle.check_types.specs.PendingCode.{result_in};
 ghost use Rattle.check_types.specs.ReadOnCode.{read_on, ReadingPoint, FirstFour};
 
 pub mod pending;
@@ -25,38 +25,34 @@ pub fn closes(op: usize) -> bool
 }
 
 // The pending types after instruction i, or a fault. `target` is its mark.
-fn read(p: &[u16], count: usize, o: Owner, i: usize, target: u8, q: Pending) -> Pending
+fn read(p: &[u16], count: usize, o: Owner, i: usize, target: u8, q: Pending) -> Option<Pending>
     requires { ReadingPoint p.now count o i target q }
-    ensures { (result_in result ≡ read_on p.now i) × Held result }
+    ensures { result_in result ≡ read_on p.now i }
 {
     let op = op_at(p, count, i);
     let a = arg_at(p, count, i);
     if (target != 0) & (q.count != 0) {
-        return Pending::fault();
+        return None;
     }
     if (i + 1 == o.end) & !closes(op) {
-        return Pending::fault();
+        return None;
     }
     step(p, count, o, op, a, q)
 }
 
-// The first of n instructions at fault, or n.
-pub fn first_reading(p: &[u16], count: usize, n: usize, targets: &[u8]) -> usize
+// The first of n instructions at fault.
+pub fn first_reading(p: &[u16], count: usize, n: usize, targets: &[u8]) -> Option<usize>
     requires { FirstFour p.now count n targets.now }
-    ensures { result ≡ first_false (reads p.now) n }
+    ensures { result ≡ first_place (reads p.now) n }
 {
     let mut o = Owner::of(p, 0);
     let mut q = Pending::nothing();
-    let mut i = 0;
-    while i < n {
-        let here = o.at(p, i);
-        o = here;
-        let next = read(p, count, here, i, targets[i], q);
-        if 8 < next.count {
-            return i;
-        }
+    for i in 0..n {
+        o = o.at(p, i);
+        let Some(next) = read(p, count, o, i, targets[i], q) else {
+            return Some(i);
+        };
         q = next;
-        i += 1;
     }
-    i
+    None
 }

@@ -2,7 +2,8 @@
 ghost use Rattle.std.specs.Prelude.{◌≡◌, ◌+◌, ◌<◌};
 ghost use Rattle.table.specs.Table.{methods, row, slot_type, return_of};
 ghost use Rattle.table.proofs.Accepted.{Sizes};
-ghost use Rattle.check_types.specs.PendingCode.{Held, result_in, types_of, take_off, put_on, bared};
+ghost use Rattle.std.proofs.Math.Option.{some};
+ghost use Rattle.check_types.specs.PendingCode.{result_in, types_of, take_off, put_on, bared};
 ghost use Rattle.check_types.specs.RulesCode.{stepped, gated, ended, received, sent, passed_to, called, returned_from, RowAt, SlotOf, Ready};
 
 use crate::pending::Pending;
@@ -24,125 +25,116 @@ fn return_type(p: &[u16], m: usize, at: usize) -> u64
     word_at(p, at) as u64
 }
 
-fn get(p: &[u16], o: Owner, a: usize, q: Pending) -> Pending
-    requires { SlotOf p.now o a × Held q }
-    ensures { (result_in result ≡ put_on (slot_type p.now o.method a) (result_in q)) × Held result }
+fn get(p: &[u16], o: Owner, a: usize, q: Pending) -> Option<Pending>
+    requires { SlotOf p.now o a }
+    ensures { result_in result ≡ put_on (slot_type p.now o.method a) (some (types_of q)) }
 {
     q.on(slot_type(p, o, a))
 }
 
-fn put(p: &[u16], o: Owner, a: usize, q: Pending) -> Pending
-    requires { SlotOf p.now o a × Held q }
-    ensures { (result_in result
+fn put(p: &[u16], o: Owner, a: usize, q: Pending) -> Option<Pending>
+    requires { SlotOf p.now o a }
+    ensures { result_in result
         ≡ put_on (slot_type p.now o.method a)
-        (take_off (slot_type p.now o.method a) (result_in q)))
-        × Held result }
+        (take_off (slot_type p.now o.method a) (some (types_of q))) }
 {
     let t = slot_type(p, o, a);
     q.one(t, t)
 }
 
-fn end(q: Pending) -> Pending
-    requires { Held q }
-    ensures { (result_in result ≡ ended (result_in q)) × Held result }
+fn end(q: Pending) -> Option<Pending>
+    ensures { result_in result ≡ ended (some (types_of q)) }
 {
     let t = q.top();
     if (17 <= t) & (t <= 19) {
         return q.one(t, t + 16);
     }
-    Pending::fault()
+    None
 }
 
-fn gate(q: Pending, a: usize) -> Pending
-    requires { Held q }
-    ensures { (result_in result ≡ gated a (result_in q)) × Held result }
+fn gate(q: Pending, a: usize) -> Option<Pending>
+    ensures { result_in result ≡ gated a (some (types_of q)) }
 {
     if a <= 5 {
         return q.off(3);
     }
-    q.off(3).off(3)
+    q.off(3)?.off(3)
 }
 
 // The value lies above the end that carries it.
-fn send(q: Pending) -> Pending
-    requires { Held q }
-    ensures { (result_in result ≡ sent (result_in q)) × Held result }
+fn send(q: Pending) -> Option<Pending>
+    ensures { result_in result ≡ sent (some (types_of q)) }
 {
     let t = q.top();
     if (1 <= t) & (t <= 3) {
-        return q.off(t).off(t + 32).bare();
+        return q.off(t)?.off(t + 32)?.bare();
     }
-    Pending::fault()
+    None
 }
 
-fn recv(q: Pending) -> Pending
-    requires { Held q }
-    ensures { (result_in result ≡ received (result_in q)) × Held result }
+fn recv(q: Pending) -> Option<Pending>
+    ensures { result_in result ≡ received (some (types_of q)) }
 {
     let t = q.top();
     if (33 <= t) & (t <= 35) {
         return q.one(t, t - 32);
     }
-    Pending::fault()
+    None
 }
 
-// The arguments of method m off, the last one first. A fault goes through to the end.
-fn pass(p: &[u16], m: usize, at: usize, q: Pending) -> Pending
-    requires { RowAt p.now m at × Held q }
-    ensures { (result_in result ≡ passed_to p.now m (result_in q)) × Held result }
+// The arguments of method m off, the last one first.
+fn pass(p: &[u16], m: usize, at: usize, q: Pending) -> Option<Pending>
+    requires { RowAt p.now m at }
+    ensures { result_in result ≡ passed_to p.now m (some (types_of q)) }
 {
-    let mut s = word_at(p, at + 1);
     let mut rest = q;
-    while 0 < s {
-        s -= 1;
-        let less = rest.off(word_at(p, at + 2 + s) as u64);
-        rest = less;
+    for s in (0..word_at(p, at + 1)).rev() {
+        rest = rest.off(word_at(p, at + 2 + s) as u64)?;
     }
-    rest
+    Some(rest)
 }
 
-fn call(p: &[u16], m: usize, at: usize, q: Pending) -> Pending
-    requires { RowAt p.now m at × Held q }
-    ensures { (result_in result ≡ called p.now m (result_in q)) × Held result }
+fn call(p: &[u16], m: usize, at: usize, q: Pending) -> Option<Pending>
+    requires { RowAt p.now m at }
+    ensures { result_in result ≡ called p.now m (some (types_of q)) }
 {
-    let rest = pass(p, m, at, q);
+    let rest = pass(p, m, at, q)?;
     let t = return_type(p, m, at);
     if t == 0 {
-        return rest;
+        return Some(rest);
     }
     rest.on(t)
 }
 
-fn ret(p: &[u16], m: usize, at: usize, q: Pending) -> Pending
-    requires { RowAt p.now m at × Held q }
-    ensures { (result_in result ≡ returned_from (return_of p.now m) (result_in q)) × Held result }
+fn ret(p: &[u16], m: usize, at: usize, q: Pending) -> Option<Pending>
+    requires { RowAt p.now m at }
+    ensures { result_in result ≡ returned_from (return_of p.now m) (some (types_of q)) }
 {
     let t = return_type(p, m, at);
     if t == 0 {
         return q.bare();
     }
-    q.off(t).bare()
+    q.off(t)?.bare()
 }
 
-fn fork(p: &[u16], m: usize, at: usize, q: Pending) -> Pending
-    requires { RowAt p.now m at × Held q }
-    ensures { (result_in result ≡ bared (passed_to p.now m (result_in q))) × Held result }
+fn fork(p: &[u16], m: usize, at: usize, q: Pending) -> Option<Pending>
+    requires { RowAt p.now m at }
+    ensures { result_in result ≡ bared (passed_to p.now m (some (types_of q))) }
 {
-    pass(p, m, at, q).bare()
+    pass(p, m, at, q)?.bare()
 }
 
-fn new_channel(q: Pending, a: usize) -> Pending
-    requires { Held q × (a < 4) }
-    ensures { (result_in result ≡ put_on (16 + a) (result_in q)) × Held result }
+fn new_channel(q: Pending, a: usize) -> Option<Pending>
+    requires { a < 4 }
+    ensures { result_in result ≡ put_on (16 + a) (some (types_of q)) }
 {
     q.on(16 + a as u64)
 }
 
-fn jump_on_false(q: Pending) -> Pending
-    requires { Held q }
-    ensures { (result_in result ≡ bared (take_off 2 (result_in q))) × Held result }
+fn jump_on_false(q: Pending) -> Option<Pending>
+    ensures { result_in result ≡ bared (take_off 2 (some (types_of q))) }
 {
-    q.off(2).bare()
+    q.off(2)?.bare()
 }
 
 // Where the row of method m starts; `count` is the number of methods.
@@ -153,10 +145,12 @@ fn row_of(p: &[u16], count: usize, m: usize) -> usize
     2 + 2 * count + 18 * m
 }
 
-// The pending types after an instruction, or a fault.
-pub fn step(p: &[u16], count: usize, o: Owner, op: usize, a: usize, q: Pending) -> Pending
-    requires { Ready p.now count o op a q }
-    ensures { (result_in result ≡ stepped p.now o.method op a (types_of q)) × Held result }
+// The pending types after an instruction, or a fault. The check comes here for each instruction of a table: a call would
+// hand the answer back through memory.
+#[inline(always)]
+pub fn step(p: &[u16], count: usize, o: Owner, op: usize, a: usize, q: Pending) -> Option<Pending>
+    requires { Ready p.now count o op a }
+    ensures { result_in result ≡ stepped p.now o.method op a (types_of q) }
 {
     match op {
         1 => q.on(1),
@@ -182,6 +176,6 @@ pub fn step(p: &[u16], count: usize, o: Owner, op: usize, a: usize, q: Pending) 
         21 => q.two(2),
         22 => q.two(2),
         23 => q.one(2, 2),
-        _ => Pending::fault(),
+        _ => None,
     }
 }

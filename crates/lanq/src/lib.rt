@@ -8,20 +8,22 @@ ghost use Rattle.table.specs.Questions.{questions};
 ghost use Rattle.trace.specs.Trace.{look_up, count_read, same_lines};
 ghost use Rattle.machine.specs.Answer.{lines_in};
 ghost use Rattle.machine.specs.Answer as machine;
-ghost use Rattle.run.specs.Answers.{answer_numbers, trace_left, store_left};
+ghost use Rattle.run.specs.Answers as table;
+ghost use Rattle.run.specs.Answers.{trace_left, store_left};
 ghost use Rattle.text_parse.specs.Text.{text_of};
 ghost use Rattle.text_translate.specs.Translate.{answer_for, buffer_after};
-ghost use Rattle.run_text.specs.RunText.{text_answer, text_trace, text_store};
+ghost use Rattle.run_text.specs.RunText.{answer_numbers, text_answer, text_trace, text_store};
 ghost use Rattle.store_read.specs.Stored.{stored_holder};
 ghost use Rattle.lanq_answers.specs.Answers.{check_answer, run_answer};
 ghost use Rattle.lanq.specs.Answers.{table_answer};
 
-use check_questions::ask;
+use check_questions::{Refusal, ask};
 use lanq_answers::{LanqAnswer, LanqHolder, check_numbers, ended, holder_numbers, refusal};
-use run::{Answer, run};
-use run_text::run_text;
+use run::run;
+use run_schedule::entries::RunSummary;
+use run_text::{RunRefusal, run_text};
 use store_read::stored_holder;
-use text_translate::{Translation, translate};
+use text_translate::translate;
 use trace::lookup::qubit_holder;
 use trace::same::same_lines;
 
@@ -39,17 +41,29 @@ pub extern "C" fn lanq_check(
     check_numbers(ask(program, schedule, outcomes, work))
 }
 
-fn run_numbers(answer: Answer) -> LanqAnswer
+#[tactic(auto, unfolding(lanq_answers::specs::Answers::run_answer, run_text::specs::RunText::answer_numbers))]
+fn run_numbers(answer: Result<RunSummary, RunRefusal>) -> LanqAnswer
     ensures { result ≡ run_answer (answer_numbers answer) }
 {
     match answer {
-        Answer::Refused { number, place } => refusal(number as u64, place as u64),
-        Answer::Ran {
-            end,
-            entries,
-            lines,
-            outcomes,
-        } => ended(end as u64, entries as u64, lines as u64, outcomes as u64),
+        Err(no) => refusal(u64::from(no.number()), no.place() as u64),
+        Ok(o) => ended(
+            u64::from(o.end.number()),
+            o.entries as u64,
+            u64::from(o.lines),
+            u64::from(o.used),
+        ),
+    }
+}
+
+// A run of a table, as a run of a text has it.
+#[tactic(auto, unfolding(run::specs::Answers::answer_numbers, run_text::specs::RunText::answer_numbers))]
+fn of_table(answer: Result<RunSummary, Refusal>) -> Result<RunSummary, RunRefusal>
+    ensures { answer_numbers result ≡ table.answer_numbers answer }
+{
+    match answer {
+        Ok(ran) => Ok(ran),
+        Err(no) => Err(RunRefusal::Question(no)),
     }
 }
 
@@ -70,7 +84,7 @@ pub extern "C" fn lanq_run(
         × (work.new ≡ store_left program.now schedule.now outcomes.now
         trace.old work.old) }
 {
-    run_numbers(run(program, schedule, outcomes, trace, work))
+    run_numbers(of_table(run(program, schedule, outcomes, trace, work)))
 }
 
 // `refused` is 30, 31 or 32 with its place where the text is refused, and else 0, with the words of the text's table.
@@ -87,9 +101,9 @@ fn table_numbers(refused: u64, place: u64, words: u64) -> LanqTable
     ensures { result ≡ record { refused = refused; place = place; words = words } }
 {
     LanqTable {
-        refused: refused,
-        place: place,
-        words: words,
+        refused,
+        place,
+        words,
     }
 }
 
@@ -99,13 +113,9 @@ pub extern "C" fn lanq_translate(text: &[u8], table: &mut [u16]) -> LanqTable
     ensures { (result ≡ table_answer (answer_for (length table.old) (text_of text.now)))
         × (table.new ≡ buffer_after table.old (text_of text.now)) }
 {
-    let answer = translate(text, table);
-    match answer {
-        Translation::Grammar(at) => table_numbers(30, at as u64, 0),
-        Translation::Names(at) => table_numbers(31, at as u64, 0),
-        Translation::Limits(at) => table_numbers(32, at as u64, 0),
-        Translation::Table(n) => table_numbers(0, 0, n as u64),
-        Translation::Short(n) => table_numbers(0, 0, n as u64),
+    match translate(text, table) {
+        Err(no) => table_numbers(u64::from(no.number()), no.place() as u64, 0),
+        Ok(translation) => table_numbers(0, 0, translation.words() as u64),
     }
 }
 
@@ -130,6 +140,7 @@ pub extern "C" fn lanq_run_text(
 }
 
 // The holder by the first k lines of a trace, all if there are fewer, read from the last one backwards.
+#[tactic(auto, unfolding(trace::specs::Trace::look_up, trace::specs::ReadCode::held))]
 #[unsafe(no_mangle)]
 pub extern "C" fn lanq_holder(trace: &[u16], k: usize, qubit: u16) -> LanqHolder
     ensures { (result.holder ≡ look_up trace.now k qubit)

@@ -4,11 +4,13 @@
 #![tactic(auto)]
 
 ghost use Rattle.std.specs.Prelude.{◌≡◌};
+ghost use Rattle.std.proofs.Math.Option.{get_or};
 ghost use Rattle.machine.specs.Answer.{ran};
+ghost use Rattle.trace.specs.ReadCode.{found};
 ghost use Rattle.check_questions.specs.Check.{verdict_of};
 ghost use Rattle.lanq_answers.specs.Answers.{check_answer, run_answer};
 
-use check_questions::Check;
+use check_questions::Refusal;
 use trace::lookup::QubitHolder;
 
 // `refused` is 0 where the input is accepted, and else the question's number with its place. Unused fields are 0.
@@ -29,7 +31,7 @@ pub fn refusal(number: u64, place: u64) -> LanqAnswer
 {
     LanqAnswer {
         refused: number,
-        place: place,
+        place,
         end: 0,
         entries: 0,
         lines: 0,
@@ -37,19 +39,13 @@ pub fn refusal(number: u64, place: u64) -> LanqAnswer
     }
 }
 
-pub fn check_numbers(answer: Check) -> LanqAnswer
+#[tactic(auto, unfolding(crate::specs::Answers::check_answer, check_questions::specs::Check::verdict_of))]
+pub fn check_numbers(answer: Result<(), Refusal>) -> LanqAnswer
     ensures { result ≡ check_answer (verdict_of answer) }
 {
     match answer {
-        Check::Accepted => refusal(0, 0),
-        Check::Sizes => refusal(1, 0),
-        Check::Pairs(m) => refusal(2, m as u64),
-        Check::Rows(m) => refusal(3, m as u64),
-        Check::Instruction(i) => refusal(4, i as u64),
-        Check::Reading(i) => refusal(5, i as u64),
-        Check::Outcome(i) => refusal(6, i as u64),
-        Check::Schedule => refusal(7, 0),
-        Check::Work => refusal(8, 0),
+        Ok(()) => refusal(0, 0),
+        Err(no) => refusal(u64::from(no.number()), no.place() as u64),
     }
 }
 
@@ -60,10 +56,10 @@ pub fn ended(end: u64, entries: u64, lines: u64, outcomes: u64) -> LanqAnswer
     LanqAnswer {
         refused: 0,
         place: 0,
-        end: end,
-        entries: entries,
-        lines: lines,
-        outcomes: outcomes,
+        end,
+        entries,
+        lines,
+        outcomes,
     }
 }
 
@@ -76,10 +72,10 @@ pub struct LanqHolder {
 }
 
 pub fn holder_numbers(answer: QubitHolder) -> LanqHolder
-    ensures { (result.holder ≡ answer.holder) × (result.read ≡ answer.read) }
+    ensures { (result.holder ≡ get_or (found answer.holder) 65535) × (result.read ≡ answer.read) }
 {
     LanqHolder {
-        holder: answer.holder as u64,
+        holder: u64::from(answer.holder.unwrap_or(65535)),
         read: answer.read as u64,
     }
 }

@@ -11,9 +11,11 @@ use mathlib.Core.Path.{◌≡◌, refl, sym, subst}
 use mathlib.Core.List.{[], ◌∷◌}
 use mathlib.Core.Option.{Option, none, some}
 use lib.Dec.{T, ltb}
-use borrow.Author.Tests.{ltb-true, ltb-false, le-ltb}
-use Rattle.lists.specs.Lists.{any, first_false, all_below, first_some, below}
-use Rattle.lists.proofs.Tests.{cond-each, passes, clash, and_left, and_right, or_left}
+use borrow.Author.Tests.{ltb-true, ltb-false, lt-ltb, le-ltb}
+use Rattle.std.specs.Prelude.{Some, None}
+use Rattle.std.proofs.lemmas.Option.{none-some, cond_some}
+use Rattle.lists.specs.Lists.{any, first_false, first_place, all_below, first_some, below}
+use Rattle.lists.proofs.Tests.{decide, cond-each, passes, clash, and_left, and_right, or_left}
 use Rattle.lists.proofs.Any.{any-append-left, any-append-right, first_some-found}
 
 -- an index below n + 1 is below n or is n
@@ -124,3 +126,37 @@ first_some-given P f h n = found (first_some f n) refl
     found : (o : Option _) → first_some f n ≡ o → Given P o
     found none e = tt
     found (some a) e = let (i, l, q) = first_some-found f n a e in rw q at (h i)
+
+-- first_place
+
+module _ (f : ℕ → Bool) (n i : ℕ) (e : i ≡ first_false f n) where
+  pub first_place-found : i < n → first_place f n ≡ Some i
+  unfolding first_place
+  first_place-found l = rw (← e, lt-ltb i n l) refl
+
+  pub first_place-none : n ≤ i → first_place f n ≡ None
+  unfolding first_place
+  first_place-none l = rw (← e, le-ltb i n l) refl
+
+-- a search that looks at one index after the other stops at the first that fails, or finds none
+pub place-halts : (f : ℕ → Bool) (n i : ℕ) → first_false f i ≡ i → i < n → f i ≡ false → Some i ≡ first_place f n
+place-halts f n i e h t =
+    sym (first_place-found f n i (sym (first-halts f n i e (omega arith) (λ l. t))) h)
+
+pub place-ends : (f : ℕ → Bool) (n i : ℕ) → first_false f i ≡ i → i ≤ n → n ≤ i → None ≡ first_place f n
+place-ends f n i e h k = sym (first_place-none f n i (sym (first-halts f n i e h (λ l. absurd (omega arith)))) k)
+
+-- what an answer of the search says
+pub place-some : (f : ℕ → Bool) (n i : ℕ) → first_place f n ≡ Some i → (i ≡ first_false f n) × (i < n)
+unfolding first_place
+place-some f n i q =
+    let (t, e) = cond_some (ltb (first_false f n) n) (first_false f n) i q in
+    (sym e, subst (λ (k : ℕ). k < n) e (ltb-true (first_false f n) n t))
+
+pub place-no : (f : ℕ → Bool) (n : ℕ) → first_place f n ≡ None → n ≤ first_false f n
+unfolding first_place
+place-no f n q = go (decide (ltb (first_false f n) n))
+  where
+    go : (ltb (first_false f n) n ≡ true) ⊎ (ltb (first_false f n) n ≡ false) → n ≤ first_false f n
+    go (inl t) = absurd (none-some (first_false f n) (sym (rw t at q)))
+    go (inr t) = ltb-false (first_false f n) n t

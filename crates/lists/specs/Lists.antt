@@ -1,5 +1,7 @@
 -- The definitions on lists that the library of the logic lacks. Nothing here knows of programs or processes.
 use Rattle.std.specs.Prelude.{ℕ, zero, suc, Bool, true, false, cond, ◌&&◌, ◌||◌, List, [], ◌∷◌, ◌++◌, eqb, ltb, set}
+use Rattle.std.specs.Prelude.{Some, None}
+use Rattle.std.specs.Prelude as prelude
 use Rattle.std.proofs.Math.Option.{Option, none, or_else}
 
 -- some element passes the test
@@ -28,6 +30,10 @@ same (x ∷ xs) (y ∷ ys) = eqb x y && same xs ys
 unfoldable pub first_false : (ℕ → Bool) → ℕ → ℕ
 first_false f zero = zero
 first_false f (suc n) = let i = first_false f n in cond (ltb i n) i (cond (f n) (suc n) n)
+
+-- the same where the test fails at some index below n
+unfoldable pub first_place : (ℕ → Bool) → ℕ → prelude.Option ℕ
+first_place f n = let i = first_false f n in cond (ltb i n) (Some i) None
 
 -- the test holds at every index below n
 unfoldable pub all_below : (ℕ → Bool) → ℕ → Bool

@@ -1,5 +1,5 @@
 -- The numbers of a file, the tests of `well_built` in the order in which the code makes them, and the words of a part.
-use Prim.Native.Nat.{ℕ, zero, suc, ◌+◌, ◌*◌, ◌-◌, ◌/◌, ◌%◌, ◌<◌, min}
+use Prim.Native.Nat.{ℕ, zero, suc, ◌+◌, ◌*◌, ◌-◌, ◌/◌, ◌%◌, ◌≤◌, ◌<◌, min}
 use mathlib.Core.Path.{◌≡◌, refl, ◌∙◌, ap, ap₂}
 use mathlib.Core.Bool.{Bool, ◌&&◌, and_assoc}
 use mathlib.Core.List.{List, [], ◌∷◌}
@@ -70,6 +70,9 @@ module _ (bytes : List ℕ) (from n : ℕ) where
 
   pub part_length : length part ≡ min n (length bytes - from)
   part_length = simp (length-take, length-drop)
+
+  pub words_few : 2 * length (words_of part) ≤ n
+  words_few = omega (arith, words_of-length part, part_length)
 
   pub part-word : (i : ℕ) → i < length (words_of part)
       → get_or (words_of part) i 0 ≡ get_or bytes (from + 2 * i) 0 + 256 * get_or bytes (from + 2 * i + 1) 0

@@ -3,25 +3,18 @@
 // end reads as 0, so that nothing is asked of the caller.
 #![tactic(auto)]
 
-ghost use Rattle.std.specs.Prelude.{◌≡◌, ◌+◌, ◌*◌, ◌<◌, get_or, set, take, drop, length};
+ghost use Rattle.std.specs.Prelude.{◌≡◌, ◌+◌, ◌*◌, ◌<◌, get_or, take, drop, length};
 ghost use Rattle.print_format.specs.Format.{number_at, well_built, words_of};
 ghost use Rattle.lists.specs.Lists.{put_from};
 
-fn byte_at(bytes: &[u8], i: usize) -> u8
-    ensures { result ≡ get_or bytes.now i 0 }
-{
-    if i < bytes.len() {
-        return bytes[i];
-    }
-    0
-}
+use slices::{at_or, put};
 
 // Two bytes, the lowest first.
 fn two_at(bytes: &[u8], i: usize) -> u16
     requires { i < 8589934592 }
     ensures { result ≡ get_or bytes.now i 0 + 256 * get_or bytes.now (i + 1) 0 }
 {
-    (byte_at(bytes, i) as u16) + 256 * (byte_at(bytes, i + 1) as u16)
+    (at_or(bytes, i, 0) as u16) + 256 * (at_or(bytes, i + 1, 0) as u16)
 }
 
 // The number at byte i.
@@ -48,40 +41,24 @@ pub fn well_built(bytes: &[u8]) -> bool
     size & adjacent & (l0 % 2 == 0)
 }
 
-fn put_word(words: &mut [u16], i: usize, x: u16)
-    ensures { words.new ≡ set words.old i x }
-{
-    if i < words.len() {
-        words[i] = x;
-    }
-}
-
 // How many words the n bytes from `from` on make, as far as there are bytes.
 fn words_in(bytes: &[u8], from: usize, n: usize) -> usize
     ensures { result ≡ length (words_of (take n (drop from bytes.now))) }
 {
-    if bytes.len() <= from {
-        return 0;
-    }
-    let left = bytes.len() - from;
-    if n <= left {
-        return n / 2;
-    }
-    left / 2
+    n.min(bytes.len().saturating_sub(from)) / 2
 }
 
 // The words of the n bytes from `from` on, as far as there are bytes, written from the start of a lent buffer: the
 // answer is how many they are. Those past its end are not written.
+#[tactic(auto, using(crate::proofs::FileLaws::words_few))]
 pub fn put_words(bytes: &[u8], from: u32, n: u32, words: &mut [u16]) -> usize
     ensures { (words.new ≡ put_from words.old 0 (words_of (take n (drop from bytes.now))))
         × (result ≡ length (words_of (take n (drop from bytes.now)))) }
 {
     let start = from as usize;
     let k = words_in(bytes, start, n as usize);
-    let mut i: usize = 0;
-    while i < k {
-        put_word(words, i, two_at(bytes, start + 2 * i));
-        i += 1;
+    for i in 0..k {
+        put(words, i, two_at(bytes, start + 2 * i));
     }
     k
 }

@@ -14,10 +14,8 @@ pub fn put_lines(out: &mut [u8], at: usize, trace: &[u16], n: u32) -> usize
         × (result ≡ at + length (lines_text (take n (lines_of trace.now)))) }
 {
     let mut end = at;
-    let mut i: u32 = 0;
-    while i < n {
+    for i in 0..n {
         end = put_line(out, end, line_at(trace, i as usize));
-        i += 1;
     }
     end
 }

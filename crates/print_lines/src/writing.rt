@@ -2,21 +2,32 @@
 // caller but an index that can be computed with: each leaves the functions under it room for what they add.
 ghost use Rattle.std.specs.Prelude.{◌≡◌, [], ◌∷◌, ◌+◌, ◌<◌, length};
 ghost use Rattle.trace.specs.ReadCode.{as_line};
-ghost use Rattle.print_format.specs.Format.{decimal, spaced, column, columns_used, line_text, refused_word, refused_text};
+ghost use Rattle.print_format.specs.Format.{decimal, spaced, column, columns_used, line_text, refused_text};
 ghost use Rattle.lists.specs.Lists.{put_from};
 ghost use Rattle.print_lines.specs.TextsCode.{head_text, columns_text, end_text};
 
+use slices::{at_or, put};
 use trace_lines::TraceLine;
 
+#[tactic(auto, unfolding(lists::specs::Lists::put_from))]
 fn put_byte(out: &mut [u8], at: usize, b: u8) -> usize
     requires { at < 9000000000 }
     ensures { (out.new ≡ put_from out.old at (b ∷ [])) × (result ≡ at + length (b ∷ [])) }
 {
-    if at < out.len() {
-        out[at] = b;
-        return at + 1;
-    }
+    put(out, at, b);
     at + 1
+}
+
+// Bytes one after the other.
+fn put_bytes(out: &mut [u8], at: usize, bytes: &[u8]) -> usize
+    requires { at + length bytes.now < 9000000000 }
+    ensures { (out.new ≡ put_from out.old at bytes.now) × (result ≡ at + length bytes.now) }
+{
+    let mut end = at;
+    for b in bytes {
+        end = put_byte(out, end, *b);
+    }
+    end
 }
 
 // The digits before the last one first: at most 20 calls deep.
@@ -25,10 +36,10 @@ pub fn put_number(out: &mut [u8], at: usize, n: u64) -> usize
     ensures { (out.new ≡ put_from out.old at (decimal n)) × (result ≡ at + length (decimal n)) }
 {
     if n < 10 {
-        return put_byte(out, at, 48 + (n as u8));
+        return put_byte(out, at, b'0' + (n as u8));
     }
     let last = put_number(out, at, n / 10);
-    put_byte(out, last, 48 + ((n % 10) as u8))
+    put_byte(out, last, b'0' + ((n % 10) as u8))
 }
 
 // A blank and a number.
@@ -49,8 +60,7 @@ pub fn put_column(out: &mut [u8], at: usize, used: bool, n: u64) -> usize
     if used {
         return put_spaced(out, at, n);
     }
-    let i = put_byte(out, at, b' ');
-    put_byte(out, i, b'-')
+    put_bytes(out, at, b" -")
 }
 
 // The columns that every line has.
@@ -84,11 +94,7 @@ pub fn columns_used(l: TraceLine) -> u16
     if (l.kind == 3) & (l.a <= 5) {
         return 2;
     }
-    let k = l.kind as usize;
-    if k < 11 {
-        return by_kind[k];
-    }
-    0
+    at_or(&by_kind, l.kind as usize, 0)
 }
 
 // One line of a trace, with its newline.
@@ -102,33 +108,13 @@ pub fn put_line(out: &mut [u8], at: usize, l: TraceLine) -> usize
     put_byte(out, j, b'\n')
 }
 
-fn put_three(out: &mut [u8], at: usize, x: u8, y: u8, z: u8) -> usize
-    requires { at < 8000000000 }
-    ensures { (out.new ≡ put_from out.old at (x ∷ y ∷ z ∷ []))
-        × (result ≡ at + length (x ∷ y ∷ z ∷ [])) }
-{
-    let i = put_byte(out, at, x);
-    let j = put_byte(out, i, y);
-    put_byte(out, j, z)
-}
-
-// "refused"
-fn put_refused_word(out: &mut [u8], at: usize) -> usize
-    requires { at < 5000000000 }
-    ensures { (out.new ≡ put_from out.old at refused_word) × (result ≡ at + length refused_word) }
-{
-    let i = put_three(out, at, b'r', b'e', b'f');
-    let j = put_three(out, i, b'u', b's', b'e');
-    put_byte(out, j, b'd')
-}
-
 // The one line that is printed for a refusal.
 pub fn put_refused(out: &mut [u8], at: usize, n: u64, place: u64) -> usize
     requires { at < 4294967296 }
     ensures { (out.new ≡ put_from out.old at (refused_text n place))
         × (result ≡ at + length (refused_text n place)) }
 {
-    let i = put_refused_word(out, at);
+    let i = put_bytes(out, at, b"refused");
     let j = put_spaced(out, i, n);
     let k = put_spaced(out, j, place);
     put_byte(out, k, b'\n')
@@ -140,7 +126,7 @@ pub fn put_end(out: &mut [u8], at: usize, e: u64, k: u64, l: u64, o: u64) -> usi
     ensures { (out.new ≡ put_from out.old at (end_text e k l o))
         × (result ≡ at + length (end_text e k l o)) }
 {
-    let i0 = put_three(out, at, b'e', b'n', b'd');
+    let i0 = put_bytes(out, at, b"end");
     let i1 = put_spaced(out, i0, e);
     let i2 = put_spaced(out, i1, k);
     let i3 = put_spaced(out, i2, l);

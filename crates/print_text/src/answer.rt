@@ -4,33 +4,34 @@ ghost use Rattle.machine.specs.Answer.{ran};
 ghost use Rattle.trace.specs.Trace.{lines_of};
 ghost use Rattle.print_format.specs.Format.{answer_text};
 ghost use Rattle.lists.specs.Lists.{put_from};
-ghost use Rattle.run.specs.Answers.{answer_numbers};
-ghost use Rattle.run.specs.Answers.{lines_no};
+ghost use Rattle.run_ability.specs.EndingCode.{end_number};
+ghost use Rattle.run.specs.Answers.{answer_numbers, lines_no};
 
+use check_questions::Refusal;
 use print_lines::traces::put_lines;
 use print_lines::writing::{put_end, put_refused};
-use run::Answer;
+use run_schedule::entries::RunSummary;
 
 // The lines and the last line.
-fn put_ended(
-    out: &mut [u8],
-    trace: &[u16],
-    end: u64,
-    entries: u64,
-    lines: u32,
-    outcomes: u64,
-) -> usize
-    requires { (lines ≤ length (lines_of trace.now)) × (126 * lines < 4294967296) }
+fn put_ended(out: &mut [u8], trace: &[u16], o: RunSummary) -> usize
+    requires { (o.lines ≤ length (lines_of trace.now)) × (126 * o.lines < 4294967296) }
     ensures { (out.new ≡ put_from out.old 0
-        (answer_text (take lines (lines_of trace.now)) (ran end entries lines outcomes)))
-        × (result ≡ length (answer_text (take lines (lines_of trace.now)) (ran end entries lines outcomes))) }
+        (answer_text (take o.lines (lines_of trace.now)) (ran (end_number o.end) o.entries o.lines o.used)))
+        × (result ≡ length (answer_text (take o.lines (lines_of trace.now)) (ran (end_number o.end) o.entries o.lines o.used))) }
 {
-    let at = put_lines(out, 0, trace, lines);
-    put_end(out, at, end, entries, lines as u64, outcomes)
+    let at = put_lines(out, 0, trace, o.lines);
+    put_end(
+        out,
+        at,
+        u64::from(o.end.number()),
+        o.entries as u64,
+        u64::from(o.lines),
+        u64::from(o.used),
+    )
 }
 
 // What is printed for an answer, its lines being the first of the trace.
-pub fn put_answer(out: &mut [u8], a: Answer, trace: &[u16]) -> usize
+pub fn put_answer(out: &mut [u8], a: Result<RunSummary, Refusal>, trace: &[u16]) -> usize
     requires { (lines_no (answer_numbers a) ≤ length (lines_of trace.now))
         × (126 * lines_no (answer_numbers a) < 4294967296) }
     ensures { (out.new ≡ put_from out.old 0
@@ -39,19 +40,7 @@ pub fn put_answer(out: &mut [u8], a: Answer, trace: &[u16]) -> usize
         (answer_numbers a))) }
 {
     match a {
-        Answer::Refused { number, place } => put_refused(out, 0, number as u64, place as u64),
-        Answer::Ran {
-            end,
-            entries,
-            lines,
-            outcomes,
-        } => put_ended(
-            out,
-            trace,
-            end as u64,
-            entries as u64,
-            lines,
-            outcomes as u64,
-        ),
+        Err(no) => put_refused(out, 0, u64::from(no.number()), no.place() as u64),
+        Ok(o) => put_ended(out, trace, o),
     }
 }

@@ -1,7 +1,7 @@
 -- The answer and the lent buffers after `run`, by the verdict of the questions, and what is read back from them. The
 -- demands (Demands.antt) are put together from these.
 use Prim.Native.Nat.{ℕ, suc, ◌+◌, ◌*◌, ◌≤◌, ◌<◌}
-use mathlib.Core.Path.{◌≡◌, refl, sym, ◌∙◌, ap, ap₂}
+use mathlib.Core.Path.{◌≡◌, sym, ◌∙◌, ap, ap₂}
 use mathlib.Core.List.{List, [], ◌∷◌, ◌++◌, append_assoc}
 use native.Mathlib.Omega.{arith}
 use lib.ListN.{get_or, take, drop, length, length-append, get_or-append}

@@ -6,7 +6,7 @@
 -- to the schedule ys, and `LinesKept` what of the lines stays. `store_left`, `trace_left` and `lines_read`
 -- (specs/Answers.antt) are as in Demands.antt.
 use Prim.Native.Nat.{ℕ, ◌*◌}
-use mathlib.Core.Path.{◌≡◌, refl, sym, ◌∙◌, ap, ap₂, subst₂}
+use mathlib.Core.Path.{◌≡◌, refl, sym, ◌∙◌, ap, subst₂}
 use mathlib.Core.List.{List, ◌++◌}
 use lib.ListN.{drop, length}
 use lib.Dec.{leb}

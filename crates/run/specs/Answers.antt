@@ -1,5 +1,5 @@
 -- The run's answer as document 01's numbers, and what it leaves in the lent trace and the lent work store.
-use Rattle.std.specs.Prelude.{ℕ, ◌*◌, List, take, length}
+use Rattle.std.specs.Prelude.{ℕ, ◌*◌, Result, Ok, Err, List, take, length}
 use Rattle.table.specs.Questions.{Verdict, accepted, refused, questions}
 use Rattle.machine.specs.State.{Config, Line, State}
 use Rattle.machine.specs.Run.{run}
@@ -8,13 +8,15 @@ use Rattle.machine.specs.Answer as machine
 use Rattle.layout.specs.Layout.{decode}
 use Rattle.layout.specs.Holders.{store_after}
 use Rattle.trace.specs.Trace.{lines_of}
-use Rattle.run.specs.declared.Answer.{Answer}
-use Rattle.run.specs.declared.Answer.TheVariants.{Refused, Ran}
+use Rattle.check_questions.specs.declared.Refusal.{Refusal}
+use Rattle.check_questions.specs.Check.{number_of, place_of}
+use Rattle.run_ability.specs.EndingCode.{end_number}
+use Rattle.run_schedule.specs.declared.entries.RunSummary.{RunSummary}
 
 -- "A refusal gives number and place"; "A run answers end, entries used (idle ones too), lines written, outcomes used."
-unfoldable pub answer_numbers : Answer → machine.Answer
-answer_numbers (Refused n i) = refusal n i
-answer_numbers (Ran e k l u) = ran e k l u
+unfoldable pub answer_numbers : Result RunSummary Refusal → machine.Answer
+answer_numbers (Err r) = refusal (number_of r) (place_of r)
+answer_numbers (Ok o) = ran (end_number o.end) o.entries o.lines o.used
 
 -- "trace and work store keep their bytes" where a question says no
 unfoldable pub kept_if_refused : Verdict → List ℕ → List ℕ → List ℕ

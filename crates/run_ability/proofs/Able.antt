@@ -11,18 +11,17 @@ use native.Mathlib.Omega.{arith}
 use lib.ListN.{get_or, length}
 use lib.Dec.{eqb, leb, ltb}
 use borrow.Author.Tests.{eqb-true, eqb-false, eq-eqb, ne_eqb, ltb-true, ltb-false, leb-true, leb-false}
-use Rattle.lists.specs.Lists.{any, every, All, below}
+use Rattle.lists.specs.Lists.{any, every, below}
 use Rattle.lists.proofs.Tests.{decide}
 use Rattle.lists.proofs.Any.{All-get_d}
-use Rattle.table.specs.Table.{op_at}
 use Rattle.machine.specs.Value.{end, ref, side_no}
 use Rattle.machine.specs.State.{Frame, Status, running, finished, stopped, Process, Config, State, is_over, process_at, unmade}
 use Rattle.machine.specs.Act.{Offer, sends, receives, Act, idle, stuck, faults, goes, ends, makes, forks, offers, at_frames, by_status, act_of}
 use Rattle.machine.specs.Entry.{Meeting, offered, meets_with, meeting_of, opposite_end, is_gone, gone, judged, is_meeting, moves, able, able_in, moves_in}
 use Rattle.machine.specs.Run.{all_over, none_able, none_able_in}
 use Rattle.machine.specs.Owner.{values_of, reaches, holder}
-use Rattle.machine.specs.Sound.{Made, FrameSound, ProcessSound, ConfigSound}
-use Rattle.machine.proofs.Reachable.{Reachable, stacked, busy-at}
+use Rattle.machine.specs.Sound.{Made, ProcessSound, ConfigSound}
+use Rattle.machine.proofs.Reachable.{Reachable, busy-at}
 use Rattle.machine.proofs.Standing.{act-typed}
 use Rattle.machine.proofs.Sound.{config-sound}
 use Rattle.machine.proofs.Within.{OfferWithin, ActWithin, act-within}
@@ -35,23 +34,19 @@ use Rattle.machine.proofs.Giving.{process-beyond}
 use Rattle.machine.proofs.Ownership as own
 use Rattle.layout.specs.Layout.{process_words, encode, value_words}
 use Rattle.layout.proofs.Frames.{tag_of, number_of}
-use Rattle.run_store.specs.declared.values.Val.{Val}
-use Rattle.run_store.specs.declared.head.Head.{Head}
-use Rattle.run_store.specs.StoreCode.{value_at, top_at}
-use Rattle.run_values.specs.ValuesCode.{empty_two}
-use Rattle.run_values.specs.ValuesCode as values_code
-use Rattle.run_values.proofs.Places.{head_in, head-is}
 use Rattle.run_store.proofs.Vals.{val_of}
 use Rattle.run_parts.specs.PartsCode.{part_of}
 use Rattle.run_parts.proofs.Encoded.{Laid, laid-sound, part-is, part-unmade}
 use Rattle.run_holders.specs.HoldersCode.{holder_in}
 use Rattle.run_holders.proofs.Holding.{Holding}
 use Rattle.run_parts.specs.declared.readiness.Readiness.{Readiness}
-use Rattle.run_parts.specs.ReadinessCode.{over_kind, offer_kind, no_offer, send_of, receive_of, readiness_op, meets_op}
+use Rattle.run_parts.specs.ReadinessCode.{over_kind, end_offered, readiness_op, meets_op}
 use Rattle.run_parts.proofs.Standing.{Stands, stand-is, finished-stand, stopped-stand, unmade-stand, meets-act}
 use Rattle.run_ability.specs.PartnerCode.{opposite_of, Partner, waits, ready, is_no_other, ready_op, is_moving, partner_op}
 use Rattle.run_ability.specs.PartnerCode as code
-use Rattle.run_ability.specs.EndingCode.{alone_ability, ability_of, ability_op, some_is, ending_op}
+use Rattle.std.specs.Prelude as std
+use Rattle.run_ability.specs.declared.ends.End.TheVariants.{AllOver, NoneAble}
+use Rattle.run_ability.specs.EndingCode.{end_number, end_or_none, ability_by, ability_of, ability_op, some_is, ending_op}
 
 module _ {p outcomes : List ℕ} {s : State} (reached : Reachable p outcomes s) (rest : List ℕ) where
   abbrev config : Config
@@ -105,27 +100,27 @@ module _ {p outcomes : List ℕ} {s : State} (reached : Reachable p outcomes s) 
   not_stuck q e = rw e at (act-typed p reached.kept outcomes reached.bytes s reached.kinds reached.typed q)
 
   -- the readiness of a process that acts is not that of one that is over
-  stands-busy : (a : Act) (st : Readiness) → Busy a → a ≢ stuck → Stands a st → over_kind st.kind ≡ false
+  stands-busy : (a : Act) (st : Readiness) → Busy a → a ≢ stuck → Stands a st → over_kind st ≡ false
   unfolding over_kind
   stands-busy idle st b ns h = absurd b
   stands-busy stuck st b ns h = absurd (ns refl)
-  stands-busy (faults f) st b ns h = ap (λ (x : Readiness). over_kind x.kind) h
-  stands-busy (goes fs es u) st b ns h = ap (λ (x : Readiness). over_kind x.kind) h
-  stands-busy ends st b ns h = ap (λ (x : Readiness). over_kind x.kind) h
-  stands-busy (makes x fs) st b ns h = ap (λ (x : Readiness). over_kind x.kind) h
-  stands-busy (forks m args fs) st b ns h = ap (λ (x : Readiness). over_kind x.kind) h
-  stands-busy (offers (sends c d v fs)) st b ns h = ap (λ (x : Readiness). over_kind x.kind) h
-  stands-busy (offers (receives c d fs)) st b ns h = ap (λ (x : Readiness). over_kind x.kind) h
+  stands-busy (faults f) st b ns h = ap over_kind h
+  stands-busy (goes fs es u) st b ns h = ap over_kind h
+  stands-busy ends st b ns h = ap over_kind h
+  stands-busy (makes x fs) st b ns h = ap over_kind h
+  stands-busy (forks m args fs) st b ns h = ap over_kind h
+  stands-busy (offers (sends c d v fs)) st b ns h = ap over_kind h
+  stands-busy (offers (receives c d fs)) st b ns h = ap over_kind h
 
-  over-ready : (q : ℕ) → q < 8 → over_kind (readiness_op p (part_of work q)).kind ≡ is_over (process_at config q)
+  over-ready : (q : ℕ) → q < 8 → over_kind (readiness_op p (part_of work q)) ≡ is_over (process_at config q)
   unfolding act_of by_status over_kind
   over-ready q h = go (process_at config q).status refl
     where
       over : (st : Status) → (process_at config q).status ≡ st
           → by_status st (at_frames p outcomes s (process_at config q).frames) ≡ idle
-          → over_kind (readiness_op p (part_of work q)).kind ≡ true
+          → over_kind (readiness_op p (part_of work q)) ≡ true
       over st e i =
-          ap (λ (x : Readiness). over_kind x.kind)
+          ap over_kind
           (subst (λ (a : Act). Stands a (readiness_op p (part_of work q)))
           (ap (λ (x : Status). by_status x (at_frames p outcomes s (process_at config q).frames)) e ∙ i) (stand-at q h))
 
@@ -133,7 +128,7 @@ module _ {p outcomes : List ℕ} {s : State} (reached : Reachable p outcomes s) 
       by-status st = is_over (record { status = st; frames = (process_at config q).frames })
 
       go : (st : Status) → (process_at config q).status ≡ st
-          → over_kind (readiness_op p (part_of work q)).kind ≡ is_over (process_at config q)
+          → over_kind (readiness_op p (part_of work q)) ≡ is_over (process_at config q)
       go running e =
           stands-busy (act_of p outcomes s q) (readiness_op p (part_of work q)) (running-busy p outcomes s q e)
           (not_stuck q) (stand-at q h)
@@ -218,7 +213,7 @@ module _ {p outcomes : List ℕ} {s : State} (reached : Reachable p outcomes s) 
         over-beyond l = ap is_over (process-beyond config h (omega (arith, l, sound.process_count)))
 
         near : h < 8 → (b : Bool) → is_over (process_at config h) ≡ b
-            → cond (over_kind (readiness_op p (part_of work h)).kind) code.gone
+            → cond (over_kind (readiness_op p (part_of work h))) code.gone
             (cond (meets_op st (readiness_op p (part_of work h))) (ready h) waits)
             ≡ comes b (is_meeting met) h
         near l true e =
@@ -231,7 +226,7 @@ module _ {p outcomes : List ℕ} {s : State} (reached : Reachable p outcomes s) 
 
         same : (x y : Bool) → leb 8 h ≡ y
             → cond (x || y) code.gone
-            (cond (over_kind (readiness_op p (part_of work h)).kind) code.gone
+            (cond (over_kind (readiness_op p (part_of work h))) code.gone
             (cond (meets_op st (readiness_op p (part_of work h))) (ready h) waits))
             ≡ comes (x || is_over (process_at config h)) (is_meeting (cond x none met)) h
         same true y e = refl
@@ -241,12 +236,12 @@ module _ {p outcomes : List ℕ} {s : State} (reached : Reachable p outcomes s) 
     pub partner-law : (n : ℕ) (o : Offer) (st : Readiness) → OfferWithin (values_of (process_at config n).frames) o
         → Stands (offers o) st
         → partner_op p work t n st ≡ comes (gone s n o) (is_meeting (meeting_of p outcomes s n o)) (found o)
-    unfolding partner_op found
+    unfolding partner_op found end_offered
     partner-law n (sends c d v fs) st w h =
-        ap (λ (x : Readiness). ready_op p work n st (holder_in t (x.end.number % 65536) (opposite_of x.end.tag))) h
+        ap (λ (x : Readiness). ready_op p work n st (holder_in t ((end_offered x).number % 65536) (opposite_of (end_offered x).tag))) h
         ∙ ready-is n (sends c d v fs) st w h
     partner-law n (receives c d fs) st w h =
-        ap (λ (x : Readiness). ready_op p work n st (holder_in t (x.end.number % 65536) (opposite_of x.end.tag))) h
+        ap (λ (x : Readiness). ready_op p work n st (holder_in t ((end_offered x).number % 65536) (opposite_of (end_offered x).tag))) h
         ∙ ready-is n (receives c d fs) st w h
 
     -- where there is a meeting, its partner is another process that was made
@@ -315,12 +310,11 @@ module _ {p outcomes : List ℕ} {s : State} (reached : Reachable p outcomes s) 
         both false = either (is_meeting (meeting_of p outcomes s n o))
 
     offer-rank : (n : ℕ) (o : Offer) (st : Readiness) → OfferWithin (values_of (process_at config n).frames) o
-        → Stands (offers o) st → not (offer_kind st.kind) ≡ false
-        → ability_of p work t n st ≡ rank n (offers o)
-    unfolding ability_of rank is_moving
-    offer-rank n o st w h k =
-        ap₂ (λ (b : Bool) (q : Partner). cond b (alone_ability st.kind) (cond (is_moving q) 1 2)) k
-        (partner-law n o st w h)
+        → Stands (offers o) st
+        → cond {A = ℕ} (is_moving (partner_op p work t n st)) 1 2 ≡ rank n (offers o)
+    unfolding rank is_moving
+    offer-rank n o st w h =
+        ap (λ (q : Partner). cond {A = ℕ} (is_moving q) 1 2) (partner-law n o st w h)
         ∙ ap (λ (b : Bool). cond {A = ℕ} b 1 2) (either (gone s n o) (is_meeting (meeting_of p outcomes s n o)))
       where
         either : (g m : Bool) → is_moving (comes g m (found o)) ≡ (g || m)
@@ -332,7 +326,7 @@ module _ {p outcomes : List ℕ} {s : State} (reached : Reachable p outcomes s) 
         → ActWithin (values_of (process_at config n).frames) config.qubits config.channels a → a ≢ stuck
         → Stands a st
         → ability_of p work t n st ≡ rank n a
-    unfolding ability_of rank alone_ability offer_kind over_kind
+    unfolding ability_of ability_by rank
     act-rank n idle st w ns h = ap (λ (x : Readiness). ability_of p work t n x) h
     act-rank n stuck st w ns h = absurd (ns refl)
     act-rank n (faults f) st w ns h = ap (λ (x : Readiness). ability_of p work t n x) h
@@ -341,9 +335,9 @@ module _ {p outcomes : List ℕ} {s : State} (reached : Reachable p outcomes s) 
     act-rank n (makes x fs) st w ns h = ap (λ (x : Readiness). ability_of p work t n x) h
     act-rank n (forks m args fs) st w ns h = ap (λ (x : Readiness). ability_of p work t n x) h
     act-rank n (offers (sends c d v fs)) st w ns h =
-        offer-rank n (sends c d v fs) st w h (ap (λ (x : Readiness). not (offer_kind x.kind)) h)
+        ap (λ (x : Readiness). ability_of p work t n x) h ∙ offer-rank n (sends c d v fs) _ w refl
     act-rank n (offers (receives c d fs)) st w ns h =
-        offer-rank n (receives c d fs) st w h (ap (λ (x : Readiness). not (offer_kind x.kind)) h)
+        ap (λ (x : Readiness). ability_of p work t n x) h ∙ offer-rank n (receives c d fs) _ w refl
 
     ability-is : (n : ℕ) → n < 8 → ability_op p work t n ≡ rank n (act_of p outcomes s n)
     unfolding ability_op
@@ -473,8 +467,8 @@ module _ {p outcomes : List ℕ} {s : State} (reached : Reachable p outcomes s) 
         failed-over false e = refl
 
     -- the end that the code works out is the definitions'
-    pub ending-is : ending_op p work t 8 ≡ ending p outcomes s
-    unfolding ending_op ending all_over none_able_in process_at rank act_of
+    pub ending-is : end_or_none (ending_op p work t 8) ≡ ending p outcomes s
+    unfolding end_or_none end_number ending_op ending all_over none_able_in process_at rank act_of
     ending-is = first (some_is p work t 1 8) refl
       where
         few : length config.processes ≤ 8
@@ -509,11 +503,12 @@ module _ {p outcomes : List ℕ} {s : State} (reached : Reachable p outcomes s) 
             (λ i. some-missed 2 8 f q (omega (arith, l, few)) (ability-is q (omega (arith, l, few)) ∙ i))))
 
         second : some_is p work t 1 8 ≡ false → (b : Bool) → some_is p work t 2 8 ≡ b
-            → ◌≡◌ {A = ℕ} (cond b 2 1) (cond (all_over s) 1 (cond (none_able p outcomes s) 2 0))
+            → ◌≡◌ {A = ℕ} (end_number (cond b NoneAble AllOver)) (cond (all_over s) 1 (cond (none_able p outcomes s) 2 0))
         second e true f = sym (ap₂ (λ (x y : Bool). cond {A = ℕ} x 1 (cond y 2 0)) (waits f) (none-able e))
         second e false f = sym (ap (λ (x : Bool). cond {A = ℕ} x 1 (cond (none_able p outcomes s) 2 0)) (over e f))
 
-        first : (b : Bool) → some_is p work t 1 8 ≡ b → cond b 0 (cond (some_is p work t 2 8) 2 1) ≡ ending p outcomes s
+        first : (b : Bool) → some_is p work t 1 8 ≡ b
+            → end_or_none (cond b std.None (std.Some (cond (some_is p work t 2 8) NoneAble AllOver))) ≡ ending p outcomes s
         first true e =
             let r = some-found 1 8 e in sym (able-goes p outcomes s r.0
             (able-is r.0 r.1 ∙ eq-eqb (ability_op p work t r.0) 1 r.2))

@@ -8,7 +8,11 @@ use native.Mathlib.Nat.{le_of_suc-le-suc, not-suc-le-zero, eq-or-lt_of_le}
 use native.Mathlib.Numerals.{add-one}
 use lib.Dec.{eqb}
 use borrow.Author.Tests.{eq-eqb, ne_eqb}
-use Rattle.run_ability.specs.EndingCode.{ability_op, some_is, ending_op}
+use Rattle.std.specs.Prelude.{Option, Some, None}
+use native.Mathlib.Omega.{arith}
+use Rattle.run_ability.specs.declared.ends.End.{End}
+use Rattle.run_ability.specs.declared.ends.End.TheVariants.{ScheduleUsed, AllOver, NoneAble}
+use Rattle.run_ability.specs.EndingCode.{end_number, ability_op, some_is, ending_op}
 
 or-false : (b : Bool) → (b || false) ≡ b
 or-false true = refl
@@ -48,12 +52,28 @@ module _ (p work : List ℕ) (t : List (List ℕ)) where
       (eq-or-lt_of_le (le_of_suc-le-suc h))
 
   -- the run goes on where one can move, and otherwise ends by whether one waits
-  pub goes_on : (n j : ℕ) {r : ℕ} → j < n → r ≡ ability_op p work t j → r ≡ 1 → 0 ≡ ending_op p work t n
+  pub goes_on : (n j : ℕ) {r : ℕ} → j < n → r ≡ ability_op p work t j → r ≡ 1 → None ≡ ending_op p work t n
   unfolding ending_op
   goes_on n j h e q =
-      sym (ap (λ (b : Bool). cond b 0 (cond (some_is p work t 2 n) 2 1)) (one_of 1 n j h e q))
+      sym (ap (λ (b : Bool). cond b None (Some (cond (some_is p work t 2 n) NoneAble AllOver))) (one_of 1 n j h e q))
 
-  pub over : (n : ℕ) {r : ℕ} → some_is p work t 1 n ≡ false → r ≡ cond (some_is p work t 2 n) 2 1
-      → r ≡ ending_op p work t n
+  pub over : (n : ℕ) {r : End} → some_is p work t 1 n ≡ false → r ≡ cond (some_is p work t 2 n) NoneAble AllOver
+      → Some r ≡ ending_op p work t n
   unfolding ending_op
-  over n e q = q ∙ sym (ap (λ (b : Bool). cond b 0 (cond (some_is p work t 2 n) 2 1)) e)
+  over n e q =
+      ap {B = Option End} Some q
+      ∙ sym (ap (λ (b : Bool). cond b None (Some (cond (some_is p work t 2 n) NoneAble AllOver))) e)
+
+-- an end that the processes give is not that of a schedule used up
+pub ending-other : (p work : List ℕ) (t : List (List ℕ)) (n : ℕ) → ending_op p work t n ≡ Some ScheduleUsed → ⊥
+unfolding ending_op end_number
+ending-other p work t n e = go (some_is p work t 1 n) (some_is p work t 2 n) e
+  where
+    some : Option End → ℕ
+    some None = 0
+    some (Some f) = suc (end_number f)
+
+    go : (b c : Bool) → cond b None (Some (cond c NoneAble AllOver)) ≡ Some ScheduleUsed → ⊥
+    go true c i = absurd (omega (arith, ap some i))
+    go false true i = absurd (omega (arith, ap some i))
+    go false false i = absurd (omega (arith, ap some i))

@@ -4,7 +4,7 @@ use Rattle.std.specs.Prelude.{ℕ, ◌%◌, Bool, true, false, cond, ◌||◌, L
 use Rattle.run_parts.specs.PartsCode.{part_of}
 use Rattle.run_holders.specs.HoldersCode.{holder_in}
 use Rattle.run_parts.specs.declared.readiness.Readiness.{Readiness}
-use Rattle.run_parts.specs.ReadinessCode.{over_kind, readiness_op, meets_op}
+use Rattle.run_parts.specs.ReadinessCode.{over_kind, end_offered, readiness_op, meets_op}
 
 unfoldable pub opposite_of : ℕ → ℕ
 opposite_of tag = cond (eqb tag 5) 1 0
@@ -23,7 +23,7 @@ is_no_other n q = eqb q n || leb 8 q
 unfoldable pub ready_op : List ℕ → List ℕ → ℕ → Readiness → ℕ → Partner
 ready_op p work n a q =
     cond (is_no_other n q) gone
-    (cond (over_kind (readiness_op p (part_of work q)).kind) gone
+    (cond (over_kind (readiness_op p (part_of work q))) gone
     (cond (meets_op a (readiness_op p (part_of work q))) (ready q) waits))
 
 -- an offer that finds this moves its process, by a meeting or by fault 33
@@ -33,4 +33,4 @@ is_moving gone = true
 is_moving (ready q) = true
 
 unfoldable pub partner_op : List ℕ → List ℕ → List (List ℕ) → ℕ → Readiness → Partner
-partner_op p work t n a = ready_op p work n a (holder_in t (a.end.number % 65536) (opposite_of a.end.tag))
+partner_op p work t n a = ready_op p work n a (holder_in t ((end_offered a).number % 65536) (opposite_of (end_offered a).tag))

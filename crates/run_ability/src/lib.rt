@@ -5,6 +5,7 @@
 #![tactic(auto)]
 
 pub mod ending;
+pub mod ends;
 pub mod pairing;
 pub mod partner;
 pub mod reads;

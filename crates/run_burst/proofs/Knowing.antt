@@ -10,13 +10,14 @@ use Rattle.lists.proofs.Tests.{took, passed-by, off, on}
 use Rattle.run_parts.specs.PartsCode.{part_of}
 use Rattle.run_parts.specs.ReadinessCode.{readiness_op, offers_nothing}
 use Rattle.run_parts.proofs.Returns.{nothing-alone}
+use Rattle.std.specs.Prelude.{None}
 use Rattle.run_ability.specs.EndingCode.{ending_op}
 use Rattle.run_ability.proofs.Idle.{alone-goes}
 use Rattle.run_entry.specs.EntryCode.{one_line}
 use Rattle.run_values.specs.ValuesCode.{went_on}
 use Rattle.run_values.specs.declared.steps.StepResult.{StepResult}
 use Rattle.run_values.specs.declared.steps.StepResult.TheVariants.{WentOn}
-use Rattle.run_parts.specs.declared.readiness.ReadinessKind.TheVariants.{Moves}
+use Rattle.run_parts.specs.declared.readiness.Readiness.TheVariants.{Moves}
 use Rattle.run_burst.specs.declared.knowledge.Knowledge.{Knowledge}
 use Rattle.run_burst.specs.KnowledgeCode.{nothing_known, marked, with_idle, alone, known_after_step, known_after_entry, unless_changed}
 
@@ -106,17 +107,17 @@ stand-alone p work n h e = passed-by _ _ _ refl (lt-leb 8 n h) e
 
 -- a process that moves by itself can be, and its readiness says so
 pub alone-so : (p work : List ℕ) (n : ℕ) → alone p work n ≡ true
-    → (n < 8) × ((readiness_op p (part_of work n)).kind ≡ Moves)
+    → (n < 8) × (readiness_op p (part_of work n) ≡ Moves)
 unfolding alone
 alone-so p work n e = go (leb 8 n) refl e
   where
     go : (b : Bool) → leb 8 n ≡ b → cond b false (offers_nothing p (part_of work n)) ≡ true
-        → (n < 8) × ((readiness_op p (part_of work n)).kind ≡ Moves)
+        → (n < 8) × (readiness_op p (part_of work n) ≡ Moves)
     go true i h = absurd (true≢false (sym h))
     go false i h = (leb-false 8 n i, nothing-alone p (part_of work n) h)
 
 pub ends-alone : (p work : List ℕ) (t : List (List ℕ)) (n : ℕ) {b : Bool} → b ≡ alone p work n → b ≡ true
-    → 0 ≡ ending_op p work t 8
+    → None ≡ ending_op p work t 8
 ends-alone p work t n e h = alone-goes p work t n (alone-so p work n (sym e ∙ h)).0 (alone-so p work n (sym e ∙ h)).1
 
 -- after an entry with lines

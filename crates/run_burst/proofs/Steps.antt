@@ -13,12 +13,11 @@ use Rattle.run_ops.specs.OpsCode.{step_op}
 use Rattle.lists.proofs.Tests.{took, passed-by, off, on}
 use Rattle.run_parts.specs.PartsCode.{part_of, on_part}
 use Rattle.run_ability.specs.declared.pairing.Pairing.{Pairing}
-use Rattle.run_ability.specs.PairingCode.{wait_kind, unpaired}
+use Rattle.run_ability.specs.PairingCode.{wait_kind}
 use Rattle.run_entry.specs.EntryCode.{offer_at}
 use Rattle.run_values.specs.declared.steps.StepResult.{StepResult}
 use Rattle.run_values.specs.declared.steps.StepResult.TheVariants.{WentOn, NotRunning}
-use Rattle.run_ability.specs.declared.pairing.PairingKind.{PairingKind}
-use Rattle.run_ability.specs.declared.pairing.PairingKind.TheVariants.{NoOffer, Waits, Meets, PartnerGone}
+use Rattle.run_ability.specs.declared.pairing.Pairing.TheVariants.{NoOffer, Waits, Meets, PartnerGone}
 use Rattle.run_burst.specs.declared.knowledge.Knowledge.{Knowledge}
 use Rattle.run_burst.specs.KnowledgeCode.{is_idle, with_idle, alone, known_after_step}
 use Rattle.run_burst.specs.BurstCode.{Stop, stops_at, named_op, is_done, named_before, stops_here, burst_op}
@@ -60,21 +59,26 @@ pub before-later : (schedule : List ℕ) (k : ℕ) → (k ≡ 0 → ⊥) → get
 unfolding named_before
 before-later schedule k h = passed-by _ _ _ refl (ne_eqb k 0 h) refl
 
-module _ (p work schedule : List ℕ) (k : ℕ) (known : Knowledge) (m : Pairing) {wait : Bool}
-    (tested : wait ≡ wait_kind m.kind) where
-  pub stops-moving : not wait ≡ true → true ≡ stops_here p work schedule k known m
-  unfolding stops_here
-  stops-moving h = passed-by _ _ _ tested (off wait h) refl
+module _ (p work schedule : List ℕ) (k : ℕ) (known : Knowledge) {m : Pairing} where
+  pub stops-moving : (m ≡ Waits → ⊥) → true ≡ stops_here p work schedule k known m
+  unfolding stops_here wait_kind
+  stops-moving h = passed-by _ _ _ refl (go m h) refl
+    where
+      go : (x : Pairing) → (x ≡ Waits → ⊥) → wait_kind x ≡ false
+      go NoOffer i = refl
+      go Waits i = absurd (i refl)
+      go (Meets x) i = refl
+      go PartnerGone i = refl
 
-  pub goes-known : not wait ≡ false → known.some ≡ true → false ≡ stops_here p work schedule k known m
-  unfolding stops_here
-  goes-known h e = took _ _ _ tested (on wait h) (took _ _ _ refl e refl)
+  pub goes-known : m ≡ Waits → known.some ≡ true → false ≡ stops_here p work schedule k known m
+  unfolding stops_here wait_kind
+  goes-known h e = took _ _ _ refl (ap wait_kind h) (took _ _ _ refl e refl)
 
-  pub goes-seen : not wait ≡ false → known.some ≡ false → {n : ℕ} {b : Bool} → n ≡ named_before schedule k
+  pub goes-seen : m ≡ Waits → known.some ≡ false → {n : ℕ} {b : Bool} → n ≡ named_before schedule k
       → b ≡ alone p work n
       → not b ≡ stops_here p work schedule k known m
-  unfolding stops_here
-  goes-seen h e f g = took _ _ _ tested (on wait h) (passed-by _ _ _ refl e (ap not (g ∙ ap (alone p work) f)))
+  unfolding stops_here wait_kind
+  goes-seen h e f g = took _ _ _ refl (ap wait_kind h) (passed-by _ _ _ refl e (ap not (g ∙ ap (alone p work) f)))
 
 -- what the tests say, read back
 
@@ -88,24 +92,24 @@ done-so step known z h = go (went_on step) (not_running step) known.some z h
     go false true c i e = (refl, e)
     go false false c i e = absurd (true≢false (sym e))
 
-is-wait : (k : PairingKind) → wait_kind k ≡ true → k ≡ Waits
+is-wait : (k : Pairing) → wait_kind k ≡ true → k ≡ Waits
 unfolding wait_kind
 is-wait NoOffer e = absurd (true≢false (sym e))
 is-wait Waits e = refl
-is-wait Meets e = absurd (true≢false (sym e))
+is-wait (Meets m) e = absurd (true≢false (sym e))
 is-wait PartnerGone e = absurd (true≢false (sym e))
 
 pub stops_so : (p work schedule : List ℕ) (k : ℕ) (known : Knowledge) (m : Pairing)
     → stops_here p work schedule k known m ≡ false
-    → (m.kind ≡ Waits) × ((known.some ≡ true) ⊎ (alone p work (named_before schedule k) ≡ true))
+    → (m ≡ Waits) × ((known.some ≡ true) ⊎ (alone p work (named_before schedule k) ≡ true))
 unfolding stops_here
 stops_so p work schedule k known m h =
-    go (wait_kind m.kind) known.some (alone p work (named_before schedule k)) refl h
+    go (wait_kind m) known.some (alone p work (named_before schedule k)) refl h
   where
-    go : (a b c : Bool) → wait_kind m.kind ≡ a → cond a (cond b false (not c)) true ≡ false
-        → (m.kind ≡ Waits) × ((b ≡ true) ⊎ (c ≡ true))
-    go true true c i e = (is-wait m.kind i, inl refl)
-    go true false true i e = (is-wait m.kind i, inr refl)
+    go : (a b c : Bool) → wait_kind m ≡ a → cond a (cond b false (not c)) true ≡ false
+        → (m ≡ Waits) × ((b ≡ true) ⊎ (c ≡ true))
+    go true true c i e = (is-wait m i, inl refl)
+    go true false true i e = (is-wait m i, inr refl)
     go true false false i e = absurd (true≢false e)
     go false b c i e = absurd (true≢false e)
 
@@ -122,7 +126,7 @@ burst_by p t schedule k known left d =
 
 module _ (p : List ℕ) (t : List (List ℕ)) (schedule work : List ℕ) (k : ℕ) (known : Knowledge) where
   -- the schedule is used up
-  pub burst-ends : length schedule ≤ k → {m : Pairing} → m ≡ unpaired NoOffer
+  pub burst-ends : length schedule ≤ k → {m : Pairing} → m ≡ NoOffer
       → stops_at (record { at = k; step = WentOn; offer = m; known = known }) work ≡ burst_op p t schedule work k known
       (length schedule - k)
   unfolding burst_op

@@ -6,8 +6,8 @@ use Rattle.run_values.specs.declared.steps.StepResult.TheVariants.{WentOn, NotRu
 use Rattle.run_ops.specs.OpsCode.{step_op}
 use Rattle.run_parts.specs.PartsCode.{part_of, on_part}
 use Rattle.run_ability.specs.declared.pairing.Pairing.{Pairing}
-use Rattle.run_ability.specs.PairingCode.{wait_kind, unpaired}
-use Rattle.run_ability.specs.declared.pairing.PairingKind.TheVariants.{NoOffer}
+use Rattle.run_ability.specs.PairingCode.{wait_kind}
+use Rattle.run_ability.specs.declared.pairing.Pairing.TheVariants.{NoOffer}
 use Rattle.run_entry.specs.EntryCode.{offer_at}
 use Rattle.run_burst.specs.declared.burst.Burst.{Burst}
 use Rattle.run_burst.specs.declared.knowledge.Knowledge.{Knowledge}
@@ -38,11 +38,11 @@ named_before schedule k = cond (eqb k 0) 0 (get_or schedule (k - 1) 0)
 -- the named process does not wait, or no other is known or seen to be able to move
 unfoldable pub stops_here : List ℕ → List ℕ → List ℕ → ℕ → Knowledge → Pairing → Bool
 stops_here p work schedule k known m =
-    cond (wait_kind m.kind) (cond known.some false (not (alone p work (named_before schedule k)))) true
+    cond (wait_kind m) (cond known.some false (not (alone p work (named_before schedule k)))) true
 
 unfoldable pub burst_op : List ℕ → List (List ℕ) → List ℕ → List ℕ → ℕ → Knowledge → ℕ → Stop
 burst_op p t schedule work k known zero =
-    stops_at (record { at = k; step = WentOn; offer = unpaired NoOffer; known = known }) work
+    stops_at (record { at = k; step = WentOn; offer = NoOffer; known = known }) work
 burst_op p t schedule work k known (suc left) =
     let n = get_or schedule k 0 in
     let d = named_op p work n known in

@@ -47,16 +47,10 @@ impl Knowledge {
         if self.some {
             let before = self.idle;
             let idle = mark(before, n);
-            return Knowledge {
-                some: true,
-                idle: idle,
-            };
+            return Knowledge { some: true, idle };
         }
         let idle = mark([false; 8], n);
-        Knowledge {
-            some: true,
-            idle: idle,
-        }
+        Knowledge { some: true, idle }
     }
 
     // Nothing, where a line has changed a holder.

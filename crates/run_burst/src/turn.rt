@@ -1,6 +1,6 @@
 // An entry that is no plain step, with what it means for the run.
 ghost use Rattle.std.specs.Prelude.{◌≡◌, ◌+◌, ◌*◌, ◌<◌, ◌≤◌, length};
-ghost use Rattle.table.specs.Table.{methods};
+ghost use Rattle.run_ability.specs.PairingCode.{Near};
 ghost use Rattle.run_single.specs.ResultCode.{after_entry};
 ghost use Rattle.run_burst.specs.KnowledgeCode.{known_after_entry};
 ghost use Rattle.run_burst.specs.TurnCode.{after_turn, named_entry_op, turn_op, turn_at};
@@ -8,25 +8,33 @@ ghost use Rattle.run_burst.specs.TurnCode.{after_turn, named_entry_op, turn_op, 
 use super::burst::{Burst, known_after_step};
 use super::knowledge::{Knowledge, nothing_known};
 use run_ability::ending::ending;
+use run_ability::ends::End;
 use run_ability::pairing::Pairing;
 use run_entry::entry::{entry, one_line};
-use run_single::result::{Count, EntryResult, Progress, idle};
+use run_single::result::{Count, EntryResult};
 use run_store::references::ProcessNo;
 use run_values::steps::StepResult;
+use table::program::Program;
 
-// End 0 is a run that goes on; then the lines written, the outcomes used, and what is known of the processes.
-#[derive(Drop)]
-pub struct Turn {
-    pub end: u32,
-    pub lines: u32,
-    pub used: u32,
-    pub known: Knowledge,
+// What an entry means for the run: it goes on, with the lines written, the outcomes used and what is known of the
+// processes; or it ends.
+#[derive(Clone, Copy)]
+pub enum Turn {
+    GoesOn {
+        lines: u32,
+        used: u32,
+        known: Knowledge,
+    },
+    Ends {
+        end: End,
+        lines: u32,
+        used: u32,
+    },
 }
 
 // The entry of the process that the byte names.
 fn named_entry(
-    p: &[u16],
-    start: usize,
+    p: &Program<'_>,
     outcomes: &[u8],
     trace: &mut [u16],
     work: &mut [u32],
@@ -36,16 +44,14 @@ fn named_entry(
     step: StepResult,
     m: Pairing,
 ) -> EntryResult
-    requires { (start ≡ 2 + 20 * methods p.now) × (8192 ≤ length work.old) × (g.lines < 16000000) × (m.sender.0
-        < 8) × (m.receiver.0 < 8) }
+    requires { (8192 ≤ length work.old) × (g.lines < 16000000) × Near m }
     ensures { after_entry result trace.new work.new ≡ named_entry_op p.now outcomes.now trace.old work.old room g n step m }
 {
     if 8 <= n {
-        return idle(g);
+        return EntryResult::Unable;
     }
     entry(
         p,
-        start,
         outcomes,
         trace,
         work,
@@ -60,18 +66,17 @@ fn named_entry(
 // An entry with one line may leave its process where others wait for it, like a step; after any other, nothing is
 // known.
 fn known_after_entry(
-    p: &[u16],
-    start: usize,
+    p: &Program<'_>,
     work: &[u32],
     n: u8,
     known: Knowledge,
     step: StepResult,
 ) -> Knowledge
-    requires { (start ≡ 2 + 20 * methods p.now) × (8192 ≤ length work.now) }
+    requires { 8192 ≤ length work.now }
     ensures { result ≡ known_after_entry p.now work.now n known step }
 {
     if one_line(step) {
-        return known_after_step(p, start, work, n, known, StepResult::WentOn);
+        return known_after_step(p, work, n, known, StepResult::WentOn);
     }
     nothing_known()
 }
@@ -79,8 +84,7 @@ fn known_after_entry(
 // "none able to move .. end 2" is worked out only where the named process cannot move and no other is known or seen to
 // be able to.
 fn take_turn(
-    p: &[u16],
-    start: usize,
+    p: &Program<'_>,
     outcomes: &[u8],
     trace: &mut [u16],
     work: &mut [u32],
@@ -92,38 +96,39 @@ fn take_turn(
     offer: Pairing,
     known: Knowledge,
 ) -> Turn
-    requires { (start ≡ 2 + 20 * methods p.now) × (8192 ≤ length work.old) × (g.lines < 16000000) ×
-        (offer.sender.0 < 8) × (offer.receiver.0 < 8) }
+    requires { (8192 ≤ length work.old) × (g.lines < 16000000) × Near offer }
     ensures { after_turn result trace.new work.new ≡ turn_op p.now outcomes.now trace.old work.old room t.now g n step offer known }
 {
-    let m = named_entry(p, start, outcomes, trace, work, room, g, n, step, offer);
-    let progress = m.progress;
-    match progress {
-        Progress::Full => Turn {
-            end: 3,
-            lines: m.lines,
-            used: m.used,
-            known: nothing_known(),
+    let m = named_entry(p, outcomes, trace, work, room, g, n, step, offer);
+    match m {
+        EntryResult::Full => Turn::Ends {
+            end: End::TraceFull,
+            lines: g.lines,
+            used: g.used,
         },
-        Progress::Taken => Turn {
-            end: 0,
-            lines: m.lines,
-            used: m.used,
-            known: known_after_entry(p, start, work, n, known, step),
+        EntryResult::Taken { lines, used } => Turn::GoesOn {
+            lines,
+            used,
+            known: known_after_entry(p, work, n, known, step),
         },
-        Progress::Unable => Turn {
-            end: ending(p, start, work, t),
-            lines: m.lines,
-            used: m.used,
-            known: known.with_idle(n),
+        EntryResult::Unable => match ending(p, work, t) {
+            Some(end) => Turn::Ends {
+                end,
+                lines: g.lines,
+                used: g.used,
+            },
+            None => Turn::GoesOn {
+                lines: g.lines,
+                used: g.used,
+                known: known.with_idle(n),
+            },
         },
     }
 }
 
 // The entry at which a burst has stopped.
 pub fn turn_at(
-    p: &[u16],
-    start: usize,
+    p: &Program<'_>,
     schedule: &[u8],
     outcomes: &[u8],
     trace: &mut [u16],
@@ -134,23 +139,28 @@ pub fn turn_at(
     used: u32,
     b: Burst,
 ) -> Turn
-    requires { (start ≡ 2 + 20 * methods p.now) × (8192 ≤ length work.old) × (b.at < length schedule.now) ×
+    requires { (8192 ≤ length work.old) × (b.at < length schedule.now) ×
         (length schedule.now ≤ 65535) × (lines < 16000000)
-        × (b.offer.sender.0 < 8) × (b.offer.receiver.0 < 8) }
+        × Near b.offer }
     ensures { after_turn result trace.new work.new ≡ turn_at p.now schedule.now outcomes.now trace.old work.old room t.now lines
         used b }
 {
-    let at = b.at;
     let g = Count {
-        entry: at as u16,
-        lines: lines,
-        used: used,
+        entry: b.at as u16,
+        lines,
+        used,
     };
-    let n = schedule[at];
-    let step = b.step;
-    let offer = b.offer;
-    let known = b.known;
     take_turn(
-        p, start, outcomes, trace, work, room, t, g, n, step, offer, known,
+        p,
+        outcomes,
+        trace,
+        work,
+        room,
+        t,
+        g,
+        schedule[b.at],
+        b.step,
+        b.offer,
+        b.known,
     )
 }

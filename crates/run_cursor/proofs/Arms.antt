@@ -1,9 +1,10 @@
 -- Each op, by what was read: what it does to the words with the cursor put back.
-use Prim.Native.Nat.{ℕ, ◌+◌, ◌*◌, ◌%◌, ◌-◌, ◌≤◌, ◌<◌}
+use Prim.Native.Nat.{ℕ, ◌+◌, ◌*◌, ◌-◌, ◌≤◌, ◌<◌}
 use mathlib.Core.Path.{◌≡◌, refl, sym, ◌∙◌, ap, ap₂}
-use mathlib.Core.Bool.{Bool, true, false, cond, ◌||◌}
+use mathlib.Core.Bool.{false, cond, ◌||◌}
 use mathlib.Core.List.{List}
 use native.Mathlib.Omega.{arith}
+use Rattle.std.specs.Prelude.{Some}
 use lib.ListN.{get_or}
 use lib.Dec.{eqb}
 use borrow.Author.Tests.{eq-eqb, ne_eqb}
@@ -18,8 +19,6 @@ use Rattle.run_values.specs.declared.steps.StepResult.TheVariants.{WentOn}
 use Rattle.run_values.proofs.Returns.{full-goes}
 use Rattle.run_numbers.proofs.Returns.{two-go}
 use Rattle.run_cursor.specs.declared.cursor.Cursor.{Cursor}
-use Rattle.run_cursor.specs.declared.cursor.Top.{Top}
-use Rattle.run_cursor.specs.declared.cursor.Two.{Two}
 use Rattle.run_cursor.specs.CursorCode.{head_with, laid, HeadFits, TopRead, TwoRead}
 use Rattle.run_cursor.proofs.Laid.{read-far}
 use Rattle.run_cursor.proofs.Shapes.{drops-on}
@@ -49,59 +48,50 @@ module _ {h : Head} {w : List ℕ} {c : Cursor} (s : HeadFits h w c) where
       there = ap (value_at w) {x = at} {y = slot_at (head_with h c) a} e ∙ sym (far-slot a)
 
   -- an op on the top value, that is not emptied
-  module _ (t : Top) (there : t.there ≡ true) (read : TopRead w h c t) where
-    pub top-some : 1 ≤ c.pending
-    top-some = (read there).0
-
+  module _ (v : Val) (read : TopRead w h c (Some v)) where
     pub top-goes : (k : Val → AfterStep)
         → unless_empty (value_at (laid w h c) (top_at (head_with h c) 1)) (laid w h c) (k (value_at (laid w h c) (top_at
         (head_with h c) 1)))
-        ≡ k (record { tag = t.tag; number = t.number })
+        ≡ k v
     top-goes k =
-        ap (λ (v : Val). unless_empty v (laid w h c) (k v)) (far-top 1 (read there).0 ∙ (read there).2)
-        ∙ sym (full-goes {u = record { tag = t.tag; number = t.number }} _ (laid w h c) _ refl (read there).1 refl)
+        ap (λ (u : Val). unless_empty u (laid w h c) (k u)) (far-top 1 read.0 ∙ read.2)
+        ∙ sym (full-goes {u = v} _ (laid w h c) _ refl read.1 refl)
 
     -- JFALSE on false, and on true
-    pub false-jumps : (p : List ℕ) (a : ℕ) {offset : ℕ} → offset ≡ offset_of p h.method → t.number ≡ 0
+    pub false-jumps : (p : List ℕ) (a : ℕ) {offset : ℕ} → offset ≡ offset_of p h.method → v.number ≡ 0
         → jfalse_op p (laid w h c) (head_with h c) a ≡ after_step WentOn (drop_to (laid w h c) (head_with h c) (offset + a))
     unfolding jfalse_op target_of head_with
     false-jumps p a o z =
-        top-goes (λ v. cond (eqb v.number 0) (after_step WentOn (drop_to (laid w h c) (head_with h c) (target_of p
+        top-goes (λ u. cond (eqb u.number 0) (after_step WentOn (drop_to (laid w h c) (head_with h c) (target_of p
         (head_with h c) a))) (after_step WentOn (drop_top (laid w h c) (head_with h c))))
-        ∙ rw (eq-eqb t.number 0 z) (ap (λ (i : ℕ). after_step WentOn (drop_to (laid w h c) (head_with h c) (i + a)))
+        ∙ rw (eq-eqb v.number 0 z) (ap (λ (i : ℕ). after_step WentOn (drop_to (laid w h c) (head_with h c) (i + a)))
         (sym o))
 
-    pub true-goes-on : (p : List ℕ) (a : ℕ) → c.place < 65536 → (t.number ≡ 0 → ⊥)
+    pub true-goes-on : (p : List ℕ) (a : ℕ) → c.place < 65536 → (v.number ≡ 0 → ⊥)
         → jfalse_op p (laid w h c) (head_with h c) a ≡ after_step WentOn (drop_to (laid w h c) (head_with h c) (c.place +
         1))
     unfolding jfalse_op
     true-goes-on p a l z =
-        top-goes (λ v. cond (eqb v.number 0) (after_step WentOn (drop_to (laid w h c) (head_with h c) (target_of p
+        top-goes (λ u. cond (eqb u.number 0) (after_step WentOn (drop_to (laid w h c) (head_with h c) (target_of p
         (head_with h c) a))) (after_step WentOn (drop_top (laid w h c) (head_with h c))))
-        ∙ rw (ne_eqb t.number 0 z) (ap (after_step WentOn) (drops-on s l (read there).0))
+        ∙ rw (ne_eqb v.number 0 z) (ap (after_step WentOn) (drops-on s l read.0))
 
   -- an op on the two topmost
-  module _ (t : Two) (there : t.there ≡ true) (read : TwoRead w h c t) where
-    pub two-some : 2 ≤ c.pending
-    two-some = (read there).0
-
+  module _ (x y : ℕ) (read : TwoRead w h c (Some (x, y))) where
     two-there : value_at (laid w h c) (top_at (head_with h c) 2) ≡ value_at w (top_at (head_with h c) 2)
-    two-there = far-top 2 (read there).0
+    two-there = far-top 2 read.0
 
     one-there : value_at (laid w h c) (top_at (head_with h c) 1) ≡ value_at w (top_at (head_with h c) 1)
-    one-there = far-top 1 (omega (arith, (read there).0))
+    one-there = far-top 1 (omega (arith, read.0))
 
     none-empty : false ≡ empty_two (laid w h c) (head_with h c)
     unfolding empty_two
     none-empty =
         sym (ap₂ ◌||◌
-        (ap (λ (v : Val). eqb v.tag 0) two-there ∙ ne_eqb (value_at w (top_at (head_with h c) 2)).tag 0 (read
-        there).1)
-        (ap (λ (v : Val). eqb v.tag 0) one-there ∙ ne_eqb (value_at w (top_at (head_with h c) 1)).tag 0 (read
-        there).2))
+        (ap (λ (v : Val). eqb v.tag 0) two-there ∙ ne_eqb (value_at w (top_at (head_with h c) 2)).tag 0 read.1)
+        (ap (λ (v : Val). eqb v.tag 0) one-there ∙ ne_eqb (value_at w (top_at (head_with h c) 1)).tag 0 read.2))
 
-    pub two-goes : (k : ℕ → ℕ → AfterStep) → two_op (laid w h c) (head_with h c) k ≡ k t.deeper t.upper
+    pub two-goes : (k : ℕ → ℕ → AfterStep) → two_op (laid w h c) (head_with h c) k ≡ k x y
     two-goes k =
         sym (two-go {b = false} (laid w h c) (head_with h c) k none-empty refl
-        (sym (ap (λ (v : Val). v.number) two-there ∙ (read there).3)) (sym (ap (λ (v : Val). v.number) one-there ∙ (read
-        there).4)) refl)
+        (sym (ap (λ (v : Val). v.number) two-there ∙ read.3)) (sym (ap (λ (v : Val). v.number) one-there ∙ read.4)) refl)

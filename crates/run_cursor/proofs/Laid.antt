@@ -2,7 +2,6 @@
 -- written in any order.
 use Prim.Native.Nat.{ℕ, ◌+◌, ◌*◌, ◌%◌, ◌-◌, ◌≤◌, ◌<◌}
 use mathlib.Core.Path.{◌≡◌, refl, sym, ◌∙◌, ap}
-use mathlib.Core.Bool.{true, false, true≢false}
 use mathlib.Core.List.{List}
 use native.Mathlib.Nat.{mod-eq_of_lt}
 use native.Mathlib.Omega.{arith}
@@ -11,9 +10,8 @@ use lib.Seq.{get_or-set_same, get_or-set_other, set-get_or, set-set, set_comm}
 use Rattle.run_store.specs.declared.values.Val.{Val}
 use Rattle.run_store.specs.declared.head.Head.{Head}
 use Rattle.run_store.specs.StoreCode.{value_at, put_value, head_at, head_of, put_top, moved_to, stepped, pushed, popped}
-use Rattle.run_values.specs.ValuesCode.{AfterStep, after_step}
 use Rattle.run_cursor.specs.declared.cursor.Cursor.{Cursor}
-use Rattle.run_cursor.specs.CursorCode.{head_with, laid, cursor, halted_at, HeadFits, CursorStep}
+use Rattle.run_cursor.specs.CursorCode.{head_with, laid, cursor, HeadFits}
 
 -- one word far from the head's
 module _ (h : Head) (c : Cursor) (most : h.frames ≤ 8) where
@@ -186,17 +184,6 @@ module _ {h : Head} {w : List ℕ} {c : Cursor} (s : HeadFits h w c) where
       pending-there =
           get_or-set_same (set w (4 + 4 * h.frames + 1) c.place) (4 + 4 * h.frames + 2) c.pending 0
           (omega (arith, s.long, s.most, length-set w (4 + 4 * h.frames + 1) c.place))
-
-  -- nothing was done
-  pub halts : {d : AfterStep} {w' : List ℕ} {r : Cursor} {I : ℕ → Type 0} → r ≡ halted_at c → w' ≡ w
-      → CursorStep d I h w c w' r
-  unfolding laid head_with
-  halts {r = r} e q = record {
-    going = λ z. absurd (true≢false (ap (λ (x : Cursor). x.halted) (sym e) ∙ z));
-    halting = λ z. ap (λ (l : List ℕ). laid l h r) q ∙ ap (laid w h) e;
-    onward = λ z. absurd (true≢false (ap (λ (x : Cursor). x.halted) (sym e) ∙ z));
-    steady = rw (q, e) (steady-at (halted_at c) s.few);
-  }
 
 -- the words as they were read, with their own cursor put back
 pub laid-first : (w : List ℕ) {h : Head} → h ≡ head_of w → laid w h (cursor h.place h.pending) ≡ w

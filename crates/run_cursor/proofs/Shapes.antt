@@ -1,7 +1,7 @@
 -- What the ops do to words and head, in seven shapes: each is done to the words with the cursor put back.
 use Prim.Native.Nat.{ℕ, ◌+◌, ◌*◌, ◌-◌, ◌≤◌, ◌<◌}
 use mathlib.Core.Path.{◌≡◌, refl, sym, ◌∙◌, ap, ap₂}
-use mathlib.Core.Bool.{true, false, true≢false}
+use Rattle.std.specs.Prelude.{Option, Some, None}
 use mathlib.Core.List.{List}
 use native.Mathlib.Omega.{arith}
 use Rattle.run_store.specs.declared.values.Val.{Val}
@@ -12,34 +12,37 @@ use Rattle.run_values.specs.ValuesCode.{AfterStep, after_step, empty_val, push_o
 use Rattle.run_moves.specs.MovesCode.{target_of, jump_op}
 use Rattle.run_values.specs.declared.steps.StepResult.TheVariants.{WentOn}
 use Rattle.run_cursor.specs.declared.cursor.Cursor.{Cursor}
-use Rattle.run_cursor.specs.CursorCode.{head_with, laid, cursor, HeadFits, CursorStep, Only}
+use Rattle.run_cursor.specs.CursorCode.{head_with, laid, cursor, HeadFits, CursorStep, CursorWent, Only}
 use Rattle.run_cursor.proofs.Laid.{put-far, laid-again, head-stepped, head-pushed, head-popped, head-moved, steady-at, steady-put}
 
 -- what one thing does, another does
-pub goes_in : {d d' : AfterStep} {I J : ℕ → Type 0} {h : Head} {w w' : List ℕ} {c r : Cursor} → d' ≡ d → ((x : ℕ) → I x
-    → J x) → CursorStep d I h w c w' r
-    → CursorStep d' J h w c w' r
-goes_in {r = r} e f g = record {
-  going = λ z. e ∙ g.going z;
-  halting = g.halting;
-  onward = λ z. f r.place
-      (g.onward z);
-  steady = g.steady;
-}
+pub went_in : {d d' : AfterStep} {I J : ℕ → Type 0} {h : Head} {w' : List ℕ} {r : Cursor} → d' ≡ d → ((x : ℕ) → I x → J x)
+    → CursorWent d I h w' r → CursorWent d' J h w' r
+went_in {r = r} e f g = record { done = e ∙ g.done; onward = f r.place g.onward; steady = g.steady }
 
-pub goes-as : {d d' : AfterStep} {I : ℕ → Type 0} {h : Head} {w w' : List ℕ} {c r : Cursor} → d' ≡ d
-    → CursorStep d I h w c w' r → CursorStep d' I h w c w' r
-goes-as e g = goes_in e (λ x y. y) g
+pub went-as : {d d' : AfterStep} {I : ℕ → Type 0} {h : Head} {w' : List ℕ} {r : Cursor} → d' ≡ d → CursorWent d I h w' r
+    → CursorWent d' I h w' r
+went-as e g = went_in e (λ x y. y) g
+
+module _ {d d' : AfterStep} (I : ℕ → Type 0) (h : Head) (w w' : List ℕ) (r : Option Cursor) where
+  pub goes_in : (K : ℕ → Type 0) → d' ≡ d → ((x : ℕ) → I x → K x) → CursorStep d I h w w' r → CursorStep d' K h w w' r
+  goes_in K e f g = go r g
+    where
+      go : (r : Option Cursor) → CursorStep d I h w w' r → CursorStep d' K h w w' r
+      go None g = g
+      go (Some r) g = went_in e f g
+
+  pub goes-as : d' ≡ d → CursorStep d I h w w' r → CursorStep d' I h w w' r
+  goes-as e g = goes_in I e (λ x y. y) g
 
 module _ {h : Head} {w : List ℕ} {c : Cursor} (s : HeadFits h w c) where
   -- words came to these, and the cursor to place i with n values pending
   done : {d : AfterStep} {us w' : List ℕ} (i n : ℕ) → HeadFits h us c → n ≤ 8
       → d ≡ after_step WentOn (laid us h (cursor i n)) → w' ≡ us
-      → CursorStep d (Only i) h w c w' (cursor i n)
+      → CursorWent d (Only i) h w' (cursor i n)
   done {us = us} i n t few e q = record {
-    going = λ z. e ∙ ap (λ (l : List ℕ). after_step WentOn (laid l h (cursor i n))) (sym q);
-    halting = λ z. absurd (true≢false (sym z));
-    onward = λ z. refl;
+    done = e ∙ ap (λ (l : List ℕ). after_step WentOn (laid l h (cursor i n))) (sym q);
+    onward = refl;
     steady = rw q (steady-at t (cursor i n) few);
   }
 
@@ -57,7 +60,7 @@ module _ {h : Head} {w : List ℕ} {c : Cursor} (s : HeadFits h w c) where
 
   pub pushes : c.place < 65536 → c.pending < 8 → (v : Val) {at : ℕ} {w' : List ℕ} → at ≡ 48 + 48 * h.frames + 2 *
       c.pending → w' ≡ put_value w at v
-      → CursorStep (after_step WentOn (push_on (laid w h c) (head_with h c) v)) (Only (c.place + 1)) h w c w' (cursor (c.place + 1) (c.pending + 1))
+      → CursorWent (after_step WentOn (push_on (laid w h c) (head_with h c) v)) (Only (c.place + 1)) h w' (cursor (c.place + 1) (c.pending + 1))
   unfolding push_on
   pushes l m v {at} e q =
       let far : 64 ≤ at = omega (arith, e, s.least) in
@@ -71,7 +74,7 @@ module _ {h : Head} {w : List ℕ} {c : Cursor} (s : HeadFits h w c) where
 
   pub replaces : c.place < 65536 → 1 ≤ c.pending → (v : Val) {at : ℕ} {w' : List ℕ} → at ≡ 48 + 48 * h.frames + 2 *
       c.pending → w' ≡ put_value w (at - 2) v
-      → CursorStep (after_step WentOn (on_top (laid w h c) (head_with h c) v)) (Only (c.place + 1)) h w c w' (cursor (c.place + 1) c.pending)
+      → CursorWent (after_step WentOn (on_top (laid w h c) (head_with h c) v)) (Only (c.place + 1)) h w' (cursor (c.place + 1) c.pending)
   unfolding on_top
   replaces l m v {at} e q =
       let far : 64 ≤ at - 2 = omega (arith, e, m, s.least) in
@@ -84,7 +87,7 @@ module _ {h : Head} {w : List ℕ} {c : Cursor} (s : HeadFits h w c) where
 
   pub discards-to : 1 ≤ c.pending → (to : ℕ) {at : ℕ} {w' : List ℕ} → at ≡ 48 + 48 * h.frames + 2 * c.pending → w' ≡
       put_value w (at - 2) empty_val
-      → CursorStep (after_step WentOn (drop_to (laid w h c) (head_with h c) to)) (Only to) h w c w' (cursor to (c.pending - 1))
+      → CursorWent (after_step WentOn (drop_to (laid w h c) (head_with h c) to)) (Only to) h w' (cursor to (c.pending - 1))
   unfolding drop_to
   discards-to m to {at} e q =
       let far : 64 ≤ at - 2 = omega (arith, e, m, s.least) in
@@ -100,7 +103,7 @@ module _ {h : Head} {w : List ℕ} {c : Cursor} (s : HeadFits h w c) where
   pub covers : c.place < 65536 → 2 ≤ c.pending → (v : Val) {at : ℕ} {w' w'' : List ℕ} → at ≡ 48 + 48 * h.frames + 2 *
       c.pending
       → w' ≡ put_value w (at - 2) empty_val → w'' ≡ put_value w' (at - 4) v
-      → CursorStep (after_step WentOn (over_two (laid w h c) (head_with h c) v)) (Only (c.place + 1)) h w c w'' (cursor
+      → CursorWent (after_step WentOn (over_two (laid w h c) (head_with h c) v)) (Only (c.place + 1)) h w'' (cursor
       (c.place + 1) (c.pending - 1))
   unfolding over_two
   covers l m v {at} e q q' =
@@ -122,7 +125,7 @@ module _ {h : Head} {w : List ℕ} {c : Cursor} (s : HeadFits h w c) where
 
   pub stores : c.place < 65536 → (a : ℕ) (v : Val) {at : ℕ} {w' : List ℕ} → at ≡ 16 + 48 * h.frames + 2 * a → w' ≡
       put_value w at v
-      → CursorStep (after_step WentOn (in_slot (laid w h c) (head_with h c) a v)) (Only (c.place + 1)) h w c w' (cursor
+      → CursorWent (after_step WentOn (in_slot (laid w h c) (head_with h c) a v)) (Only (c.place + 1)) h w' (cursor
       (c.place + 1) c.pending)
   unfolding in_slot
   stores l a v {at} e q =
@@ -137,7 +140,7 @@ module _ {h : Head} {w : List ℕ} {c : Cursor} (s : HeadFits h w c) where
       q
 
   pub jumps_to : (p : List ℕ) (a : ℕ) {offset : ℕ} {w' : List ℕ} → offset ≡ offset_of p h.method → w' ≡ w
-      → CursorStep (jump_op p (laid w h c) (head_with h c) a) (Only (offset + a)) h w c w' (cursor (offset + a) c.pending)
+      → CursorWent (jump_op p (laid w h c) (head_with h c) a) (Only (offset + a)) h w' (cursor (offset + a) c.pending)
   unfolding jump_op target_of head_with
   jumps_to p a {offset} o q =
       done (offset + a) c.pending s s.few

@@ -2,7 +2,7 @@
 ghost use Rattle.std.specs.Prelude.{◌≡◌, ◌+◌, ◌<◌};
 ghost use Rattle.table.specs.Table.{offset_of};
 ghost use Rattle.run_moves.specs.MovesCode.{jump_op, jfalse_op};
-ghost use Rattle.run_cursor.specs.CursorCode.{head_with, laid, HeadFits, CursorStep, Only, OneOf};
+ghost use Rattle.run_cursor.specs.CursorCode.{head_with, laid, HeadFits, CursorStep, CursorWent, Only, OneOf};
 
 use super::cursor::{Cursor, read_top};
 use super::moves::discard_to;
@@ -10,28 +10,31 @@ use run_store::head::Head;
 
 pub fn jump(p: &[u16], w: &mut [u32], h: Head, c: Cursor, offset: u32, a: u16) -> Cursor
     requires { HeadFits h w.old c × (offset ≡ offset_of p.now h.method) × (offset < 65536) }
-    ensures { CursorStep (jump_op p.now (laid w.old h c) (head_with h c) a) (Only (offset +
-        a)) h w.old c w.new result }
+    ensures { CursorWent (jump_op p.now (laid w.old h c) (head_with h c) a) (Only (offset +
+        a)) h w.new result }
 {
     Cursor {
         place: offset + a as u32,
         pending: c.pending,
-        halted: false,
     }
 }
 
-pub fn jump_on_false(p: &[u16], w: &mut [u32], h: Head, c: Cursor, offset: u32, a: u16) -> Cursor
+pub fn jump_on_false(
+    p: &[u16],
+    w: &mut [u32],
+    h: Head,
+    c: Cursor,
+    offset: u32,
+    a: u16,
+) -> Option<Cursor>
     requires { HeadFits h w.old c × (c.place < 65536) × (offset ≡ offset_of p.now h.method)
         × (offset < 65536) }
     ensures { CursorStep (jfalse_op p.now (laid w.old h c) (head_with h c) a) (OneOf
-        (offset + a) (c.place + 1)) h w.old c w.new result }
+        (offset + a) (c.place + 1)) h w.old w.new result }
 {
-    let t = read_top(w, h, c);
-    if !t.there {
-        return c.halt();
+    let v = read_top(w, h, c)?;
+    if v.number == 0 {
+        return Some(discard_to(w, h, c, offset + a as u32));
     }
-    if t.number == 0 {
-        return discard_to(w, h, c, offset + a as u32);
-    }
-    discard_to(w, h, c, c.place + 1)
+    Some(discard_to(w, h, c, c.place + 1))
 }

@@ -7,75 +7,59 @@ use super::cursor::{Cursor, read_top, read_two};
 use super::moves::{replace, replace_two};
 use run_numbers::numbers::{bias, flag};
 use run_store::head::Head;
+use run_store::values::Val;
 
-// The int whose number, moved up by 2^32, is s, in place of two operands.
-pub fn result(w: &mut [u32], h: Head, c: Cursor, s: u64) -> Cursor
+// The int whose number, moved up by 2^32, is s, in place of two operands, where it is in range.
+pub fn result(w: &mut [u32], h: Head, c: Cursor, s: u64) -> Option<Cursor>
     requires { HeadFits h w.old c × (c.place < 65536) × (2 ≤ c.pending) }
-    ensures { CursorStep (result_op (laid w.old h c) (head_with h c) s) (Only (c.place + 1)) h w.old c w.new result }
+    ensures { CursorStep (result_op (laid w.old h c) (head_with h c) s) (Only (c.place + 1)) h w.old w.new result }
 {
     if s < 2147483648 {
-        return c.halt();
+        return None;
     }
     if 6442450944 <= s {
-        return c.halt();
+        return None;
     }
-    replace_two(w, h, c, 1, (s % 4294967296) as u32)
+    let number = (s % 4294967296) as u32;
+    Some(replace_two(w, h, c, Val { tag: 1, number }))
 }
 
-pub fn add(w: &mut [u32], h: Head, c: Cursor) -> Cursor
+pub fn add(w: &mut [u32], h: Head, c: Cursor) -> Option<Cursor>
     requires { HeadFits h w.old c × (c.place < 65536) }
-    ensures { CursorStep (add_op (laid w.old h c) (head_with h c)) (Only (c.place + 1)) h w.entry.now c w.new result }
+    ensures { CursorStep (add_op (laid w.old h c) (head_with h c)) (Only (c.place + 1)) h w.old w.new result }
 {
-    let t = read_two(w, h, c);
-    if !t.there {
-        return c.halt();
-    }
-    result(w, h, c, bias(t.deeper) + bias(t.upper))
+    let (x, y) = read_two(w, h, c)?;
+    result(w, h, c, bias(x) + bias(y))
 }
 
-pub fn sub(w: &mut [u32], h: Head, c: Cursor) -> Cursor
+pub fn sub(w: &mut [u32], h: Head, c: Cursor) -> Option<Cursor>
     requires { HeadFits h w.old c × (c.place < 65536) }
-    ensures { CursorStep (sub_op (laid w.old h c) (head_with h c)) (Only (c.place + 1)) h w.entry.now c w.new result }
+    ensures { CursorStep (sub_op (laid w.old h c) (head_with h c)) (Only (c.place + 1)) h w.old w.new result }
 {
-    let t = read_two(w, h, c);
-    if !t.there {
-        return c.halt();
-    }
-    result(w, h, c, bias(t.deeper) + 4294967296 - bias(t.upper))
+    let (x, y) = read_two(w, h, c)?;
+    result(w, h, c, bias(x) + 4294967296 - bias(y))
 }
 
-pub fn eq(w: &mut [u32], h: Head, c: Cursor) -> Cursor
+pub fn eq(w: &mut [u32], h: Head, c: Cursor) -> Option<Cursor>
     requires { HeadFits h w.old c × (c.place < 65536) }
-    ensures { CursorStep (eq_op (laid w.old h c) (head_with h c)) (Only (c.place + 1)) h w.entry.now c w.new result }
+    ensures { CursorStep (eq_op (laid w.old h c) (head_with h c)) (Only (c.place + 1)) h w.old w.new result }
 {
-    let t = read_two(w, h, c);
-    if !t.there {
-        return c.halt();
-    }
-    let v = flag(t.deeper == t.upper);
-    replace_two(w, h, c, v.tag, v.number)
+    let (x, y) = read_two(w, h, c)?;
+    Some(replace_two(w, h, c, flag(x == y)))
 }
 
-pub fn less(w: &mut [u32], h: Head, c: Cursor) -> Cursor
+pub fn less(w: &mut [u32], h: Head, c: Cursor) -> Option<Cursor>
     requires { HeadFits h w.old c × (c.place < 65536) }
-    ensures { CursorStep (less_op (laid w.old h c) (head_with h c)) (Only (c.place + 1)) h w.entry.now c w.new result }
+    ensures { CursorStep (less_op (laid w.old h c) (head_with h c)) (Only (c.place + 1)) h w.old w.new result }
 {
-    let t = read_two(w, h, c);
-    if !t.there {
-        return c.halt();
-    }
-    let v = flag(bias(t.deeper) < bias(t.upper));
-    replace_two(w, h, c, v.tag, v.number)
+    let (x, y) = read_two(w, h, c)?;
+    Some(replace_two(w, h, c, flag(bias(x) < bias(y))))
 }
 
-pub fn not(w: &mut [u32], h: Head, c: Cursor) -> Cursor
+pub fn not(w: &mut [u32], h: Head, c: Cursor) -> Option<Cursor>
     requires { HeadFits h w.old c × (c.place < 65536) }
-    ensures { CursorStep (not_op (laid w.old h c) (head_with h c)) (Only (c.place + 1)) h w.entry.now c w.new result }
+    ensures { CursorStep (not_op (laid w.old h c) (head_with h c)) (Only (c.place + 1)) h w.old w.new result }
 {
-    let t = read_top(w, h, c);
-    if !t.there {
-        return c.halt();
-    }
-    let v = flag(t.number == 0);
-    replace(w, h, c, v.tag, v.number)
+    let v = read_top(w, h, c)?;
+    Some(replace(w, h, c, flag(v.number == 0)))
 }

@@ -12,7 +12,8 @@ use Rattle.run_parts.proofs.Apart.{part-kept, part-other, part-front}
 use Rattle.run_gates.specs.GatesCode.{AfterEvent}
 use Rattle.run_ability.specs.declared.pairing.Pairing.{Pairing}
 use Rattle.run_single.specs.declared.result.Count.{Count}
-use Rattle.run_single.specs.ResultCode.{AfterEntry, after_entry, full_at}
+use Rattle.run_single.specs.ResultCode.{AfterEntry, after_entry}
+use Rattle.run_single.specs.declared.result.EntryResult.TheVariants.{Full}
 use Rattle.run_single.specs.SingleCode.{in_part, concluded_at, counted_words, recorded, single_op}
 use Rattle.run_values.specs.declared.steps.StepResult.{StepResult}
 use Rattle.run_events.specs.declared.conclude.Single.{Single}
@@ -54,8 +55,8 @@ module _ (p outcomes trace work : List ℕ) (room : ℕ) (g : Count) (n : ℕ) (
       done : AfterEvent
       done = concluded_at p work n does outcomes g.used
 
-      go : (b : Bool) → length (cond b (after_entry (full_at g) trace work) (recorded trace g n done)).work ≡ length work
-          → part_of (cond b (after_entry (full_at g) trace work) (recorded trace g n done)).work q ≡ part_of work q
+      go : (b : Bool) → length (cond b (after_entry Full trace work) (recorded trace g n done)).work ≡ length work
+          → part_of (cond b (after_entry Full trace work) (recorded trace g n done)).work q ≡ part_of work q
       go true l = refl
       go false l =
           part-counted done.words done.event.kind q

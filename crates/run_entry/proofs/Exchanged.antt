@@ -36,7 +36,8 @@ use Rattle.run_transfer.specs.TransferCode.{met_words}
 use Rattle.run_transfer.specs.ForkLinesCode.{Gifts, gift_added}
 use Rattle.run_transfer.proofs.Stored.{met-store}
 use Rattle.run_transfer.proofs.Lines.{gift-added}
-use Rattle.run_single.specs.ResultCode.{AfterEntry, after_entry, taken_to}
+use Rattle.run_single.specs.ResultCode.{AfterEntry, after_entry}
+use Rattle.run_single.specs.declared.result.EntryResult.TheVariants.{Taken}
 use Rattle.run_transfer.specs.MeetingLinesCode.{met_line, value_line, met_written}
 use Rattle.run_entry.specs.MeetingCode.{exchange_op}
 use Rattle.run_single.proofs.Here.{Here}
@@ -221,7 +222,7 @@ module _ {p outcomes : List ℕ} {s : State} {t0 : List ℕ} {room : ℕ} (here 
 
           go : (x : Bool) → ltb room (length s.lines + 2) ≡ x
               → cond x full_now
-              (after_entry (taken_to (length s.lines + 2) s.used)
+              (after_entry (Taken (length s.lines + 2) s.used)
               (met_written lines (length s.lines) k a b (val_of (ref (end i d))) (val_of v))
               (met_words store a b (val_of v)))
               ≡ cond (leb (length s.lines + length effect.lines) room) (takes effect) full_now
@@ -230,7 +231,7 @@ module _ {p outcomes : List ℕ} {s : State} {t0 : List ℕ} {room : ℕ} (here 
               (lt-leb (length s.lines + length effect.lines) room
               (omega (arith, ltb-true room (length s.lines + 2) h, lines_long))))
           go false h =
-              (λ t. after_entry (taken_to (two-more t) (none-used t))
+              (λ t. after_entry (Taken (two-more t) (none-used t))
               (lines-met (ltb-false room (length s.lines + 2) h) t) (store-met t))
               ∙ sym (ap (λ (x : Bool). cond x (takes effect) full_now)
               (le-leb (length s.lines + length effect.lines) room

@@ -36,7 +36,8 @@ use Rattle.run_transfer.specs.ForkLinesCode.{Gifts, gifts, things_in, gifts_adde
 use Rattle.run_transfer.proofs.Stored.{forked-store}
 use Rattle.run_transfer.proofs.Lines.{gift_lines, things-counted, gifts-written}
 use Rattle.run_ability.specs.ReadsCode.{argument_in, empty_in}
-use Rattle.run_single.specs.ResultCode.{AfterEntry, after_entry, taken_to}
+use Rattle.run_single.specs.ResultCode.{AfterEntry, after_entry}
+use Rattle.run_single.specs.declared.result.EntryResult.TheVariants.{Taken}
 use Rattle.run_single.specs.SingleCode.{single_op}
 use Rattle.run_transfer.specs.ForkLinesCode.{fork_written}
 use Rattle.run_events.specs.declared.conclude.Single.TheVariants.{Fault}
@@ -161,11 +162,11 @@ module _ {p outcomes : List ℕ} {s : State} {t0 : List ℕ} {room : ℕ} (here 
             (lt-leb (length s.lines + length effect.lines) room
             (omega (arith, ltb-true room (length s.lines + 1 + length (things_of (given args))) h, lines_long))))
         go false h =
-            ap₂ (λ (g : Gifts) (w : List ℕ). after_entry (taken_to g.next s.used) g.words w)
+            ap₂ (λ (g : Gifts) (w : List ℕ). after_entry (Taken g.next s.used) g.words w)
             (lines-written (omega (arith, ltb-false room (length s.lines + 1 + length (things_of (given args))) h)))
             store_is
             ∙ ap
-            (λ (u : ℕ). after_entry (taken_to (length (s.lines ++ effect.lines)) u)
+            (λ (u : ℕ). after_entry (Taken (length (s.lines ++ effect.lines)) u)
             (trace_after (s.lines ++ effect.lines) t0) (encode effect.config ++ rest))
             {x = s.used} {y = s.used + 0} (omega arith)
             ∙ sym (ap (λ (b : Bool). cond b (takes effect) full_now)

@@ -35,14 +35,15 @@ use Rattle.run_ops.proofs.Meaning.{act-one, act-two, act-short, taken-by, scene}
 use Rattle.run_parts.specs.PartsCode.{part_of}
 use Rattle.run_holders.proofs.Holding.{Holding}
 use Rattle.run_parts.specs.declared.readiness.Readiness.{Readiness}
-use Rattle.run_parts.specs.ReadinessCode.{send_kind, offer_kind, readiness_op, offer_of}
+use Rattle.run_parts.specs.ReadinessCode.{readiness_op, offer_of}
 use Rattle.run_parts.proofs.Returns.{offers-send, offers-receive}
 use Rattle.run_parts.proofs.Standing.{Stands}
 use Rattle.run_ability.specs.PairingCode.{pairing_op}
 use Rattle.run_ability.specs.PartnerCode.{waits, ready}
 use Rattle.run_ability.specs.PartnerCode as code
 use Rattle.run_ability.proofs.Able.{process-sound, stand-at, found, partner-law, met-with, found-partner}
-use Rattle.run_single.specs.ResultCode.{AfterEntry, after_entry, idle_at}
+use Rattle.run_single.specs.ResultCode.{AfterEntry, after_entry}
+use Rattle.run_single.specs.declared.result.EntryResult.TheVariants.{Unable}
 use Rattle.run_single.specs.SingleCode.{single_op}
 use Rattle.run_values.specs.declared.steps.StepResult.{StepResult}
 use Rattle.run_values.specs.declared.steps.StepResult.TheVariants.{AtSend, AtRecv}
@@ -51,7 +52,7 @@ use Rattle.run_entry.specs.MeetingCode.{exchange_op, meet_by}
 use Rattle.run_single.proofs.Here.{Here}
 use Rattle.run_single.proofs.Singly.{sound, count, tried, part-now, fault-law}
 use Rattle.run_entry.proofs.Exchanged.{exchange-law}
-use Rattle.run_entry.proofs.Paired.{pair_by, pair_op, join_op, offer_op, stands_op, meet_op, meet-same}
+use Rattle.run_entry.proofs.Paired.{receive_by, pair_by, pair_op, join_op, offer_op, stands_op, meet_op, meet-same}
 
 module _ {p outcomes : List ℕ} {s : State} {t0 : List ℕ} {room : ℕ} (here : Here p outcomes s t0 room)
     (rest : List ℕ) (k n : ℕ) where
@@ -71,7 +72,7 @@ module _ {p outcomes : List ℕ} {s : State} {t0 : List ℕ} {room : ℕ} (here 
   tries = tried here rest k n
 
   abbrev stay : AfterEntry
-  stay = after_entry (idle_at (count here rest k n)) lines store
+  stay = after_entry Unable lines store
 
   -- what an entry of process n leaves, by its act
   abbrev pub went : Act → AfterEntry
@@ -128,7 +129,7 @@ module _ {p outcomes : List ℕ} {s : State} {t0 : List ℕ} {room : ℕ} (here 
       → Stands (offers r) (readiness_op p (part_of store q)) → joins n o q r ≡ some e
       → Typed p (meet_in (table_machine p outcomes) k s e).config
       → pair_op p lines store room (count here rest k n) n st q ≡ tries (meet_in (table_machine p outcomes) k s e)
-  unfolding joins pair_op pair_by send_kind
+  unfolding joins pair_op pair_by receive_by
   pair-law q (sends i d v hs) (sends i' d' v' hs') e st x y near two h h' j after = absurd (none-ne-some e j)
   pair-law q (sends i d v hs) (receives i' d' hs') e st x y near two h h' j after =
       let w = cond-some (eqb i i' && beq d (not d')) _ e j in
@@ -138,9 +139,7 @@ module _ {p outcomes : List ℕ} {s : State} {t0 : List ℕ} {room : ℕ} (here 
       ∙ ap (λ (m : Meeting). tries (meet_in (table_machine p outcomes) k s m)) w.1
   pair-law q (receives i d hs) (sends i' d' v hs') e st x y near two h h' j after =
       let w = cond-some (eqb i i' && beq d (not d')) _ e j in
-      ap₂ (λ (a b : Readiness). cond (send_kind a.kind)
-      (exchange_op lines store room (count here rest k n) n q a.end a.value)
-      (exchange_op lines store room (count here rest k n) q n b.end b.value)) h h'
+      ap₂ (λ (a b : Readiness). pair_by lines store room (count here rest k n) n a q b) h h'
       ∙ exchange-law here rest k n y.live x.live two i' i d' d v hs' hs y.offer x.offer
       (subst (λ (m : Meeting). Typed p (meet_in (table_machine p outcomes) k s m).config) (sym w.1) after)
       ∙ ap (λ (m : Meeting). tries (meet_in (table_machine p outcomes) k s m)) w.1
@@ -215,7 +214,7 @@ module _ {p outcomes : List ℕ} {s : State} {t0 : List ℕ} {room : ℕ} (here 
     module _ {f : Frame} {fs : List Frame} (live : Running p c n f fs) where
       stands-law : (a : Act) (st : Readiness) → act_of p outcomes s n ≡ a → Offering a → a ≢ stuck → Stands a st
           → stands_op p outcomes lines store room t (count here rest k n) n st ≡ went a
-      unfolding stands_op offer_kind moves_in judged
+      unfolding stands_op moves_in judged
       stands-law idle st does o going h = absurd o
       stands-law stuck st does o going h = absurd (going refl)
       stands-law (faults m) st does o going h =
@@ -227,15 +226,11 @@ module _ {p outcomes : List ℕ} {s : State} {t0 : List ℕ} {room : ℕ} (here 
       stands-law (makes x gs) st does o going h = absurd o
       stands-law (forks m args gs) st does o going h = absurd o
       stands-law (offers (sends i d v hs)) st does o going h =
-          ap (λ (b : Bool). cond b (single_op p outcomes lines store room (count here rest k n) n (Fault 20))
-          (offer_op p outcomes lines store room t (count here rest k n) n st))
-          (ap (λ (x : Readiness). not (offer_kind x.kind)) h)
-          ∙ offer-law live (sends i d v hs) st does h
+          ap (stands_op p outcomes lines store room t (count here rest k n) n) h
+          ∙ offer-law live (sends i d v hs) _ does refl
       stands-law (offers (receives i d hs)) st does o going h =
-          ap (λ (b : Bool). cond b (single_op p outcomes lines store room (count here rest k n) n (Fault 20))
-          (offer_op p outcomes lines store room t (count here rest k n) n st))
-          (ap (λ (x : Readiness). not (offer_kind x.kind)) h)
-          ∙ offer-law live (receives i d hs) st does h
+          ap (stands_op p outcomes lines store room t (count here rest k n) n) h
+          ∙ offer-law live (receives i d hs) _ does refl
 
       offering : (b : Bool) (a : Act) → Offering a → Offering (cond b (faults 20) a)
       offering true a h = refl

@@ -15,10 +15,11 @@ use Rattle.run_transfer.specs.ForkLinesCode.{Gifts, gifts, things_in}
 use Rattle.run_transfer.specs.TransferCode.{forked_words, met_words}
 use Rattle.run_ability.specs.ReadsCode.{argument_in, empty_in}
 use Rattle.run_ability.specs.declared.pairing.Pairing.{Pairing}
-use Rattle.run_ability.specs.PairingCode.{unpaired, pairing_op}
+use Rattle.run_ability.specs.PairingCode.{pairing_op}
 use Rattle.run_single.specs.declared.result.Count.{Count}
 use Rattle.run_single.specs.declared.result.EntryResult.{EntryResult}
-use Rattle.run_single.specs.ResultCode.{after_entry, taken_to, idle_at, full_at}
+use Rattle.run_single.specs.ResultCode.{after_entry}
+use Rattle.run_single.specs.declared.result.EntryResult.TheVariants.{Unable, Taken, Full}
 use Rattle.run_single.proofs.Returns.{entry-same}
 use Rattle.run_single.specs.SingleCode.{single_op}
 use Rattle.run_transfer.specs.ForkLinesCode.{fork_written}
@@ -27,20 +28,20 @@ use Rattle.run_values.specs.ValuesCode.{not_running, is_offer}
 use Rattle.run_values.specs.declared.steps.StepResult.{StepResult}
 use Rattle.run_events.specs.declared.conclude.Single.{Single}
 use Rattle.run_events.specs.declared.conclude.Single.TheVariants.{Fault}
-use Rattle.run_ability.specs.declared.pairing.PairingKind.{PairingKind}
-use Rattle.run_ability.specs.declared.pairing.PairingKind.TheVariants.{NoOffer, Waits, Meets, PartnerGone}
+use Rattle.run_ability.specs.declared.pairing.Meeting.{Meeting}
+use Rattle.run_ability.specs.declared.pairing.Pairing.TheVariants.{NoOffer, Waits, Meets, PartnerGone}
 use Rattle.run_entry.specs.declared.entry.Rest.{Rest}
 use Rattle.run_entry.specs.declared.entry.Rest.TheVariants.{Nothing, Fork, Offer, Line}
 use Rattle.run_entry.specs.contracts.entry.Rest.{the_type}
 use Rattle.run_entry.specs.ForkCode.{fork_done, start_op, try_op, fork_op}
-use Rattle.run_entry.specs.MeetingCode.{exchange_op, meet_as, meet_by}
+use Rattle.run_entry.specs.MeetingCode.{exchange_op, meet_by}
 use Rattle.run_entry.specs.EntryCode.{rest_of, offer_at, rest_op, entry_op, is_line, one_line}
 
 -- an entry at FORK
 
 module _ (p trace work : List ℕ) (room : ℕ) (g : Count) (n child method args : ℕ) {things : ℕ}
     (count : things ≡ things_in work n args args) where
-  pub fork-full : {m : EntryResult} → room < g.lines + 1 + things → m ≡ full_at g
+  pub fork-full : {m : EntryResult} → room < g.lines + 1 + things → m ≡ Full
       → after_entry m trace work ≡ start_op p trace work room g n child method args
   unfolding start_op
   fork-full h e =
@@ -49,7 +50,7 @@ module _ (p trace work : List ℕ) (room : ℕ) (g : Count) (n child method args
 
   pub fork-starts : {next : ℕ} {ts w : List ℕ} {m : EntryResult} → g.lines + 1 + things ≤ room
       → gifts next ts ≡ fork_written trace work g.lines g.entry n child method args
-      → w ≡ forked_words p work n child method args → m ≡ taken_to next g.used
+      → w ≡ forked_words p work n child method args → m ≡ Taken next g.used
       → after_entry m ts w ≡ start_op p trace work room g n child method args
   unfolding start_op fork_done
   fork-starts h written forked moved =
@@ -89,45 +90,44 @@ fork-read p outcomes trace work room g n e f q =
 -- an entry at SEND or RECV
 
 module _ (trace work : List ℕ) (room : ℕ) (g : Count) (sender receiver : ℕ) (e v : Val) where
-  pub exchange-full : {m : EntryResult} → room < g.lines + 2 → m ≡ full_at g
+  pub exchange-full : {m : EntryResult} → room < g.lines + 2 → m ≡ Full
       → after_entry m trace work ≡ exchange_op trace work room g sender receiver e v
   unfolding exchange_op
   exchange-full h q = took _ _ _ refl (lt-ltb room (g.lines + 2) h) (entry-same q refl refl)
 
   pub exchanged : {ts w : List ℕ} {m : EntryResult} → g.lines + 2 ≤ room
       → ts ≡ met_written trace g.lines g.entry sender receiver e v → w ≡ met_words work sender receiver v
-      → m ≡ taken_to (g.lines + 2) g.used → after_entry m ts w ≡ exchange_op trace work room g sender receiver e v
+      → m ≡ Taken (g.lines + 2) g.used → after_entry m ts w ≡ exchange_op trace work room g sender receiver e v
   unfolding exchange_op
   exchanged h written met moved =
       passed-by _ _ _ refl (le-ltb room (g.lines + 2) h) (entry-same moved written met)
 
 module _ (p outcomes trace work : List ℕ) (room : ℕ) (g : Count) (n : ℕ) (m : Pairing) {x : EntryResult}
     {ts ws : List ℕ} where
-  of-kind : (k : PairingKind) → m.kind ≡ k → after_entry x ts ws ≡ meet_as p outcomes trace work room g n k m
+  of-kind : (k : Pairing) → m ≡ k → after_entry x ts ws ≡ meet_by p outcomes trace work room g n k
+      → after_entry x ts ws ≡ meet_by p outcomes trace work room g n m
+  of-kind k e q = q ∙ ap (meet_by p outcomes trace work room g n) (sym e)
+
+  pub meet-faults : m ≡ NoOffer → after_entry x ts ws ≡ single_op p outcomes trace work room g n (Fault 20)
       → after_entry x ts ws ≡ meet_by p outcomes trace work room g n m
   unfolding meet_by
-  of-kind k e q = q ∙ ap (λ (y : PairingKind). meet_as p outcomes trace work room g n y m) (sym e)
-
-  pub meet-faults : m.kind ≡ NoOffer → after_entry x ts ws ≡ single_op p outcomes trace work room g n (Fault 20)
-      → after_entry x ts ws ≡ meet_by p outcomes trace work room g n m
-  unfolding meet_as
   meet-faults e q = of-kind NoOffer e q
 
-  pub meet-waits : m.kind ≡ Waits → after_entry x ts ws ≡ after_entry (idle_at g) trace work
+  pub meet-waits : m ≡ Waits → after_entry x ts ws ≡ after_entry Unable trace work
       → after_entry x ts ws ≡ meet_by p outcomes trace work room g n m
-  unfolding meet_as
+  unfolding meet_by
   meet-waits e q = of-kind Waits e q
 
-  pub meet-gone : m.kind ≡ PartnerGone → after_entry x ts ws ≡ single_op p outcomes trace work room g n (Fault 33)
+  pub meet-gone : m ≡ PartnerGone → after_entry x ts ws ≡ single_op p outcomes trace work room g n (Fault 33)
       → after_entry x ts ws ≡ meet_by p outcomes trace work room g n m
-  unfolding meet_as
+  unfolding meet_by
   meet-gone e q = of-kind PartnerGone e q
 
-  pub meet-meets : m.kind ≡ Meets
-      → after_entry x ts ws ≡ exchange_op trace work room g m.sender.0 m.receiver.0 m.end m.value
+  pub meet-meets : (k : Meeting) → m ≡ Meets k
+      → after_entry x ts ws ≡ exchange_op trace work room g k.sender.0 k.receiver.0 k.end k.value
       → after_entry x ts ws ≡ meet_by p outcomes trace work room g n m
-  unfolding meet_as
-  meet-meets e q = of-kind Meets e q
+  unfolding meet_by
+  meet-meets k e q = of-kind (Meets k) e q
 
 -- what the offer of the process comes to
 
@@ -140,7 +140,7 @@ offer-low n b h = ltb-true n 8 (second b (ltb n 8) h)
 
 module _ (p work : List ℕ) (t : List (List ℕ)) (n : ℕ) (step : StepResult) {m : Pairing} {over : Bool}
     (ran : over ≡ not_running step) where
-  pub offer-over : over ≡ true → m ≡ unpaired Waits → m ≡ offer_at p work t n step
+  pub offer-over : over ≡ true → m ≡ Waits → m ≡ offer_at p work t n step
   unfolding offer_at
   offer-over h e = took _ _ _ ran h e
 
@@ -149,7 +149,7 @@ module _ (p work : List ℕ) (t : List (List ℕ)) (n : ℕ) (step : StepResult)
     unfolding offer_at
     offer-paired h e = passed-by _ _ _ ran runs (took _ _ _ (ap (λ (x : Bool). x && ltb n 8) tested) h e)
 
-    pub offer-none : (b && ltb n 8) ≡ false → m ≡ unpaired NoOffer → m ≡ offer_at p work t n step
+    pub offer-none : (b && ltb n 8) ≡ false → m ≡ NoOffer → m ≡ offer_at p work t n step
     unfolding offer_at
     offer-none h e = passed-by _ _ _ ran runs (passed-by _ _ _ (ap (λ (x : Bool). x && ltb n 8) tested) h e)
 
@@ -161,7 +161,7 @@ module _ (p outcomes trace work : List ℕ) (room : ℕ) (g : Count) (n : ℕ) (
   unfolding entry_op
   in-case k e q = q ∙ ap (λ (y : Rest). rest_op p outcomes trace work room g n y m) (sym e ∙ left)
 
-  pub entry-stays : r ≡ Nothing → after_entry x ts ws ≡ after_entry (idle_at g) trace work
+  pub entry-stays : r ≡ Nothing → after_entry x ts ws ≡ after_entry Unable trace work
       → after_entry x ts ws ≡ entry_op p outcomes trace work room g n step m
   unfolding rest_op
   entry-stays e q = in-case Nothing e q

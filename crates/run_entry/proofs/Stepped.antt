@@ -43,11 +43,12 @@ use Rattle.run_events.proofs.Concluding.{writes_line, single_at, Concluded, conc
 use Rattle.run_holders.proofs.Holding.{Holding}
 use Rattle.run_parts.proofs.Alone.{Alone, frame-alone}
 use Rattle.run_ability.specs.declared.pairing.Pairing.{Pairing}
-use Rattle.run_ability.specs.PairingCode.{unpaired, pairing_op}
-use Rattle.run_ability.specs.declared.pairing.PairingKind.TheVariants.{NoOffer}
+use Rattle.run_ability.specs.PairingCode.{pairing_op}
+use Rattle.run_ability.specs.declared.pairing.Pairing.TheVariants.{NoOffer}
 use Rattle.run_ability.proofs.Able.{process-sound, not_stuck}
 use Rattle.run_single.specs.declared.result.Count.{Count}
-use Rattle.run_single.specs.ResultCode.{AfterEntry, after_entry, idle_at}
+use Rattle.run_single.specs.ResultCode.{AfterEntry, after_entry}
+use Rattle.run_single.specs.declared.result.EntryResult.TheVariants.{Unable}
 use Rattle.run_single.specs.SingleCode.{single_op}
 use Rattle.run_values.specs.declared.steps.StepResult.{StepResult}
 use Rattle.run_values.specs.declared.steps.StepResult.TheVariants.{WentOn, NotRunning, AtNewQ, AtNewC, AtGate, AtMeas, AtLastRet, AtFork, AtSend, AtRecv, Empty, FrameBeyond8, OutOfRange}
@@ -385,12 +386,12 @@ module _ {p outcomes : List ℕ} {s : State} {t0 : List ℕ} {room : ℕ} (here 
         -- what the offer comes to was worked out
         paired : (step : StepResult)
             → meet_by p outcomes lines store room counted n (cond (ltb n 8) (pairing_op p store t n step)
-            (unpaired NoOffer))
+            NoOffer)
             ≡ meet_by p outcomes lines store room counted n (pairing_op p store t n step)
         paired step =
             ap
             (λ (b : Bool). meet_by p outcomes lines store room counted n
-            (cond b (pairing_op p store t n step) (unpaired NoOffer))) (lt-ltb n 8 near)
+            (cond b (pairing_op p store t n step) NoOffer)) (lt-ltb n 8 near)
 
         elsewhere : is_left (op_at p f.place) ≡ true → op_at p f.place ≢ 14 → Law
         elsewhere h x =

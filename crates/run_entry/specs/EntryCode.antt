@@ -2,10 +2,11 @@
 -- document 01's entries is proved in proofs/.
 use Rattle.std.specs.Prelude.{ℕ, Bool, true, false, cond, ◌&&◌, List, ltb}
 use Rattle.run_ability.specs.declared.pairing.Pairing.{Pairing}
-use Rattle.run_ability.specs.PairingCode.{unpaired, pairing_op}
-use Rattle.run_ability.specs.declared.pairing.PairingKind.TheVariants.{NoOffer, Waits}
+use Rattle.run_ability.specs.PairingCode.{pairing_op}
+use Rattle.run_ability.specs.declared.pairing.Pairing.TheVariants.{NoOffer, Waits}
 use Rattle.run_single.specs.declared.result.Count.{Count}
-use Rattle.run_single.specs.ResultCode.{AfterEntry, after_entry, idle_at}
+use Rattle.run_single.specs.ResultCode.{AfterEntry, after_entry}
+use Rattle.run_single.specs.declared.result.EntryResult.TheVariants.{Unable}
 use Rattle.run_single.specs.SingleCode.{single_op}
 use Rattle.run_entry.specs.ForkCode.{fork_op}
 use Rattle.run_entry.specs.MeetingCode.{meet_by}
@@ -35,11 +36,11 @@ rest_of OutOfRange = Line (Fault 26)
 -- what the offer of the process comes to; one that does not run waits
 unfoldable pub offer_at : List ℕ → List ℕ → List (List ℕ) → ℕ → StepResult → Pairing
 offer_at p work t n step =
-    cond (not_running step) (unpaired Waits)
-    (cond (is_offer step && ltb n 8) (pairing_op p work t n step) (unpaired NoOffer))
+    cond (not_running step) Waits
+    (cond (is_offer step && ltb n 8) (pairing_op p work t n step) NoOffer)
 
 unfoldable pub rest_op : List ℕ → List ℕ → List ℕ → List ℕ → ℕ → Count → ℕ → Rest → Pairing → AfterEntry
-rest_op p outcomes trace work room g n Nothing m = after_entry (idle_at g) trace work
+rest_op p outcomes trace work room g n Nothing m = after_entry Unable trace work
 rest_op p outcomes trace work room g n Fork m = fork_op p outcomes trace work room g n
 rest_op p outcomes trace work room g n Offer m = meet_by p outcomes trace work room g n m
 rest_op p outcomes trace work room g n (Line does) m = single_op p outcomes trace work room g n does

@@ -6,7 +6,8 @@ use Rattle.run_parts.specs.PartsCode.{part_of}
 use Rattle.run_transfer.specs.TransferCode.{forked_words}
 use Rattle.run_transfer.specs.ForkLinesCode.{Gifts, things_in}
 use Rattle.run_single.specs.declared.result.Count.{Count}
-use Rattle.run_single.specs.ResultCode.{AfterEntry, after_entry, taken_to, full_at}
+use Rattle.run_single.specs.ResultCode.{AfterEntry, after_entry}
+use Rattle.run_single.specs.declared.result.EntryResult.TheVariants.{Taken, Full}
 use Rattle.run_ability.specs.ReadsCode.{argument_in, empty_in}
 use Rattle.run_single.specs.SingleCode.{single_op}
 use Rattle.run_events.specs.declared.conclude.Single.TheVariants.{Fault}
@@ -14,11 +15,11 @@ use Rattle.run_transfer.specs.ForkLinesCode.{fork_written}
 
 unfoldable pub fork_done : List ℕ → List ℕ → Count → Gifts → ℕ → ℕ → ℕ → ℕ → AfterEntry
 fork_done p work g ls n child m args =
-    after_entry (taken_to ls.next g.used) ls.words (forked_words p work n child m args)
+    after_entry (Taken ls.next g.used) ls.words (forked_words p work n child m args)
 
 unfoldable pub start_op : List ℕ → List ℕ → List ℕ → ℕ → Count → ℕ → ℕ → ℕ → ℕ → AfterEntry
 start_op p trace work room g n child m args =
-    cond (ltb room (g.lines + 1 + things_in work n args args)) (after_entry (full_at g) trace work)
+    cond (ltb room (g.lines + 1 + things_in work n args args)) (after_entry Full trace work)
     (fork_done p work g (fork_written trace work g.lines g.entry n child m args) n child m args)
 
 unfoldable pub try_op : List ℕ → List ℕ → List ℕ → List ℕ → ℕ → Count → ℕ → ℕ → ℕ → AfterEntry

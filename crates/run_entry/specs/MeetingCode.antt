@@ -4,28 +4,25 @@ use Rattle.std.specs.Prelude.{ℕ, ◌+◌, cond, List, ltb}
 use Rattle.run_store.specs.declared.values.Val.{Val}
 use Rattle.run_transfer.specs.TransferCode.{met_words}
 use Rattle.run_single.specs.declared.result.Count.{Count}
-use Rattle.run_single.specs.ResultCode.{AfterEntry, after_entry, taken_to, idle_at, full_at}
+use Rattle.run_single.specs.ResultCode.{AfterEntry, after_entry}
+use Rattle.run_single.specs.declared.result.EntryResult.TheVariants.{Unable, Taken, Full}
 use Rattle.run_single.specs.SingleCode.{single_op}
 use Rattle.run_events.specs.declared.conclude.Single.TheVariants.{Fault}
 use Rattle.run_transfer.specs.MeetingLinesCode.{met_written}
 use Rattle.run_ability.specs.declared.pairing.Pairing.{Pairing}
-use Rattle.run_ability.specs.declared.pairing.PairingKind.{PairingKind}
-use Rattle.run_ability.specs.declared.pairing.PairingKind.TheVariants.{NoOffer, Waits, Meets, PartnerGone}
+use Rattle.run_ability.specs.declared.pairing.Pairing.TheVariants.{NoOffer, Waits, Meets, PartnerGone}
 
 unfoldable pub exchange_op : List ℕ → List ℕ → ℕ → Count → ℕ → ℕ → Val → Val → AfterEntry
 exchange_op trace work room g sender receiver e v =
-    cond (ltb room (g.lines + 2)) (after_entry (full_at g) trace work)
-    (after_entry (taken_to (g.lines + 2) g.used) (met_written trace g.lines g.entry sender receiver e v)
+    cond (ltb room (g.lines + 2)) (after_entry Full trace work)
+    (after_entry (Taken (g.lines + 2) g.used) (met_written trace g.lines g.entry sender receiver e v)
     (met_words work sender receiver v))
 
 -- by what the offer of process n comes to: "20 .. before all others, and before waiting"; Paper 6: 33 where its partner
 -- has gone
-unfoldable pub meet_as : List ℕ → List ℕ → List ℕ → List ℕ → ℕ → Count → ℕ → PairingKind → Pairing → AfterEntry
-meet_as p outcomes trace work room g n NoOffer m = single_op p outcomes trace work room g n (Fault 20)
-meet_as p outcomes trace work room g n Waits m = after_entry (idle_at g) trace work
-meet_as p outcomes trace work room g n Meets m =
-    exchange_op trace work room g m.sender.0 m.receiver.0 m.end m.value
-meet_as p outcomes trace work room g n PartnerGone m = single_op p outcomes trace work room g n (Fault 33)
-
 unfoldable pub meet_by : List ℕ → List ℕ → List ℕ → List ℕ → ℕ → Count → ℕ → Pairing → AfterEntry
-meet_by p outcomes trace work room g n m = meet_as p outcomes trace work room g n m.kind m
+meet_by p outcomes trace work room g n NoOffer = single_op p outcomes trace work room g n (Fault 20)
+meet_by p outcomes trace work room g n Waits = after_entry Unable trace work
+meet_by p outcomes trace work room g n (Meets m) =
+    exchange_op trace work room g m.sender.0 m.receiver.0 m.end m.value
+meet_by p outcomes trace work room g n PartnerGone = single_op p outcomes trace work room g n (Fault 33)

@@ -1,10 +1,9 @@
 -- What an entry's functions have done at their returns, from what their callees did and how their tests came out.
-use Prim.Native.Nat.{ℕ, ◌+◌, ◌*◌}
+use Prim.Native.Nat.{ℕ}
 use mathlib.Core.Path.{◌≡◌, sym, ◌∙◌, ap}
 use mathlib.Core.List.{List}
-use native.Mathlib.Omega.{arith}
 use borrow.Author.Tests.{eq-eqb, ne_eqb}
-use Rattle.table.specs.Table.{word, methods, arg_at}
+use Rattle.table.specs.Table.{arg_at}
 use Rattle.run_store.specs.declared.head.Head.{Head}
 use Rattle.run_store.specs.StoreCode.{head_of}
 use Rattle.run_gates.specs.declared.event.EventResult.{EventResult}
@@ -30,18 +29,11 @@ module _ (p w : List ℕ) (does : Single) (qubits channels : ℕ) (outcomes : Li
     unfolding perform_op
     event-newc k q = at-case NewC k (q ∙ ap (λ (g : Head). newc_op w g channels) e)
 
-    pub event-gate : (start a : ℕ) → start ≡ 2 + 20 * methods p → a ≡ word p (start + 2 * h.place + 1) → does ≡ Gate
-        → d ≡ gate_op w h a
+    pub event-gate : {a : ℕ} → a ≡ arg_at p h.place → does ≡ Gate → d ≡ gate_op w h a
         → d ≡ perform_op p w does qubits channels outcomes used
-    unfolding perform_op arg_at
-    event-gate start a s i k q =
-        at-case Gate k
-        (q
-        ∙ ap (gate_op w h) (i ∙ ap (word p) next)
-        ∙ ap (λ (g : Head). gate_op w g (word p (3 + 20 * methods p + 2 * g.place))) e)
-      where
-        next : start + 2 * h.place + 1 ≡ 3 + 20 * methods p + 2 * h.place
-        next = omega (arith, s)
+    unfolding perform_op
+    event-gate i k q =
+        at-case Gate k (q ∙ ap (gate_op w h) i ∙ ap (λ (g : Head). gate_op w g (arg_at p g.place)) e)
 
     pub event-meas : does ≡ Meas → d ≡ meas_op w h outcomes used → d ≡ perform_op p w does qubits channels outcomes used
     unfolding perform_op

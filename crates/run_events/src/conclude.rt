@@ -1,6 +1,5 @@
 // An entry that writes one line: its op carried out or its fault, and the process left as the line says.
-ghost use Rattle.std.specs.Prelude.{◌≡◌, ◌+◌, ◌*◌};
-ghost use Rattle.table.specs.Table.{methods};
+ghost use Rattle.std.specs.Prelude.{◌≡◌};
 ghost use Rattle.run_gates.specs.GatesCode.{after_event};
 ghost use Rattle.run_events.specs.ConcludeCode.{perform_op, status_words, conclude_op};
 
@@ -10,7 +9,7 @@ use run_gates::gates::op_gate;
 use run_gates::made::{op_newc, op_newq};
 use run_measurement::measured::op_meas;
 use run_store::head::{Head, read_head};
-use table::words::word_at;
+use table::program::Program;
 
 // What an entry with one line does: one of four ops, RET of the root frame, which finishes the process, or a fault, by
 // its number.
@@ -26,8 +25,7 @@ pub enum Single {
 
 // What the line says: of an op that writes one, of the root frame's return, or of the fault.
 pub fn perform(
-    p: &[u16],
-    start: usize,
+    p: &Program<'_>,
     w: &mut [u32],
     does: Single,
     qubits: u32,
@@ -35,16 +33,14 @@ pub fn perform(
     outcomes: &[u8],
     used: usize,
 ) -> EventResult
-    requires { start ≡ 2 + 20 * methods p.now }
     ensures { after_event result w.new
         ≡ perform_op p.now w.old does qubits channels outcomes.now used }
 {
     let h = read_head(w);
-    let a = word_at(p, start + 2 * (h.place as usize) + 1);
     match does {
         Single::NewQ => op_newq(w, h, qubits),
         Single::NewC => op_newc(w, h, channels),
-        Single::Gate => op_gate(w, h, a as u16),
+        Single::Gate => op_gate(w, h, p.argument(h.place)),
         Single::Meas => op_meas(w, h, outcomes, used),
         Single::LastRet => line(9, 65535, 65535, 65535),
         Single::Fault(n) => fault(n),
@@ -65,8 +61,7 @@ pub fn update_status(w: &mut [u32], t: EventResult)
 }
 
 pub fn conclude(
-    p: &[u16],
-    start: usize,
+    p: &Program<'_>,
     w: &mut [u32],
     does: Single,
     qubits: u32,
@@ -74,11 +69,10 @@ pub fn conclude(
     outcomes: &[u8],
     used: usize,
 ) -> EventResult
-    requires { start ≡ 2 + 20 * methods p.now }
     ensures { after_event result w.new
         ≡ conclude_op p.now w.old does qubits channels outcomes.now used }
 {
-    let t = perform(p, start, w, does, qubits, channels, outcomes, used);
+    let t = perform(p, w, does, qubits, channels, outcomes, used);
     update_status(w, t);
     t
 }

@@ -11,19 +11,17 @@ ghost use Rattle.run_frames.specs.FramesCode.{Does};
 use run_cursor::cursor::write;
 use run_store::blocks::clear;
 use run_store::head::Head;
-use run_store::values::{Val, low, put, put_value, value};
+use run_store::values::{Val, empty, low, put, put_value, value};
 
 // One of the n values from `top` down is emptied.
 fn lacks(w: &[u32], top: usize, n: u16) -> bool
     requires { (top < length w.now) × (2 * n ≤ top) }
     ensures { result ≡ empty_down w.now top n }
 {
-    let mut j: u16 = 0;
-    while j < n {
+    for j in 0..n {
         if w[top - 2 * (j as usize)] == 0 {
             return true;
         }
-        j += 1;
     }
     false
 }
@@ -33,10 +31,12 @@ fn move_value(w: &mut [u32], from: usize, to: usize)
     requires { (from + 1 < length w.old) × (to + 1 < length w.old) }
     ensures { w.new ≡ move_one w.old from to }
 {
-    let tag = w[from];
-    let number = w[from + 1];
-    write(w, to, tag, number);
-    write(w, from, 0, 0);
+    let v = Val {
+        tag: w[from],
+        number: w[from + 1],
+    };
+    write(w, to, v);
+    write(w, from, empty());
 }
 
 // n values from `top` down moved to the places from `to` up, in their order.
@@ -44,10 +44,8 @@ fn move_values(w: &mut [u32], top: usize, to: usize, n: u16)
     requires { (top + 1 < length w.old) × (2 * n ≤ top) × (to + 2 * n ≤ length w.old) × (length w.old ≡ 512) }
     ensures { w.new ≡ moved_down w.old top to n n }
 {
-    let mut j: u16 = 0;
-    while j < n {
+    for j in 0..n {
         move_value(w, top - 2 * (j as usize), to + 2 * ((n - 1 - j) as usize));
-        j += 1;
     }
 }
 
@@ -69,7 +67,7 @@ pub fn head_of(w: &[u32]) -> Head
     Head {
         status: w[0],
         fault: w[1],
-        frames: frames,
+        frames,
         method: w[at],
         place: w[at + 1],
         pending: w[at + 2],
@@ -126,10 +124,8 @@ fn clear_frame(w: &mut [u32], from: usize)
     requires { from + 48 ≤ length w.old }
     ensures { w.new ≡ cleared_from w.old from 48 }
 {
-    let mut i = 0;
-    while i < 48 {
+    for i in 0..48 {
         w[from + i] = 0;
-        i += 1;
     }
 }
 

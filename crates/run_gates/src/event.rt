@@ -17,12 +17,12 @@ fn answer(code: u32, used: u32, kind: u16, a: u16, b: u16, c: u16) -> EventResul
     ensures { result ≡ record { code = code; used = used; kind = kind; a = a; b = b; c = c } }
 {
     EventResult {
-        code: code,
-        used: used,
-        kind: kind,
-        a: a,
-        b: b,
-        c: c,
+        code,
+        used,
+        kind,
+        a,
+        b,
+        c,
     }
 }
 

@@ -7,7 +7,7 @@ use native.Mathlib.Numerals.{add-one}
 use native.Mathlib.Omega.{arith}
 use borrow.Author.Tests.{lt-ltb, le-ltb}
 use lib.ListN.{get_or, set}
-use Rattle.table.specs.Table.{word, offset_of}
+use Rattle.table.specs.Table.{offset_of}
 use Rattle.run_store.specs.declared.values.Val.{Val}
 use Rattle.run_store.specs.declared.head.Head.{Head}
 use Rattle.run_store.specs.StoreCode.{head_of, put_top, started_head, put_status, emptied_by}
@@ -20,9 +20,9 @@ dropped-more w j e q = q ∙ ap popped_once e ∙ sym (ap (popped_by w) (add-one
 
 -- a process that starts
 pub begins : (p w : List ℕ) (m : ℕ) {g h : Head} {place : ℕ} {u v z : List ℕ} → g ≡ head_of w
-    → place ≡ word p (2 + 2 * m) → h ≡ started_head g m place
+    → place ≡ offset_of p m → h ≡ started_head g m place
     → u ≡ put_status w h → v ≡ set u 8 h.method → z ≡ put_top v h → z ≡ began_words p w m
-unfolding began_words started_words offset_of
+unfolding began_words started_words
 begins p w m {g} {h} {place} e o s a b d =
     d
     ∙ ap (λ (x : List ℕ). put_top x h) (b ∙ ap (λ (x : List ℕ). set x 8 h.method) a)

@@ -10,7 +10,7 @@ use run_store::giving::{give_away, give_qubit};
 use run_store::head::{Head, put_status, put_top, read_head};
 use run_store::values::{Val, put};
 use run_values::moves::{discard_to, replace};
-use table::words::word_at;
+use table::program::Program;
 
 // "Every slot and every pending value of the giver, in all frames, that holds the thing is emptied."
 fn give_thing(w: &mut [u32], v: Val)
@@ -67,11 +67,10 @@ pub fn receive(w: &mut [u32], v: Val)
 }
 
 // The part of a process that begins in method m: it runs, with one frame.
-pub fn begin(p: &[u16], w: &mut [u32], m: u16)
+pub fn begin(p: &Program<'_>, w: &mut [u32], m: u16)
     ensures { w.new ≡ began_words p.now w.old m }
 {
-    let place = word_at(p, 2 + 2 * (m as usize));
-    let h = read_head(w).start(m as u32, place as u32);
+    let h = read_head(w).start(m as u32, p.offset(m as u32) as u32);
     put_status(w, h);
     put(w, 8, h.method);
     put_top(w, h);
@@ -87,10 +86,8 @@ fn pop_once(w: &mut [u32])
 fn pop_all(w: &mut [u32], n: u16)
     ensures { w.new ≡ popped_by w.old n }
 {
-    let mut j: u16 = 0;
-    while j < n {
+    for _ in 0..n {
         pop_once(w);
-        j += 1;
     }
 }
 

@@ -23,14 +23,12 @@ pub fn update_holders(
         × (result ≡ changed_from trace.now from (to - from)) }
 {
     let mut changed = false;
-    let mut i = from;
-    while i < to {
+    for i in from..to {
         let l = line_at(trace, i as usize);
         store_line(work, l);
         if note_line(t, l) {
             changed = true;
         }
-        i += 1;
     }
     changed
 }

@@ -1,2 +1,1 @@
 pub mod Measurement
-pub mod Returns

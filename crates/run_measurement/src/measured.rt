@@ -4,7 +4,7 @@ ghost use Rattle.std.proofs.Math.Option.{some};
 ghost use Rattle.run_gates.specs.GatesCode.{after_event};
 ghost use Rattle.run_measurement.specs.MeasurementCode.{next_in, measured_as, meas_op};
 
-use super::outcome::{Outcome, next_outcome};
+use super::outcome::next_outcome;
 use run_gates::event::{EventResult, fault, measured};
 use run_gates::faults::{EMPTY, NO_OUTCOME_LEFT};
 use run_gates::gates::qubit_no;
@@ -34,12 +34,9 @@ fn measure_next(w: &mut [u32], h: Head, outcomes: &[u8], used: usize) -> EventRe
     ensures { after_event result w.new
         ≡ measured_as w.old h (next_in outcomes.now used) }
 {
-    let o = next_outcome(outcomes, used);
-    match o {
-        Outcome::Zero => measure(w, h, 0),
-        Outcome::One => measure(w, h, 1),
-        Outcome::NoClick => measure(w, h, 2),
-        Outcome::NoneLeft => fault(NO_OUTCOME_LEFT),
+    match next_outcome(outcomes, used) {
+        Some(o) => measure(w, h, o.number()),
+        None => fault(NO_OUTCOME_LEFT),
     }
 }
 

@@ -12,14 +12,14 @@ use Rattle.run_values.specs.declared.steps.StepResult.TheVariants.{WentOn}
 unfoldable pub sign_extended : ℕ → ℕ
 sign_extended a = cond (ltb a 32768) a (a + 4294901760)
 
-unfoldable pub int_op : List ℕ → List ℕ → Head → ℕ → AfterStep
-int_op p w h a = after_step WentOn (push_on w h (int_val (sign_extended a)))
+unfoldable pub int_op : List ℕ → Head → ℕ → AfterStep
+int_op w h a = after_step WentOn (push_on w h (int_val (sign_extended a)))
 
-unfoldable pub bool_op : List ℕ → List ℕ → Head → ℕ → AfterStep
-bool_op p w h a = after_step WentOn (push_on w h (bool_val a))
+unfoldable pub bool_op : List ℕ → Head → ℕ → AfterStep
+bool_op w h a = after_step WentOn (push_on w h (bool_val a))
 
-unfoldable pub clear_op : List ℕ → List ℕ → Head → ℕ → AfterStep
-clear_op p w h a = after_step WentOn (in_slot w h a empty_val)
+unfoldable pub clear_op : List ℕ → Head → ℕ → AfterStep
+clear_op w h a = after_step WentOn (in_slot w h a empty_val)
 
 unfoldable pub get_op : List ℕ → Head → ℕ → AfterStep
 get_op w h a = unless_empty (value_at w (slot_at h a)) w (after_step WentOn (push_on w h (value_at w (slot_at h a))))

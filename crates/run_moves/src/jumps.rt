@@ -7,17 +7,16 @@ use run_store::head::{Head, put_top};
 use run_store::values::value;
 use run_values::moves::{discard, discard_to};
 use run_values::steps::StepResult;
-use table::words::word_at;
+use table::program::Program;
 
 // "instruction, from the method's start"
-pub fn target(p: &[u16], h: Head, a: u16) -> u32
+pub fn target(p: &Program<'_>, h: Head, a: u16) -> u32
     ensures { result ≡ target_of p.now h a }
 {
-    let start = word_at(p, 2 + 2 * (h.method as usize));
-    (start + a as usize) as u32
+    (p.offset(h.method) + a as usize) as u32
 }
 
-pub fn op_jump(p: &[u16], w: &mut [u32], h: Head, a: u16) -> StepResult
+pub fn op_jump(p: &Program<'_>, w: &mut [u32], h: Head, a: u16) -> StepResult
     ensures { after_step result w.new ≡ jump_op p.now w.old h a }
 {
     put_top(w, h.to(target(p, h, a)));
@@ -25,7 +24,7 @@ pub fn op_jump(p: &[u16], w: &mut [u32], h: Head, a: u16) -> StepResult
 }
 
 // "JFALSE takes a boolean, jumps on false".
-pub fn op_jfalse(p: &[u16], w: &mut [u32], h: Head, a: u16) -> StepResult
+pub fn op_jfalse(p: &Program<'_>, w: &mut [u32], h: Head, a: u16) -> StepResult
     ensures { after_step result w.new ≡ jfalse_op p.now w.old h a }
 {
     let v = value(w, h.top(1));

@@ -19,8 +19,8 @@ pub fn extend(a: u16) -> u32
 }
 
 // INT and BOOL: "push it".
-pub fn op_int(p: &[u16], w: &mut [u32], h: Head, a: u16) -> StepResult
-    ensures { after_step result w.new ≡ int_op p.now w.old h a }
+pub fn op_int(w: &mut [u32], h: Head, a: u16) -> StepResult
+    ensures { after_step result w.new ≡ int_op w.old h a }
 {
     push(
         w,
@@ -33,8 +33,8 @@ pub fn op_int(p: &[u16], w: &mut [u32], h: Head, a: u16) -> StepResult
     StepResult::WentOn
 }
 
-pub fn op_bool(p: &[u16], w: &mut [u32], h: Head, a: u16) -> StepResult
-    ensures { after_step result w.new ≡ bool_op p.now w.old h a }
+pub fn op_bool(w: &mut [u32], h: Head, a: u16) -> StepResult
+    ensures { after_step result w.new ≡ bool_op w.old h a }
 {
     push(
         w,
@@ -48,8 +48,8 @@ pub fn op_bool(p: &[u16], w: &mut [u32], h: Head, a: u16) -> StepResult
 }
 
 // CLEAR: "empty it".
-pub fn op_clear(p: &[u16], w: &mut [u32], h: Head, a: u16) -> StepResult
-    ensures { after_step result w.new ≡ clear_op p.now w.old h a }
+pub fn op_clear(w: &mut [u32], h: Head, a: u16) -> StepResult
+    ensures { after_step result w.new ≡ clear_op w.old h a }
 {
     store_slot(w, h, a, empty());
     StepResult::WentOn

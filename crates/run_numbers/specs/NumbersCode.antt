@@ -1,6 +1,6 @@
 -- What ADD, SUB, EQ, LESS and NOT do to the words of a process's part. These definitions follow the code; that they are
 -- document 01's ops is proved in proofs/ here and in run_ops.
-use Rattle.std.specs.Prelude.{ℕ, ◌+◌, ◌-◌, ◌%◌, Bool, true, false, cond, List, eqb, leb, ltb}
+use Rattle.std.specs.Prelude.{Option, None, Some, ℕ, ◌+◌, ◌-◌, ◌%◌, Bool, true, false, cond, List, eqb, leb, ltb}
 use Rattle.run_store.specs.declared.head.Head.{Head}
 use Rattle.run_store.specs.StoreCode.{value_at, top_at}
 use Rattle.run_values.specs.ValuesCode.{AfterStep, after_step, int_val, bool_val, unless_empty, on_top, over_two, empty_two}
@@ -15,6 +15,11 @@ unfoldable pub result_op : List ℕ → Head → ℕ → AfterStep
 result_op w h s =
     cond (ltb s 2147483648) (after_step OutOfRange w)
     (cond (leb 6442450944 s) (after_step OutOfRange w) (after_step WentOn (over_two w h (int_val (s % 4294967296)))))
+
+-- the numbers of two operands, the deeper first; none where one is emptied
+unfoldable pub two_numbers : List ℕ → Head → Option (ℕ × ℕ)
+two_numbers w h =
+    cond (empty_two w h) None (Some ((value_at w (top_at h 2)).number, (value_at w (top_at h 1)).number))
 
 -- two operands by their numbers, the deeper first; fault 20 where one is emptied
 unfoldable pub two_op : List ℕ → Head → (ℕ → ℕ → AfterStep) → AfterStep

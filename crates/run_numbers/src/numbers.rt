@@ -2,7 +2,7 @@
 // negative, so that sums and differences are taken in 64 bits with one test of range.
 ghost use Rattle.std.specs.Prelude.{◌≡◌, ◌+◌, ◌-◌, ◌<◌};
 ghost use Rattle.run_values.specs.ValuesCode.{after_step, bool_val};
-ghost use Rattle.run_numbers.specs.NumbersCode.{bit, biased, result_op, add_op, sub_op, eq_op, less_op, not_op};
+ghost use Rattle.run_numbers.specs.NumbersCode.{bit, biased, two_numbers, result_op, add_op, sub_op, eq_op, less_op, not_op};
 
 use run_store::head::Head;
 use run_store::values::{Val, value};
@@ -24,6 +24,17 @@ pub fn flag(b: bool) -> Val
         return Val { tag: 2, number: 1 };
     }
     Val { tag: 2, number: 0 }
+}
+
+// The numbers of two operands, the deeper first; none where one of them is emptied.
+fn two_numbers(w: &[u32], h: Head) -> Option<(u32, u32)>
+    ensures { result ≡ two_numbers w.now h }
+{
+    if two_empty(w, h) {
+        None
+    } else {
+        Some((number(w, h, 2), number(w, h, 1)))
+    }
 }
 
 // The int whose number, moved up by 2^32, is s, in place of two operands, where it is in range.
@@ -50,33 +61,27 @@ pub fn result(w: &mut [u32], h: Head, s: u64) -> StepResult
 pub fn op_add(w: &mut [u32], h: Head) -> StepResult
     ensures { after_step result w.new ≡ add_op w.old h }
 {
-    if two_empty(w, h) {
+    let Some((x, y)) = two_numbers(w, h) else {
         return StepResult::Empty;
-    }
-    let x = number(w, h, 2);
-    let y = number(w, h, 1);
+    };
     result(w, h, bias(x) + bias(y))
 }
 
 pub fn op_sub(w: &mut [u32], h: Head) -> StepResult
     ensures { after_step result w.new ≡ sub_op w.old h }
 {
-    if two_empty(w, h) {
+    let Some((x, y)) = two_numbers(w, h) else {
         return StepResult::Empty;
-    }
-    let x = number(w, h, 2);
-    let y = number(w, h, 1);
+    };
     result(w, h, bias(x) + 4294967296 - bias(y))
 }
 
 pub fn op_eq(w: &mut [u32], h: Head) -> StepResult
     ensures { after_step result w.new ≡ eq_op w.old h }
 {
-    if two_empty(w, h) {
+    let Some((x, y)) = two_numbers(w, h) else {
         return StepResult::Empty;
-    }
-    let x = number(w, h, 2);
-    let y = number(w, h, 1);
+    };
     replace_two(w, h, flag(x == y));
     StepResult::WentOn
 }
@@ -84,11 +89,9 @@ pub fn op_eq(w: &mut [u32], h: Head) -> StepResult
 pub fn op_less(w: &mut [u32], h: Head) -> StepResult
     ensures { after_step result w.new ≡ less_op w.old h }
 {
-    if two_empty(w, h) {
+    let Some((x, y)) = two_numbers(w, h) else {
         return StepResult::Empty;
-    }
-    let x = number(w, h, 2);
-    let y = number(w, h, 1);
+    };
     replace_two(w, h, flag(bias(x) < bias(y)));
     StepResult::WentOn
 }

@@ -1,28 +1,22 @@
 -- What an op's function has done at its returns, from what its callees did and how its tests came out.
-use Prim.Native.Nat.{ℕ, ◌+◌, ◌*◌}
+use Prim.Native.Nat.{ℕ}
 use mathlib.Core.Path.{◌≡◌, refl, sym, ◌∙◌, ap, ap₂}
 use mathlib.Core.Bool.{Bool, true, false, cond}
 use mathlib.Core.List.{List}
 use borrow.Author.Tests.{eq-eqb}
-use native.Mathlib.Omega.{arith}
 use Rattle.lists.proofs.Tests.{took}
-use Rattle.table.specs.Table.{word, methods, op_at, arg_at}
+use Rattle.table.specs.Table.{op_at, arg_at}
 use Rattle.run_store.specs.declared.head.Head.{Head}
 use Rattle.run_store.specs.StoreCode.{head_of}
 use Rattle.run_values.specs.ValuesCode.{AfterStep}
 use Rattle.run_ops.specs.OpsCode.{act_op, step_op}
 
 -- a running process acts by the instruction at its place
-pub step-acts : (p w : List ℕ) (start : ℕ) {h : Head} {op a : ℕ} {d : AfterStep} → h ≡ head_of w → h.status ≡ 1
-    → start ≡ 2 + 20 * methods p
-    → op ≡ word p (start + 2 * h.place) → a ≡ word p (start + 2 * h.place + 1) → d ≡ act_op p w h op a → d ≡ step_op p w
-unfolding step_op op_at arg_at
-step-acts p w start {h} {op} {a} e r s o i q =
+pub step-acts : (p w : List ℕ) {h : Head} {op a : ℕ} {d : AfterStep} → h ≡ head_of w → h.status ≡ 1
+    → op ≡ op_at p h.place → a ≡ arg_at p h.place → d ≡ act_op p w h op a → d ≡ step_op p w
+unfolding step_op
+step-acts p w {h} {op} {a} e r o i q =
     took _ _ _ refl (eq-eqb (head_of w).status 1 (ap (λ (g : Head). g.status) (sym e) ∙ r))
     (q
-    ∙ ap₂ (λ (x y : ℕ). act_op p w h x y) (o ∙ ap (λ (n : ℕ). word p (n + 2 * h.place)) s) (i ∙ ap (word p) next)
-    ∙ ap (λ (g : Head). act_op p w g (word p (2 + 20 * methods p + 2 * g.place))
-    (word p (3 + 20 * methods p + 2 * g.place))) e)
-  where
-    next : start + 2 * h.place + 1 ≡ 3 + 20 * methods p + 2 * h.place
-    next = omega (arith, s)
+    ∙ ap₂ (λ (x y : ℕ). act_op p w h x y) o i
+    ∙ ap (λ (g : Head). act_op p w g (op_at p g.place) (arg_at p g.place)) e)

@@ -69,8 +69,8 @@ no_op p w h a = after_step NotRunning w
 unfoldable pub op_functions : List OpFunction
 op_functions =
     no_op
-    ∷ int_op ∷ bool_op
-    ∷ (λ p w h a. get_op w h a) ∷ (λ p w h a. put_op w h a) ∷ (λ p w h a. drop_op w h) ∷ clear_op
+    ∷ (λ p w h a. int_op w h a) ∷ (λ p w h a. bool_op w h a)
+    ∷ (λ p w h a. get_op w h a) ∷ (λ p w h a. put_op w h a) ∷ (λ p w h a. drop_op w h) ∷ (λ p w h a. clear_op w h a)
     ∷ left_to_run AtNewQ ∷ left_to_run AtNewC ∷ (λ p w h a. end_op w h a) ∷ left_to_run AtGate ∷ left_to_run AtMeas
     ∷ call_op ∷ (λ p w h a. ret_op p w h) ∷ left_to_run AtFork ∷ left_to_run AtSend ∷ left_to_run AtRecv
     ∷ jump_op ∷ jfalse_op

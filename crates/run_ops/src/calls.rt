@@ -1,6 +1,5 @@
 // CALL and RET.
-ghost use Rattle.std.specs.Prelude.{◌≡◌, ◌+◌, ◌<◌, eqb};
-ghost use Rattle.table.specs.Table.{params_of, return_of};
+ghost use Rattle.std.specs.Prelude.{◌≡◌, ◌+◌, ◌<◌};
 ghost use Rattle.run_values.specs.ValuesCode.{after_step};
 ghost use Rattle.run_ops.specs.OpsCode.{begun, opened, call_op, closed, handed, ret_op};
 
@@ -8,30 +7,20 @@ use run_store::blocks::{any_empty, clear, move_down};
 use run_store::head::{Head, put_top, read_head};
 use run_store::values::{Val, low, put, put_value, value};
 use run_values::steps::StepResult;
-use table::words::word_at;
-
-// How many parameters method m has.
-pub fn params(p: &[u16], m: u16) -> u16
-    ensures { result ≡ params_of p.now m }
-{
-    let methods = word_at(p, 0);
-    let n = word_at(p, 2 + 2 * methods + 18 * (m as usize) + 1);
-    n as u16
-}
+use table::program::Program;
 
 // Frame number n begins in method m.
-pub fn begin_frame(p: &[u16], w: &mut [u32], n: u32, m: u16)
+pub fn begin_frame(p: &Program<'_>, w: &mut [u32], n: u32, m: u16)
     ensures { w.new ≡ begun p.now w.old n m }
 {
     let at = 4 + 4 * (n as usize);
-    let start = word_at(p, 2 + 2 * (m as usize));
     put(w, at, m as u32);
-    put(w, at + 1, start as u32);
+    put(w, at + 1, p.offset(m as u32) as u32);
     put(w, 2, n);
 }
 
 // A frame opened for method m, with its n arguments moved into its slots.
-pub fn open_frame(p: &[u16], w: &mut [u32], h: Head, m: u16, n: u16)
+pub fn open_frame(p: &Program<'_>, w: &mut [u32], h: Head, m: u16, n: u16)
     requires { h.frames < 8 }
     ensures { w.new ≡ opened p.now w.old h m n }
 {
@@ -42,10 +31,10 @@ pub fn open_frame(p: &[u16], w: &mut [u32], h: Head, m: u16, n: u16)
 }
 
 // CALL: "its P arguments off, last on top".
-pub fn op_call(p: &[u16], w: &mut [u32], h: Head, a: u16) -> StepResult
+pub fn op_call(p: &Program<'_>, w: &mut [u32], h: Head, a: u16) -> StepResult
     ensures { after_step result w.new ≡ call_op p.now w.old h a }
 {
-    let n = params(p, a);
+    let n = p.params(a);
     if any_empty(w, h.top(1), n) {
         return StepResult::Empty;
     }
@@ -75,21 +64,12 @@ pub fn hand_back(w: &mut [u32], v: Val)
     put_top(w, h.push());
 }
 
-// Whether method m returns nothing.
-pub fn returns_void(p: &[u16], m: u32) -> bool
-    ensures { result ≡ eqb (return_of p.now m) 0 }
-{
-    let methods = word_at(p, 0);
-    let t = word_at(p, 2 + 2 * methods + 18 * (m as usize));
-    t == 0
-}
-
 // RET: "return value off unless void; the frame goes". The root frame is left as it is, for the caller.
-pub fn op_ret(p: &[u16], w: &mut [u32], h: Head) -> StepResult
+pub fn op_ret(p: &Program<'_>, w: &mut [u32], h: Head) -> StepResult
     ensures { after_step result w.new ≡ ret_op p.now w.old h }
 {
     let v = value(w, h.top(1));
-    if returns_void(p, h.method) {
+    if p.returns(h.method) == 0 {
         if h.frames == 1 {
             return StepResult::AtLastRet;
         }

@@ -25,29 +25,27 @@ use Rattle.run_store.specs.declared.head.Head.{Head}
 use Rattle.run_store.specs.StoreCode.{head_of}
 use Rattle.run_store.proofs.Vals.{val_of}
 use Rattle.run_values.specs.ValuesCode.{empty_two}
-use Rattle.run_values.specs.ValuesCode as values_code
 use Rattle.run_values.proofs.Places.{head-is}
 use Rattle.run_ops.proofs.Meaning.{w, hd, scene, act, act-one, act-two, act-short, taken-by, tag-test, read-top, read-second}
-use Rattle.run_parts.specs.declared.readiness.ReadinessKind.{ReadinessKind}
-use Rattle.run_parts.specs.declared.readiness.ReadinessKind.TheVariants.{Idle, Moves, Sends, Receives}
 use Rattle.run_parts.specs.declared.readiness.Readiness.{Readiness}
-use Rattle.run_parts.specs.ReadinessCode.{no_offer, send_of, receive_of, readiness_op, either_way, meets_op, send_kind, receive_kind, opposite_kinds}
+use Rattle.run_parts.specs.declared.readiness.Readiness.TheVariants.{Idle, Moves, Sends, Receives}
+use Rattle.run_parts.specs.ReadinessCode.{send_of, receive_of, readiness_op, either_way, of_one_channel, meets_op}
 use Rattle.run_parts.proofs.Alone.{Alone, frame-alone}
 
 -- The readiness of a process with this act. A process that is stuck may stand at anything.
 abbrev pub Stands : Act → Readiness → Type 0
-Stands idle st = st ≡ no_offer Idle
+Stands idle st = st ≡ Idle
 Stands stuck st = Unit {0}
-Stands (faults n) st = st ≡ no_offer Moves
-Stands (goes fs es u) st = st ≡ no_offer Moves
-Stands ends st = st ≡ no_offer Moves
-Stands (makes t fs) st = st ≡ no_offer Moves
-Stands (forks m args fs) st = st ≡ no_offer Moves
-Stands (offers (sends c d v gs)) st = st ≡ record { kind = Sends; end = val_of (ref (end c d)); value = val_of v }
+Stands (faults n) st = st ≡ Moves
+Stands (goes fs es u) st = st ≡ Moves
+Stands ends st = st ≡ Moves
+Stands (makes t fs) st = st ≡ Moves
+Stands (forks m args fs) st = st ≡ Moves
+Stands (offers (sends c d v gs)) st = st ≡ (Sends (val_of (ref (end c d))) (val_of v))
 Stands (offers (receives c d gs)) st =
-    st ≡ record { kind = Receives; end = val_of (ref (end c d)); value = values_code.empty_val }
+    st ≡ (Receives (val_of (ref (end c d))))
 
-alone-stands : (x : Act) → Alone x → Stands x (no_offer Moves)
+alone-stands : (x : Act) → Alone x → Stands x Moves
 alone-stands idle h = absurd h
 alone-stands stuck h = tt
 alone-stands (faults n) h = refl
@@ -85,21 +83,21 @@ alone-from f fs (offers o) h = absurd h
 -- a process that is not running
 
 module _ (p : List ℕ) where
-  pub stand-over : (w : List ℕ) → ((head_of w).status ≡ 1 → ⊥) → readiness_op p w ≡ no_offer Idle
+  pub stand-over : (w : List ℕ) → ((head_of w).status ≡ 1 → ⊥) → readiness_op p w ≡ Idle
   unfolding readiness_op
   stand-over w h =
       ap (λ (b : Bool). cond b
       (cond (eqb (op_at p (head_of w).place) 15) (send_of w (head_of w))
-      (cond (eqb (op_at p (head_of w).place) 16) (receive_of w (head_of w)) (no_offer Moves)))
-      (no_offer Idle))
+      (cond (eqb (op_at p (head_of w).place) 16) (receive_of w (head_of w)) Moves))
+      Idle)
       (ne_eqb (head_of w).status 1 h)
 
-  pub finished-stand : readiness_op p (process_words (record { status = finished; frames = [] })) ≡ no_offer Idle
+  pub finished-stand : readiness_op p (process_words (record { status = finished; frames = [] })) ≡ Idle
   unfolding head_of process_words status_words padded
   finished-stand = stand-over (process_words (record { status = finished; frames = [] })) (λ e. omega arith)
 
   pub stopped-stand : (n : ℕ) (fs : List Frame)
-      → readiness_op p (process_words (record { status = stopped n; frames = fs })) ≡ no_offer Idle
+      → readiness_op p (process_words (record { status = stopped n; frames = fs })) ≡ Idle
   unfolding head_of process_words status_words padded
   stopped-stand n fs = stand-over (process_words (record { status = stopped n; frames = fs })) (λ e. omega arith)
 
@@ -107,7 +105,7 @@ module _ (p : List ℕ) where
   zero-first zero = refl
   zero-first (suc n) = refl
 
-  pub unmade-stand : readiness_op p (replicate 512 0) ≡ no_offer Idle
+  pub unmade-stand : readiness_op p (replicate 512 0) ≡ Idle
   unfolding head_of
   unmade-stand = stand-over (replicate 512 0) (λ e. omega (arith, zero-first 512))
 
@@ -136,13 +134,13 @@ module _ {p : List ℕ} (outcomes : List ℕ) (s : State) {f : Frame} {fs : List
   -- the readiness by the op at its place
   running : readiness_op p words
       ≡ cond (eqb (op_at p f.place) 15) (send_of words top)
-      (cond (eqb (op_at p f.place) 16) (receive_of words top) (no_offer Moves))
+      (cond (eqb (op_at p f.place) 16) (receive_of words top) Moves)
   unfolding readiness_op
   running =
       ap (λ (h : Head). cond (eqb h.status 1)
       (cond (eqb (op_at p h.place) 15) (send_of words h)
-      (cond (eqb (op_at p h.place) 16) (receive_of words h) (no_offer Moves)))
-      (no_offer Idle))
+      (cond (eqb (op_at p h.place) 16) (receive_of words h) Moves))
+      Idle)
       (head-is busy.stack)
 
   -- too few pending values
@@ -156,7 +154,7 @@ module _ {p : List ℕ} (outcomes : List ℕ) (s : State) {f : Frame} {fs : List
 
   sent : (y x : Value) (us : List Value) → f.pending ≡ y ∷ x ∷ us → (b : Bool) → is_empty y ≡ b
       → Good (cond (b || (is_empty x || false)) (faults 20) (do_send (stage 2 (y ∷ x ∷ us))))
-      (cond (is_empty x || b) (no_offer Moves) (record { kind = Sends; end = val_of x; value = val_of y }))
+      (cond (is_empty x || b) Moves (Sends (val_of x) (val_of y)))
   unfolding do_send
   sent y empty us q true e = (refl, tt)
   sent y (int z) us q true e = (refl, tt)
@@ -170,15 +168,15 @@ module _ {p : List ℕ} (outcomes : List ℕ) (s : State) {f : Frame} {fs : List
   sent y (ref (end n r)) us q false e = (refl, (us, q, e, refl))
 
   read-send : (y x : Value) (us : List Value) → f.pending ≡ y ∷ x ∷ us
-      → send_of words top ≡ cond (is_empty x || is_empty y) (no_offer Moves)
-      (record { kind = Sends; end = val_of x; value = val_of y })
+      → send_of words top ≡ cond (is_empty x || is_empty y) Moves
+      (Sends (val_of x) (val_of y))
   unfolding send_of empty_two
   read-send y x us q =
-      ap₂ (λ (u v : Val). cond (eqb u.tag 0 || eqb v.tag 0) (no_offer Moves)
-      (record { kind = Sends; end = u; value = v }))
+      ap₂ (λ (u v : Val). cond (eqb u.tag 0 || eqb v.tag 0) Moves
+      (Sends u v))
       (read-second outcomes s busy y x us q)
       (read-top outcomes s busy y (x ∷ us) q)
-      ∙ ap₂ (λ (b c : Bool). cond (b || c) (no_offer Moves) (record { kind = Sends; end = val_of x; value = val_of y }))
+      ∙ ap₂ (λ (b c : Bool). cond (b || c) Moves (Sends (val_of x) (val_of y)))
       (tag-test x) (tag-test y)
 
   at-send : op_at p f.place ≡ 15 → Good does (send_of words top)
@@ -198,7 +196,7 @@ module _ {p : List ℕ} (outcomes : List ℕ) (s : State) {f : Frame} {fs : List
 
   received : (u : Value) (us : List Value) → f.pending ≡ u ∷ us
       → Good (cond (is_empty u || false) (faults 20) (do_recv (stage 1 (u ∷ us))))
-      (cond (is_empty u) (no_offer Moves) (record { kind = Receives; end = val_of u; value = values_code.empty_val }))
+      (cond (is_empty u) Moves (Receives (val_of u)))
   unfolding do_recv
   received empty us q = (refl, tt)
   received (int z) us q = (tt, tt)
@@ -208,18 +206,14 @@ module _ {p : List ℕ} (outcomes : List ℕ) (s : State) {f : Frame} {fs : List
   received (ref (end n r)) us q = (refl, (us, q, refl))
 
   read-receive : (u : Value) (us : List Value) → f.pending ≡ u ∷ us
-      → receive_of words top ≡ cond (is_empty u) (no_offer Moves)
-      (record { kind = Receives; end = val_of u; value = values_code.empty_val })
+      → receive_of words top ≡ cond (is_empty u) Moves
+      (Receives (val_of u))
   unfolding receive_of
   read-receive u us q =
-      ap (λ (v : Val). cond (eqb v.tag 0) (no_offer Moves)
-      (record { kind = Receives; end = v; value = values_code.empty_val }))
+      ap (λ (v : Val). cond (eqb v.tag 0) Moves
+      (Receives v))
       (read-top outcomes s busy u us q)
-      ∙ ap (λ (b : Bool). cond b (no_offer Moves) (record {
-        kind = Receives;
-        end = val_of u;
-        value = values_code.empty_val;
-      })) (tag-test u)
+      ∙ ap (λ (b : Bool). cond b Moves (Receives (val_of u))) (tag-test u)
 
   at-receive : op_at p f.place ≡ 16 → Good does (receive_of words top)
   unfolding doing_of doings op_of ops op_recv
@@ -236,7 +230,7 @@ module _ {p : List ℕ} (outcomes : List ℕ) (s : State) {f : Frame} {fs : List
   -- any op
 
   at_op : (b c : Bool) → eqb (op_at p f.place) 15 ≡ b → eqb (op_at p f.place) 16 ≡ c
-      → Good does (cond b (send_of words top) (cond c (receive_of words top) (no_offer Moves)))
+      → Good does (cond b (send_of words top) (cond c (receive_of words top) Moves))
   at_op true c m n = at-send (eqb-true (op_at p f.place) 15 m)
   at_op false true m n = at-receive (eqb-true (op_at p f.place) 16 n)
   at_op false false m n = (alone-stands does alone, alone-from f fs does alone)
@@ -287,7 +281,7 @@ ends-meet c c' false false m = never (eqb c c') m
 
 pub meets-is : (n q : ℕ) (o o' : Offer) (st st' : Readiness) → Stands (offers o) st → Stands (offers o') st'
     → meets_op st st' ≡ is_meeting (joins n o q o')
-unfolding meets_op opposite_kinds send_kind receive_kind either_way joins is_meeting
+unfolding meets_op of_one_channel either_way joins is_meeting
 meets-is n q (sends c d v gs) (sends c' d' v' gs') st st' h h' = ap₂ meets_op h h'
 meets-is n q (sends c d v gs) (receives c' d' gs') st st' h h' =
     ap₂ meets_op h h'
@@ -313,34 +307,30 @@ meets-is n q (receives c d gs) (sends c' d' v' gs') st st' h h' =
     })
 meets-is n q (receives c d gs) (receives c' d' gs') st st' h h' = ap₂ meets_op h h'
 
--- a readiness that is no offer's meets none
-neither : (b c x y : Bool) → ((b && false || c && false) && x) && y ≡ false
-neither true true x y = refl
-neither true false x y = refl
-neither false true x y = refl
-neither false false x y = refl
+-- nothing meets one that offers nothing
+pub meets-idle : (st : Readiness) → meets_op st Idle ≡ false
+unfolding meets_op
+meets-idle Idle = refl
+meets-idle Moves = refl
+meets-idle (Sends e v) = refl
+meets-idle (Receives e) = refl
 
-meets-no-offer : (k : ReadinessKind) (st : Readiness) → receive_kind k ≡ false → send_kind k ≡ false
-    → meets_op st (no_offer k) ≡ false
-unfolding meets_op opposite_kinds either_way
-meets-no-offer k st m n =
-    ap₂ (λ (x y : Bool).
-    ((send_kind st.kind && x || receive_kind st.kind && y)
-    && (eqb st.end.tag 5 && false || eqb st.end.tag 6 && false))
-    && eqb st.end.number 0) m n
-    ∙ neither (send_kind st.kind) (receive_kind st.kind)
-    (eqb st.end.tag 5 && false || eqb st.end.tag 6 && false)
-    (eqb st.end.number 0)
+pub meets-moves : (st : Readiness) → meets_op st Moves ≡ false
+unfolding meets_op
+meets-moves Idle = refl
+meets-moves Moves = refl
+meets-moves (Sends e v) = refl
+meets-moves (Receives e) = refl
 
 pub meets-none : (a : Act) (st st' : Readiness) → offered a ≡ none → a ≢ stuck → Stands a st' → meets_op st st' ≡ false
-unfolding offered send_kind receive_kind
-meets-none idle st st' e n h = ap (meets_op st) h ∙ meets-no-offer Idle st refl refl
+unfolding offered
+meets-none idle st st' e n h = ap (meets_op st) h ∙ meets-idle st
 meets-none stuck st st' e n h = absurd (n refl)
-meets-none (faults f) st st' e n h = ap (meets_op st) h ∙ meets-no-offer Moves st refl refl
-meets-none (goes fs es u) st st' e n h = ap (meets_op st) h ∙ meets-no-offer Moves st refl refl
-meets-none ends st st' e n h = ap (meets_op st) h ∙ meets-no-offer Moves st refl refl
-meets-none (makes t fs) st st' e n h = ap (meets_op st) h ∙ meets-no-offer Moves st refl refl
-meets-none (forks m args fs) st st' e n h = ap (meets_op st) h ∙ meets-no-offer Moves st refl refl
+meets-none (faults f) st st' e n h = ap (meets_op st) h ∙ meets-moves st
+meets-none (goes fs es u) st st' e n h = ap (meets_op st) h ∙ meets-moves st
+meets-none ends st st' e n h = ap (meets_op st) h ∙ meets-moves st
+meets-none (makes t fs) st st' e n h = ap (meets_op st) h ∙ meets-moves st
+meets-none (forks m args fs) st st' e n h = ap (meets_op st) h ∙ meets-moves st
 meets-none (offers o) st st' e n h = absurd (none-ne-some o (sym e))
 
 -- both together: the offer of process n with whatever process q would do

@@ -3,57 +3,41 @@
 use Rattle.std.specs.Prelude.{ℕ, Bool, true, false, cond, not, ◌&&◌, ◌||◌, List, eqb}
 use Rattle.table.specs.Table.{op_at}
 use Rattle.run_store.specs.declared.head.Head.{Head}
+use Rattle.run_store.specs.declared.values.Val.{Val}
 use Rattle.run_store.specs.StoreCode.{value_at, head_of, top_at}
 use Rattle.run_values.specs.ValuesCode.{empty_val, empty_two, is_send}
 use Rattle.run_values.specs.declared.steps.StepResult.{StepResult}
-use Rattle.run_parts.specs.declared.readiness.ReadinessKind.{ReadinessKind}
-use Rattle.run_parts.specs.declared.readiness.ReadinessKind.TheVariants.{Idle, Moves, Sends, Receives}
 use Rattle.run_parts.specs.declared.readiness.Readiness.{Readiness}
+use Rattle.run_parts.specs.declared.readiness.Readiness.TheVariants.{Idle, Moves, Sends, Receives}
 
--- what a kind of readiness says: over; offers to send; offers to receive; offers one of the two
-unfoldable pub over_kind : ReadinessKind → Bool
+-- the process is over or not made
+unfoldable pub over_kind : Readiness → Bool
 over_kind Idle = true
 over_kind Moves = false
-over_kind Sends = false
-over_kind Receives = false
+over_kind (Sends e v) = false
+over_kind (Receives e) = false
 
-unfoldable pub send_kind : ReadinessKind → Bool
-send_kind Idle = false
-send_kind Moves = false
-send_kind Sends = true
-send_kind Receives = false
-
-unfoldable pub receive_kind : ReadinessKind → Bool
-receive_kind Idle = false
-receive_kind Moves = false
-receive_kind Sends = false
-receive_kind Receives = true
-
-unfoldable pub offer_kind : ReadinessKind → Bool
-offer_kind Idle = false
-offer_kind Moves = false
-offer_kind Sends = true
-offer_kind Receives = true
-
-abbrev pub no_offer : ReadinessKind → Readiness
-no_offer k = record { kind = k; end = empty_val; value = empty_val }
+-- the end of an offer; the empty value where nothing is offered
+unfoldable pub end_offered : Readiness → Val
+end_offered Idle = empty_val
+end_offered Moves = empty_val
+end_offered (Sends e v) = e
+end_offered (Receives e) = e
 
 unfoldable pub send_of : List ℕ → Head → Readiness
 send_of w h =
-    cond (empty_two w h) (no_offer Moves)
-    (record { kind = Sends; end = value_at w (top_at h 2); value = value_at w (top_at h 1) })
+    cond (empty_two w h) Moves
+    (Sends (value_at w (top_at h 2)) (value_at w (top_at h 1)))
 
 unfoldable pub receive_of : List ℕ → Head → Readiness
-receive_of w h =
-    cond (eqb (value_at w (top_at h 1)).tag 0) (no_offer Moves)
-    (record { kind = Receives; end = value_at w (top_at h 1); value = empty_val })
+receive_of w h = cond (eqb (value_at w (top_at h 1)).tag 0) Moves (Receives (value_at w (top_at h 1)))
 
 unfoldable pub readiness_op : List ℕ → List ℕ → Readiness
 readiness_op p w =
     cond (eqb (head_of w).status 1)
     (cond (eqb (op_at p (head_of w).place) 15) (send_of w (head_of w))
-    (cond (eqb (op_at p (head_of w).place) 16) (receive_of w (head_of w)) (no_offer Moves)))
-    (no_offer Idle)
+    (cond (eqb (op_at p (head_of w).place) 16) (receive_of w (head_of w)) Moves))
+    Idle
 
 -- the same where its step answered that it stands at SEND or RECV
 unfoldable pub offer_of : List ℕ → StepResult → Readiness
@@ -69,11 +53,19 @@ offers_nothing p w =
 unfoldable pub either_way : ℕ → ℕ → ℕ → ℕ → Bool
 either_way a b x y = eqb a x && eqb b y || eqb a y && eqb b x
 
--- one offers to send and the other to receive
-unfoldable pub opposite_kinds : ReadinessKind → ReadinessKind → Bool
-opposite_kinds a b = send_kind a && receive_kind b || receive_kind a && send_kind b
+-- the two ends of one channel
+unfoldable pub of_one_channel : Val → Val → Bool
+of_one_channel e f = either_way e.tag f.tag 5 6 && eqb e.number f.number
 
+-- one offers to send and the other to receive, on the two ends of one channel
 unfoldable pub meets_op : Readiness → Readiness → Bool
-meets_op a b =
-    (opposite_kinds a.kind b.kind && either_way a.end.tag b.end.tag 5 6)
-    && eqb a.end.number b.end.number
+meets_op Idle b = false
+meets_op Moves b = false
+meets_op (Sends e v) Idle = false
+meets_op (Sends e v) Moves = false
+meets_op (Sends e v) (Sends f u) = false
+meets_op (Sends e v) (Receives f) = of_one_channel e f
+meets_op (Receives e) Idle = false
+meets_op (Receives e) Moves = false
+meets_op (Receives e) (Sends f u) = of_one_channel e f
+meets_op (Receives e) (Receives f) = false

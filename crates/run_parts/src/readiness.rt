@@ -1,78 +1,35 @@
 // A process's stand, read from its part of the work store; nothing is changed.
 ghost use Rattle.std.specs.Prelude.{◌≡◌, ◌+◌, ◌*◌};
-ghost use Rattle.table.specs.Table.{methods};
 ghost use Rattle.run_store.specs.StoreCode.{head_of};
-ghost use Rattle.run_parts.specs.ReadinessCode.{over_kind, send_kind, receive_kind, offer_kind, no_offer, send_of, receive_of, readiness_op, offer_of, offers_nothing, either_way, opposite_kinds, meets_op};
+ghost use Rattle.run_parts.specs.ReadinessCode.{end_offered, send_of, receive_of, readiness_op, offer_of, offers_nothing, either_way, of_one_channel, meets_op};
 
 use run_store::head::{Head, read_head};
 use run_store::values::{Val, empty, get, value};
 use run_values::operands::two_empty;
 use run_values::steps::{StepResult, is_send};
-use table::words::word_at;
+use table::program::Program;
 
-// What a process can do: it is over or not made; it moves by itself, by a step or a fault; it offers to send; it offers
-// to receive.
+// What a process can do: it is over or not made; it moves by itself, by a step or a fault; it offers to send a value
+// from an end; it offers to receive at one.
 #[derive(Clone, Copy)]
-pub enum ReadinessKind {
+pub enum Readiness {
     Idle,
     Moves,
-    Sends,
-    Receives,
+    Sends { end: Val, value: Val },
+    Receives { end: Val },
 }
 
-pub fn is_over(kind: ReadinessKind) -> bool
-    ensures { result ≡ over_kind kind }
-{
-    match kind {
-        ReadinessKind::Idle => true,
-        _ => false,
-    }
-}
-
-pub fn is_sends(kind: ReadinessKind) -> bool
-    ensures { result ≡ send_kind kind }
-{
-    match kind {
-        ReadinessKind::Sends => true,
-        _ => false,
-    }
-}
-
-fn is_receives(kind: ReadinessKind) -> bool
-    ensures { result ≡ receive_kind kind }
-{
-    match kind {
-        ReadinessKind::Receives => true,
-        _ => false,
-    }
-}
-
-// It offers to send or to receive.
-pub fn is_offering(kind: ReadinessKind) -> bool
-    ensures { result ≡ offer_kind kind }
-{
-    match kind {
-        ReadinessKind::Sends => true,
-        ReadinessKind::Receives => true,
-        _ => false,
-    }
-}
-
-// An offer has its end, and to send also its value.
-#[derive(Clone, Copy)]
-pub struct Readiness {
-    pub kind: ReadinessKind,
-    pub end: Val,
-    pub value: Val,
-}
-
-fn bare(kind: ReadinessKind) -> Readiness
-    ensures { result ≡ no_offer kind }
-{
-    Readiness {
-        kind: kind,
-        end: empty(),
-        value: empty(),
+impl Readiness {
+    // The end of an offer; the empty value where nothing is offered.
+    #[tactic(auto, unfolding(crate::specs::ReadinessCode::end_offered))]
+    pub fn end(self) -> Val
+        ensures { result ≡ end_offered self }
+    {
+        match self {
+            Readiness::Sends { end, .. } => end,
+            Readiness::Receives { end } => end,
+            _ => empty(),
+        }
     }
 }
 
@@ -81,10 +38,9 @@ fn sending(w: &[u32], h: Head) -> Readiness
     ensures { result ≡ send_of w.now h }
 {
     if two_empty(w, h) {
-        return bare(ReadinessKind::Moves);
+        return Readiness::Moves;
     }
-    Readiness {
-        kind: ReadinessKind::Sends,
+    Readiness::Sends {
         end: value(w, h.top(2)),
         value: value(w, h.top(1)),
     }
@@ -93,35 +49,29 @@ fn sending(w: &[u32], h: Head) -> Readiness
 fn receiving(w: &[u32], h: Head) -> Readiness
     ensures { result ≡ receive_of w.now h }
 {
-    let e = value(w, h.top(1));
-    if e.tag == 0 {
-        return bare(ReadinessKind::Moves);
+    let end = value(w, h.top(1));
+    if end.tag == 0 {
+        return Readiness::Moves;
     }
-    Readiness {
-        kind: ReadinessKind::Receives,
-        end: e,
-        value: empty(),
-    }
+    Readiness::Receives { end }
 }
 
-// The readiness of the process whose part is w; an offer waits for its partner; `start` is where the table's
-// instructions begin.
-pub fn read_readiness(p: &[u16], start: usize, w: &[u32]) -> Readiness
-    requires { start ≡ 2 + 20 * methods p.now }
+// The readiness of the process whose part is w; an offer waits for its partner.
+pub fn read_readiness(p: &Program<'_>, w: &[u32]) -> Readiness
     ensures { result ≡ readiness_op p.now w.now }
 {
     let h = read_head(w);
     if h.status != 1 {
-        return bare(ReadinessKind::Idle);
+        return Readiness::Idle;
     }
-    let op = word_at(p, start + 2 * (h.place as usize));
+    let op = p.op(h.place);
     if op == 15 {
         return sending(w, h.wait());
     }
     if op == 16 {
         return receiving(w, h.wait());
     }
-    bare(ReadinessKind::Moves)
+    Readiness::Moves
 }
 
 // The offer of the process whose part is w, where its step answered that it stands at SEND or RECV.
@@ -144,15 +94,13 @@ fn place_of(w: &[u32]) -> u32
 }
 
 // The process whose part is w runs and stands at neither SEND nor RECV, so that it moves by itself.
-pub fn offers_nothing(p: &[u16], start: usize, w: &[u32]) -> bool
-    requires { start ≡ 2 + 20 * methods p.now }
+pub fn offers_nothing(p: &Program<'_>, w: &[u32]) -> bool
     ensures { result ≡ offers_nothing p.now w.now }
 {
     if get(w, 0) != 1 {
         return false;
     }
-    let place = place_of(w);
-    let op = word_at(p, start + 2 * (place as usize));
+    let op = p.op(place_of(w));
     (op != 15) & (op != 16)
 }
 
@@ -166,24 +114,28 @@ fn either_way(a: u32, b: u32, x: u32, y: u32) -> bool
     (a == y) & (b == x)
 }
 
-// One offers to send and the other to receive.
-fn opposite_kinds(a: ReadinessKind, b: ReadinessKind) -> bool
-    ensures { result ≡ opposite_kinds a b }
+// The two ends of one channel (tags 5 and 6).
+fn of_one_channel(e: Val, f: Val) -> bool
+    ensures { result ≡ of_one_channel e f }
 {
-    (is_sends(a) & is_receives(b)) | (is_receives(a) & is_sends(b))
+    if e.number != f.number {
+        return false;
+    }
+    either_way(e.tag, f.tag, 5, 6)
 }
 
-// One offers to send and the other to receive, on the two ends of one channel (tags 5 and 6).
+// One offers to send and the other to receive, on the two ends of one channel.
+#[tactic(auto, unfolding(crate::specs::ReadinessCode::meets_op))]
 pub fn meets(a: Readiness, b: Readiness) -> bool
     ensures { result ≡ meets_op a b }
 {
-    let one = a.kind;
-    let other = b.kind;
-    if !opposite_kinds(one, other) {
-        return false;
+    match (a, b) {
+        (Readiness::Sends { end, .. }, Readiness::Receives { end: other }) => {
+            of_one_channel(end, other)
+        }
+        (Readiness::Receives { end }, Readiness::Sends { end: other, .. }) => {
+            of_one_channel(end, other)
+        }
+        _ => false,
     }
-    if a.end.number != b.end.number {
-        return false;
-    }
-    either_way(a.end.tag, b.end.tag, 5, 6)
 }

@@ -3,10 +3,11 @@ use Prim.Native.Nat.{ℕ, zero, suc, ◌+◌, ◌≤◌}
 use mathlib.Core.Path.{◌≡◌, refl, sym, ◌∙◌, ap, ap₂}
 use mathlib.Core.List.{List, [], ◌∷◌, ◌++◌, flatten, append_assoc}
 use native.Mathlib.Omega.{arith}
+use borrow.Rule.Slice.PartMut.{put_mid}
 use lib.ListN.{get_or, set, take, drop, length, length-append, length-set, length-drop, length-replicate, replicate, replicate-append-replicate, take-append-drop}
 use lib.Seq.{length-take-le, set-append_left, set_at, drop-set-lt, drop-cons, drop-drop, drop_at}
 use Rattle.table.proofs.Accepted.{Kept}
-use Rattle.machine.specs.State.{Process, Config, started, start_config, start, start_config_with, start_with}
+use Rattle.machine.specs.State.{Process, Config, started, start_config, start_config_with, start_with}
 use Rattle.machine.specs.Entry.{runs, joined}
 use Rattle.machine.specs.Run.{Result}
 use Rattle.machine.specs.Answer.{trace_after}
@@ -23,7 +24,7 @@ use Rattle.run_giving.specs.GivingCode.{began_words}
 use Rattle.run_transfer.specs.TransferCode.{began_at}
 use Rattle.run_giving.proofs.Parted.{began-words}
 use Rattle.run_schedule.specs.BeginCode.{none_stored, start_store}
-use Rattle.run_schedule.specs.SummaryCode.{after_run, run_leaves}
+use Rattle.run_schedule.specs.SummaryCode.{AfterRun, run_leaves}
 
 -- nothing made
 abbrev none : Config
@@ -97,6 +98,19 @@ none-stored xs ys front (suc j) h =
         shift zero zs = refl
         shift (suc j) zs = ap (λ (r : List ℕ). 255 ∷ r) (shift j zs)
 
+-- the same, filled at once
+pub none-filled : (w : List ℕ) → 8256 ≤ length w → {ys : List ℕ}
+    → ys ≡ replicate (length (take 64 (drop 8192 w))) 255
+    → put_mid 8192 64 w ys ≡ none_stored w 64
+none-filled w h e =
+    ap (put_mid 8192 64 w) (e ∙ ap (λ (n : ℕ). replicate {A = ℕ} n 255) sixty-four)
+    ∙ sym (none-stored (take 8192 w) (drop 8192 w) (length-take-le 8192 w (omega (arith, h))) 64
+    (omega (arith, h, length-drop 8192 w)))
+    ∙ ap (λ (u : List ℕ). none_stored u 64) (take-append-drop 8192 w)
+  where
+    sixty-four : length (take 64 (drop 8192 w)) ≡ 64
+    sixty-four = length-take-le 64 (drop 8192 w) (omega (arith, h, length-drop 8192 w))
+
 -- the same with what is left of the store: as `run_entries` asks it, and what a run then leaves of the store as it was
 module _ (p : List ℕ) (kept : Kept p) (work : List ℕ) (h : 8256 ≤ length work) {begun : List ℕ}
     (e : begun ≡ start_store p work 8192) where
@@ -124,11 +138,11 @@ module _ (p : List ℕ) (kept : Kept p) (work : List ℕ) (h : 8256 ≤ length w
   pub leaves-same : (r : Result) (trace : List ℕ) → run_leaves r trace begun ≡ run_leaves r trace work
   unfolding run_leaves store_after
   leaves-same r trace =
-      ap (λ (w : List ℕ). after_run (record {
+      ap {B = AfterRun} (λ (w : List ℕ). record {
         end = r.end;
         entries = r.entries;
         lines = length r.state.lines;
-        used
-            = r.state.used;
-      }) (trace_after r.state.lines trace)
-      (encode r.state.config ++ (holder_words r.state.lines ++ w))) rest-same
+        used = r.state.used;
+        trace = trace_after r.state.lines trace;
+        work = encode r.state.config ++ (holder_words r.state.lines ++ w);
+      }) rest-same

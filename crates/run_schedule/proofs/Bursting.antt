@@ -6,13 +6,11 @@ use mathlib.Core.Bool.{Bool, true, false, cond, ◌&&◌}
 use mathlib.Core.List.{List, ◌++◌, append-nil}
 use native.Mathlib.Omega.{arith}
 use lib.ListN.{get_or, length}
-use lib.Dec.{eqb, leb}
+use lib.Dec.{leb}
 use borrow.Author.Tests.{leb-true, leb-false}
 use Rattle.machine.specs.State.{Line}
-use Rattle.machine.specs.Act.{goes}
 use Rattle.machine.specs.Entry.{able}
 use Rattle.machine.proofs.Steps.{ending}
-use Rattle.machine.proofs.Ownership as own
 use Rattle.run_values.specs.ValuesCode.{went_on, not_running, AfterStep, after_step}
 use Rattle.run_values.specs.declared.steps.StepResult.{StepResult}
 use Rattle.run_values.specs.declared.steps.StepResult.TheVariants.{NotRunning}
@@ -22,13 +20,13 @@ use Rattle.run_parts.proofs.Apart.{part-kept, part-other}
 use Rattle.run_parts.specs.ReadinessCode.{readiness_op}
 use Rattle.run_holders.proofs.Holding.{Holding}
 use Rattle.run_ability.specs.declared.pairing.Pairing.{Pairing}
-use Rattle.run_ability.specs.PairingCode.{unpaired}
+use Rattle.run_ability.specs.PairingCode.{Near}
+use Rattle.run_ability.specs.EndingCode.{end_or_none}
 use Rattle.run_ability.proofs.Able.{ending-is}
-use Rattle.run_single.specs.ResultCode.{after_entry}
 use Rattle.run_entry.specs.EntryCode.{offer_at}
 use Rattle.run_entry.proofs.Paired.{over-waits, offer-near}
-use Rattle.run_parts.specs.declared.readiness.ReadinessKind.TheVariants.{Moves}
-use Rattle.run_ability.specs.declared.pairing.PairingKind.TheVariants.{Waits}
+use Rattle.run_parts.specs.declared.readiness.Readiness.TheVariants.{Moves}
+use Rattle.run_ability.specs.declared.pairing.Pairing.TheVariants.{Waits}
 use Rattle.run_burst.specs.declared.knowledge.Knowledge.{Knowledge}
 use Rattle.run_burst.specs.KnowledgeCode.{is_idle, with_idle, alone, known_after_step}
 use Rattle.run_burst.specs.BurstCode.{Stop, stops_at, named_op, is_done, named_before, stops_here, burst_op}
@@ -44,7 +42,7 @@ module _ {p schedule outcomes t0 rest : List ℕ} {room : ℕ} (given : Inputs p
     module _ {t : List (List ℕ)} {known : Knowledge} (r : Stands given k t known)
         (d : AfterStep) (x : Stepped given k d) (low : named given k < 8) (ws : List ℕ)
         (words : d.words ≡ with_part (work₀ given k) (named given k) ws)
-        (by_itself : (readiness_op p (part_of d.words (named given k))).kind ≡ Moves) where
+        (by_itself : readiness_op p (part_of d.words (named given k)) ≡ Moves) where
       other : (q : ℕ) → q < 8 → q ≢ named given k → part_of d.words q ≡ part_of (work₀ given k) q
       other q h ne =
           ap (λ (w : List ℕ). part_of w q) words
@@ -129,16 +127,17 @@ module _ {p schedule outcomes t0 rest : List ℕ} {room : ℕ} (given : Inputs p
           ws = (step_op p (part_of (work₀ given k) (named given k))).words
 
           by_itself : (known_after_step p d.words (named given k) known d.result).some ≡ true
-              → (readiness_op p (part_of d.words (named given k))).kind ≡ Moves
+              → readiness_op p (part_of d.words (named given k)) ≡ Moves
           by_itself i =
               (alone-so p d.words (named given k)
               (still-alone p d.words (named given k) known d.result (ap went_on x.result) i)).1
 
       -- the run goes on where some process is known, or seen, to be able to move
       goes_so : (n : ℕ) → (known.some ≡ true) ⊎ (alone p (work₀ given k) n ≡ true) → ending p outcomes (at given k) ≡ 0
+      unfolding end_or_none
       goes_so n g =
           ⊎_elim r.sure
-          (λ a. sym (ends-alone p (work₀ given k) t n refl a
+          (λ a. sym (ap end_or_none (ends-alone p (work₀ given k) t n refl a)
           ∙ ending-is (reached given k) rest (owned given k) t r.table))
           g
 
@@ -154,10 +153,10 @@ module _ {p schedule outcomes t0 rest : List ℕ} {room : ℕ} (given : Inputs p
               (named given k) d.result (offer_at p w t (named given k) d.result)) x.words
               ∙ x.entered
 
-          waits : (offered t d).kind ≡ Waits → able p outcomes (at given k) (named given k) ≡ false
+          waits : offered t d ≡ Waits → able p outcomes (at given k) (named given k) ≡ false
           waits e =
               idle-unable given k t d.result
-              (sym (ap (λ (w : List ℕ). (offer_at p w t (named given k) d.result).kind) x.words) ∙ e) x.entered
+              (sym (ap (λ (w : List ℕ). offer_at p w t (named given k) d.result) x.words) ∙ e) x.entered
 
           rests : is_done d.result known ≡ false → (b : Bool)
               → stops_here p d.words schedule k known (offered t d) ≡ b → Idles t known d ⊎ Held t known d
@@ -208,7 +207,7 @@ module _ {p schedule outcomes t0 rest : List ℕ} {room : ℕ} (given : Inputs p
 
   pub record Burst-good (trace : List ℕ) (t : List (List ℕ)) (lines used : ℕ) (b : Stop) : Type 0 where
     pub ready : Ready given b.burst.at b.words trace t lines used b.burst.known
-    pub near : (b.burst.offer.sender.0 < 8) × (b.burst.offer.receiver.0 < 8)
+    pub near : Near b.burst.offer
     pub entered : b.burst.at < length schedule
         → named_entry_op p outcomes trace b.words room (record { entry = b.burst.at; lines = lines; used = used })
         (get_or schedule b.burst.at 0) b.burst.step b.burst.offer
@@ -217,9 +216,9 @@ module _ {p schedule outcomes t0 rest : List ℕ} {room : ℕ} (given : Inputs p
   pub burst-law : (left k : ℕ) {work trace : List ℕ} {t : List (List ℕ)} {lines used : ℕ} {known : Knowledge}
       → left ≡ length schedule - k → Ready given k work trace t lines used known
       → Burst-good trace t lines used (burst_op p t schedule work k known left)
-  unfolding burst_op unpaired
+  unfolding burst_op
   burst-law zero k e r =
-      record { ready = r; near = (omega arith, omega arith); entered = λ l. absurd (omega (arith, l, e)) }
+      record { ready = r; near = tt; entered = λ l. absurd (omega (arith, l, e)) }
   burst-law (suc left) k {work} {trace} {t} {lines} {used} {known} e r =
       subst (λ (w : List ℕ). Burst-good trace t lines used (burst_op p t schedule w k known (suc left))) (sym r.store)
       (⊎_elim (λ x. done x (burst-law left (suc k) less (goes-there x.ready)))

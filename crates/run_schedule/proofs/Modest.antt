@@ -18,7 +18,7 @@ use Rattle.table.proofs.Methods.{slot_types-length}
 use Rattle.machine.specs.Value.{qubit, channel, end, Value, empty, int, bool, ref, is_empty}
 use Rattle.machine.specs.State.{Frame, Status, running, finished, stopped, State, process_at, line_of, gave}
 use Rattle.machine.specs.Act.{sends, receives, Act, idle, stuck, faults, goes, ends, makes, forks, offers, At, operand, as_end, do_send, do_recv, doings, doing_of, scene_of, at_frame, at_frames, by_status, act_of}
-use Rattle.machine.specs.Entry.{Effect, Meeting, things_of, handing, meet_in, meet_if_in, meeting_of, forking, applied, effect_of, applied_in, effect_in, forking_in, table_machine}
+use Rattle.machine.specs.Entry.{Effect, Meeting, things_of, handing, meet_in, meet_if_in, meeting_of, applied, effect_of, applied_in, effect_in, forking_in, table_machine}
 use Rattle.machine.proofs.Reachable.{Reachable}
 use Rattle.machine.proofs.Acts.{ActTyped}
 use Rattle.machine.proofs.Standing.{act-typed}

@@ -15,9 +15,9 @@ use Rattle.lists.specs.Lists.{All}
 use Rattle.lists.proofs.Tests.{decide, cond-each}
 use Rattle.table.specs.Table.{arg_at}
 use Rattle.table.proofs.Accepted.{Kept}
-use Rattle.machine.specs.State.{Line, State, start_config, start, start_with}
-use Rattle.machine.specs.Act.{Act, idle, ends}
-use Rattle.machine.specs.Entry.{judged, Effect, nothing, applied, effect_of, moves, able, able_in, applied_in, effect_in, moves_in}
+use Rattle.machine.specs.State.{Line, State, start_config, start_with}
+use Rattle.machine.specs.Act.{Act}
+use Rattle.machine.specs.Entry.{judged, Effect, nothing, effect_of, moves, able, able_in, applied_in, effect_in, moves_in}
 use Rattle.machine.specs.Run.{fits, after_effect, ended, run_from, run}
 use Rattle.machine.specs.Answer.{trace_words, trace_after}
 use Rattle.machine.specs.Sound.{ConfigSound}
@@ -37,27 +37,27 @@ use Rattle.run_parts.specs.ReadinessCode.{readiness_op}
 use Rattle.run_holders.specs.HoldersCode.{nobody}
 use Rattle.run_holders.proofs.Holding.{Holding, holding-none}
 use Rattle.run_ability.specs.declared.pairing.Pairing.{Pairing}
-use Rattle.run_ability.specs.EndingCode.{ability_op, ending_op}
+use Rattle.run_ability.specs.EndingCode.{end_or_none, ability_op, ending_op}
 use Rattle.run_ability.proofs.Able.{sound, able-is, ending-is}
 use Rattle.run_ability.proofs.Idle.{still-unable, alone-able}
 use Rattle.run_single.specs.declared.result.Count.{Count}
-use Rattle.run_single.specs.declared.result.Progress.{Progress}
-use Rattle.run_single.specs.declared.result.Progress.TheVariants.{Unable, Taken, Full}
-use Rattle.run_single.specs.ResultCode.{AfterEntry, after_entry, taken_to, idle_at, full_at}
+use Rattle.run_single.specs.declared.result.EntryResult.{EntryResult}
+use Rattle.run_single.specs.declared.result.EntryResult.TheVariants.{Unable, Taken, Full}
+use Rattle.run_single.specs.ResultCode.{AfterEntry, after_entry}
 use Rattle.run_entry.specs.EntryCode.{offer_at, entry_op}
 use Rattle.run_single.proofs.Here.{Here}
 use Rattle.run_entry.proofs.Stepped.{Plain, Other, entry-law}
 use Rattle.run_entry.proofs.Paired.{waiting_stays}
-use Rattle.run_parts.specs.declared.readiness.ReadinessKind.TheVariants.{Moves}
-use Rattle.run_ability.specs.declared.pairing.PairingKind.TheVariants.{Waits}
+use Rattle.run_parts.specs.declared.readiness.Readiness.TheVariants.{Moves}
+use Rattle.run_ability.specs.declared.pairing.Pairing.TheVariants.{Waits}
 use Rattle.run_burst.specs.declared.knowledge.Knowledge.{Knowledge}
 use Rattle.run_burst.specs.KnowledgeCode.{nothing_known, marked, is_idle, with_idle}
 use Rattle.run_burst.specs.TurnCode.{named_entry_op}
 use Rattle.run_schedule.proofs.Modest.{modest}
 
-abbrev is-unable : Progress → Bool
+abbrev is-unable : EntryResult → Bool
 is-unable Unable = true
-is-unable Taken = false
+is-unable (Taken lines used) = false
 is-unable Full = false
 
 -- what is known of the inputs
@@ -249,13 +249,13 @@ module _ {p schedule outcomes t0 rest : List ℕ} {room : ℕ} (given : Inputs p
 
     abbrev pub taken : AfterEntry
     taken =
-        after_entry (taken_to (length ((at k).lines ++ effect.lines)) ((at k).used + effect.used))
+        after_entry (Taken (length ((at k).lines ++ effect.lines)) ((at k).used + effect.used))
         (trace_after ((at k).lines ++ effect.lines) t0)
         (encode effect.config ++ rest)
 
     abbrev pub comes : Bool → Bool → AfterEntry
     comes a f =
-        cond a (cond f taken (after_entry (full_at count₀) trace₀ work₀)) (after_entry (idle_at count₀) trace₀ work₀)
+        cond a (cond f taken (after_entry Full trace₀ work₀)) (after_entry Unable trace₀ work₀)
 
     abbrev pub comes_to : AfterEntry
     comes_to = comes (able p outcomes (at k) named) (fits room (at k) effect)
@@ -291,7 +291,7 @@ module _ {p schedule outcomes t0 rest : List ℕ} {room : ℕ} (given : Inputs p
         words = refl;
         entered =
             ap
-            (λ (b : Bool). cond b (after_entry (idle_at count₀) trace₀ work₀)
+            (λ (b : Bool). cond b (after_entry Unable trace₀ work₀)
             (entry_op p outcomes trace₀ work₀ room count₀ named NotRunning (offer_at p work₀ t named NotRunning)))
             (le-leb 8 named h)
             ∙ sym (ap (λ (b : Bool). comes b (fits room (at k) effect)) (unmade h));
@@ -316,7 +316,7 @@ module _ {p schedule outcomes t0 rest : List ℕ} {room : ℕ} (given : Inputs p
             words = ap (with_part work₀ named) x.words ∙ part_same work₀ named;
             entered =
                 ap
-                (λ (b : Bool). cond b (after_entry (idle_at count₀) trace₀ work₀)
+                (λ (b : Bool). cond b (after_entry Unable trace₀ work₀)
                 (entry_op p outcomes trace₀ work₀ room count₀ named step₀.result
                 (offer_at p work₀ t named step₀.result)))
                 (lt-leb 8 named h)
@@ -359,22 +359,22 @@ module _ {p schedule outcomes t0 rest : List ℕ} {room : ℕ} (given : Inputs p
         (record { entry = k; lines = r.counted i; used = r.drawn i }) named step m) ∙ e
 
     -- an entry whose offer comes to waiting is idle
-    pub idle-unable : (t : List (List ℕ)) (step : StepResult) → (offer_at p work₀ t named step).kind ≡ Waits
+    pub idle-unable : (t : List (List ℕ)) (step : StepResult) → offer_at p work₀ t named step ≡ Waits
         → named_entry_op p outcomes trace₀ work₀ room count₀ named step (offer_at p work₀ t named step) ≡ comes_to
         → able p outcomes (at k) named ≡ false
     unfolding named_entry_op
     idle-unable t step w e = go (able p outcomes (at k) named) (fits room (at k) effect) (sym (stays (leb 8 named)) ∙ e)
       where
         stays : (b : Bool)
-            → cond b (after_entry (idle_at count₀) trace₀ work₀)
+            → cond b (after_entry Unable trace₀ work₀)
             (entry_op p outcomes trace₀ work₀ room count₀ named step (offer_at p work₀ t named step))
-            ≡ after_entry (idle_at count₀) trace₀ work₀
+            ≡ after_entry Unable trace₀ work₀
         stays true = refl
         stays false = waiting_stays p outcomes trace₀ work₀ room t count₀ named step w
 
-        go : (a f : Bool) → after_entry (idle_at count₀) trace₀ work₀ ≡ comes a f → a ≡ false
-        go true true i = absurd (true≢false (ap (λ (c : AfterEntry). is-unable c.result.progress) i))
-        go true false i = absurd (true≢false (ap (λ (c : AfterEntry). is-unable c.result.progress) i))
+        go : (a f : Bool) → after_entry Unable trace₀ work₀ ≡ comes a f → a ≡ false
+        go true true i = absurd (true≢false (ap (λ (c : AfterEntry). is-unable c.result) i))
+        go true false i = absurd (true≢false (ap (λ (c : AfterEntry). is-unable c.result) i))
         go false f i = refl
 
     -- who is able to move, read off the store
@@ -443,12 +443,12 @@ module _ {p schedule outcomes t0 rest : List ℕ} {room : ℕ} (given : Inputs p
 
     module _ {t : List (List ℕ)} {known : Knowledge} (r : Stands k t known) (low : named k < 8)
         (work' : List ℕ) (others : (q : ℕ) → q < 8 → q ≢ named k → part_of work' q ≡ part_of (work₀ k) q)
-        (by_itself : (readiness_op p (part_of work' (named k))).kind ≡ Moves) where
+        (by_itself : readiness_op p (part_of work' (named k)) ≡ Moves) where
       pub moved-idle : known.some ≡ true → get_or known.idle (named k) false ≡ false → Idle work' t known.idle
       moved-idle i free n h e =
           still-unable p (work₀ k) work' t n (others n h ne)
           (λ q l. ⊎_elim (λ j. inr
-          (subst (λ (m : ℕ). (readiness_op p (part_of work' m)).kind ≡ Moves) (sym (eqb-true q (named k) j)) by_itself))
+          (subst (λ (m : ℕ). readiness_op p (part_of work' m) ≡ Moves) (sym (eqb-true q (named k) j)) by_itself))
           (λ j. inl (others q l (eqb-false q (named k) j)))
           (decide (eqb q (named k))))
           (r.idle i n h e)
@@ -467,12 +467,12 @@ module _ {p schedule outcomes t0 rest : List ℕ} {room : ℕ} (given : Inputs p
 
   pub ready-last : (k : ℕ) {work trace : List ℕ} {t : List (List ℕ)} {lines used : ℕ} {known : Knowledge}
       → Ready k work trace t lines used known → length schedule ≤ k
-      → AtEnd k (ending_op p work t 8) work trace lines used
+      → AtEnd k (end_or_none (ending_op p work t 8)) work trace lines used
   ready-last k {work} {trace} {t} r h = record {
     ends =
         r.runs ∙ at_last p outcomes room schedule k h
         ∙ ap (λ (e : ℕ). ended e k (at k))
-        (sym (ap (λ (w : List ℕ). ending_op p w t 8) r.store ∙ ending-is (reached k) rest (owned k) t r.table));
+        (sym (ap (λ (w : List ℕ). end_or_none (ending_op p w t 8)) r.store ∙ ending-is (reached k) rest (owned k) t r.table));
     store = r.store;
     written = r.written;
     counted = r.counted;

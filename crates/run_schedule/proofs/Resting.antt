@@ -1,8 +1,8 @@
 -- The words beyond the configuration's: the stored holders and what the caller keeps. What is ready before an entry is
 -- so whatever those words are, and the lines that a trace holds are the state's.
 use Prim.Native.Nat.{ℕ, ◌*◌}
-use mathlib.Core.Path.{◌≡◌, refl, sym, ◌∙◌, ap, subst}
-use mathlib.Core.List.{List, [], ◌∷◌, ◌++◌}
+use mathlib.Core.Path.{◌≡◌, sym, ◌∙◌, ap}
+use mathlib.Core.List.{List, ◌++◌}
 use lib.ListN.{take, drop, length}
 use lib.Seq.{take_at}
 use Rattle.machine.specs.State.{Line}

@@ -2,12 +2,10 @@
 -- schedule make of it.
 use Prim.Native.Nat.{ℕ, zero, suc, ◌+◌, ◌*◌, ◌-◌, ◌/◌, ◌≤◌, ◌<◌}
 use mathlib.Core.Path.{◌≡◌, refl, sym, ◌∙◌, ap, ap₂, subst}
-use mathlib.Core.Logic.{◌≢◌, ⊎_elim}
 use mathlib.Core.Bool.{Bool}
-use mathlib.Core.List.{List, [], ◌∷◌, ◌++◌, append_assoc}
+use mathlib.Core.List.{List, [], ◌++◌}
 use native.Mathlib.Omega.{arith}
 use lib.ListN.{get_or, drop, length, length-append}
-use lib.Seq.{drop_at}
 use Rattle.lists.specs.Lists.{All}
 use Rattle.lists.proofs.Tests.{cond_both}
 use Rattle.table.specs.Table.{word, methods, arg_at}
@@ -20,22 +18,25 @@ use Rattle.trace.specs.Trace.{lines_of}
 use Rattle.machine.proofs.Steps.{state_at}
 use Rattle.layout.specs.Layout.{encode}
 use Rattle.layout.specs.Holders.{holder_words, store_after}
-use Rattle.layout.proofs.HolderWords.{words-length}
 use Rattle.layout.proofs.RoundTrip.{encode-length}
 use Rattle.run_values.specs.ValuesCode.{AfterStep}
 use Rattle.run_holders.specs.HoldersCode.{holders_after_lines, changed_from, nobody}
 use Rattle.run_holders.specs.StoredCode.{stored_after_lines}
 use Rattle.run_holders.proofs.StoredWords.{stored_lines}
-use Rattle.run_ability.specs.EndingCode.{ending_op}
+use Rattle.std.specs.Prelude.{Option, Some, None, unwrap_or}
+use Rattle.run_ability.specs.PairingCode.{Near}
+use Rattle.run_ability.specs.declared.ends.End.{End}
+use Rattle.run_ability.specs.declared.ends.End.TheVariants.{ScheduleUsed}
+use Rattle.run_ability.specs.EndingCode.{end_number, end_or_none, ending_op}
 use Rattle.run_entry.specs.EntryCode.{offer_at}
 use Rattle.run_burst.specs.declared.burst.Burst.{Burst}
 use Rattle.run_burst.specs.declared.turn.Turn.{Turn}
+use Rattle.run_burst.specs.declared.turn.Turn.TheVariants.{GoesOn, Ends}
 use Rattle.run_burst.specs.declared.knowledge.Knowledge.{Knowledge}
 use Rattle.run_burst.specs.KnowledgeCode.{nothing_known, with_idle, known_after_step, unless_changed}
 use Rattle.run_burst.specs.BurstCode.{Stop, stops_at, named_op, is_done, stops_here, burst_op, SameBurst}
 use Rattle.run_burst.specs.TurnCode.{after_turn, turn_at}
 use Rattle.run_burst.proofs.AtOnce.{none-taken}
-use Rattle.run_schedule.specs.declared.entries.RunSummary.{RunSummary}
 use Rattle.run_schedule.specs.SummaryCode.{after_run, run_leaves}
 use Rattle.run_schedule.proofs.Ready.{Inputs, Ready, AtEnd, ready-start, ready-last, state-sound}
 use Rattle.run_schedule.proofs.Resting.{lines_to, lines-to, other-rest, ready-rest}
@@ -146,16 +147,16 @@ module _ {p schedule outcomes : List ℕ} {room : ℕ} {t0 : List ℕ} where
     pub few-lines : lines < 16000000
     few-lines = omega (arith, there.counted, there.few_lines, there.inside, g.given.short)
 
-    pub near : (b.offer.sender.0 < 8) × (b.offer.receiver.0 < 8)
+    pub near : Near b.offer
     near = g.stands.near
 
     -- the words that a run leaves
-    over-leaves : (w0 : List ℕ) → beyond ≡ drop 8256 w0 → {end : ℕ} {work' trace' : List ℕ} {lines' used' : ℕ}
-        → AtEnd g.given b.at end work' trace' lines' used'
+    over-leaves : (w0 : List ℕ) → beyond ≡ drop 8256 w0 → (end : End) {work' trace' : List ℕ} {lines' used' : ℕ}
+        → AtEnd g.given b.at (end_number end) work' trace' lines' used'
         → after_run (record { end = end; entries = b.at; lines = lines'; used = used' }) trace' work' ≡ run_leaves
         (run p outcomes room schedule) t0 w0
     unfolding run_leaves store_after
-    over-leaves w0 same {end} o =
+    over-leaves w0 same end o =
         (λ i. after_run (record { end = end; entries = b.at; lines = o.counted i; used = o.drawn i }) (o.written i)
         ((o.store
         ∙ ap₂ (λ (ls : List Line) (l : List ℕ). encode (state_at p outcomes schedule b.at).config
@@ -163,14 +164,20 @@ module _ {p schedule outcomes : List ℕ} {room : ℕ} {t0 : List ℕ} where
         ∙ ap (λ (r : Result). run_leaves r t0 w0) (sym o.ends)
 
     -- the schedule is used up
-    pub going-ends : (w0 : List ℕ) → beyond ≡ drop 8256 w0 → length schedule ≤ b.at → {end : ℕ}
-        → end ≡ ending_op p work t 8 → {o : RunSummary}
-        → o ≡ record { end = end; entries = b.at; lines = lines; used = used }
-        → after_run o trace work ≡ run_leaves (run p outcomes room schedule) t0 w0
-    going-ends w0 same h e q =
-        ap (λ (o : RunSummary). after_run o trace work) q
-        ∙ ap (λ (x : ℕ). after_run (record { end = x; entries = b.at; lines = lines; used = used }) trace work) e
-        ∙ over-leaves w0 same (ready-last g.given b.at there h)
+    pub going-ends : (w0 : List ℕ) → beyond ≡ drop 8256 w0 → length schedule ≤ b.at → {o : Option End}
+        → o ≡ ending_op p work t 8 → {end : End} → end ≡ unwrap_or o ScheduleUsed
+        → after_run (record { end = end; entries = b.at; lines = lines; used = used }) trace work ≡ run_leaves
+        (run p outcomes room schedule) t0 w0
+    unfolding end_or_none end_number
+    going-ends w0 same h {o} asked {end} e =
+        over-leaves w0 same end
+        (subst (λ (i : ℕ). AtEnd g.given b.at i work trace lines used)
+        (sym (ap end_number e ∙ numbered o ∙ ap end_or_none asked))
+        (ready-last g.given b.at there h))
+      where
+        numbered : (x : Option End) → end_number (unwrap_or x ScheduleUsed) ≡ end_or_none x
+        numbered None = refl
+        numbered (Some x) = refl
 
     module _ (more : b.at < length schedule) {r : Turn} {trace' work' : List ℕ}
         (changed : after_turn r trace' work' ≡ turn_at p schedule outcomes trace work room t lines used b) where
@@ -181,24 +188,23 @@ module _ {p schedule outcomes : List ℕ} {room : ℕ} {t0 : List ℕ} where
           (turn-law g.given b.at there more b.step b.offer (g.stands.entered more))
 
       -- the run is over
-      pub going-over : (w0 : List ℕ) → beyond ≡ drop 8256 w0 → r.end ≢ 0 → {o : RunSummary}
-          → o ≡ record { end = r.end; entries = b.at; lines = r.lines; used = r.used }
-          → after_run o trace' work' ≡ run_leaves (run p outcomes room schedule) t0 w0
-      going-over w0 same h q =
-          ap (λ (o : RunSummary). after_run o trace' work') q
-          ∙ ⊎_elim (λ x. absurd (h x.0)) (λ x. over-leaves w0 same x.1) turn
+      pub going-over : (w0 : List ℕ) → beyond ≡ drop 8256 w0 → {end : End} {lines' used' : ℕ} → r ≡ Ends end lines' used'
+          → after_run (record { end = end; entries = b.at; lines = lines'; used = used' }) trace' work' ≡ run_leaves
+          (run p outcomes room schedule) t0 w0
+      going-over w0 same {end} over =
+          over-leaves w0 same end (subst (λ (x : Turn). Turns g.given b.at t lines (after_turn x trace' work')) over turn)
 
-      module _ (goes : r.end ≡ 0) where
+      module _ {lines' used' : ℕ} {left : Knowledge} (goes : r ≡ GoesOn lines' used' left) where
         next :
-            (lines ≤ r.lines) × Ready g.given (suc b.at) work' trace'
-            (holders_after_lines t trace' lines (r.lines - lines)) r.lines r.used
-            (unless_changed r.known (changed_from trace' lines (r.lines - lines)))
-        next = ⊎_elim (λ x. (x.1, x.2)) (λ x. absurd (x.0 goes)) turn
+            (lines ≤ lines') × Ready g.given (suc b.at) work' trace'
+            (holders_after_lines t trace' lines (lines' - lines)) lines' used'
+            (unless_changed left (changed_from trace' lines (lines' - lines)))
+        next = subst (λ (x : Turn). Turns g.given b.at t lines (after_turn x trace' work')) goes turn
 
-        pub lines_more : lines ≤ r.lines
+        pub lines_more : lines ≤ lines'
         lines_more = next.0
 
-        pub lines_fit : (r.lines < 16777216) × (6 * r.lines ≤ length t0)
+        pub lines_fit : (lines' < 16777216) × (6 * lines' ≤ length t0)
         lines_fit = (
           omega (arith, next.1.counted, next.1.few_lines, next.1.inside, g.given.short),
           omega (arith, next.1.counted, next.1.fit, g.given.holds),
@@ -215,7 +221,7 @@ module _ {p schedule outcomes : List ℕ} {room : ℕ} {t0 : List ℕ} where
         unfolding state_at after_effect
         after-lines = refl
 
-        more-lines : r.lines - lines ≡ length new
+        more-lines : lines' - lines ≡ length new
         more-lines =
             omega (
               arith,
@@ -225,8 +231,8 @@ module _ {p schedule outcomes : List ℕ} {room : ℕ} {t0 : List ℕ} where
                   (state_at p outcomes schedule b.at).lines new,
             )
 
-        stored_next : stored_after_lines work' trace' lines (r.lines - lines) ≡ encode after.config ++ rest_of trace'
-            r.lines beyond
+        stored_next : stored_after_lines work' trace' lines (lines' - lines) ≡ encode after.config ++ rest_of trace'
+            lines' beyond
         stored_next =
             (λ i. stored_after_lines
             ((next.1.store ∙ ap (λ (ls : List Line). encode after.config ++ (holder_words ls ++ beyond))
@@ -238,29 +244,29 @@ module _ {p schedule outcomes : List ℕ} {room : ℕ} {t0 : List ℕ} where
             ∙ ap (λ (ls : List Line). encode after.config ++ (holder_words ls ++ beyond))
             (sym (lines-to after.lines t0 next.1.written next.1.counted ∙ after-lines))
 
-        module _ {changes : Bool} (says : changes ≡ changed_from trace' lines (r.lines - lines)) {known : Knowledge}
-            (knows : known ≡ unless_changed r.known changes)
-            {u : List (List ℕ)} (noted : u ≡ holders_after_lines t trace' lines (r.lines - lines))
-            {work'' : List ℕ} (stored : work'' ≡ stored_after_lines work' trace' lines (r.lines - lines))
+        module _ {changes : Bool} (says : changes ≡ changed_from trace' lines (lines' - lines)) {known : Knowledge}
+            (knows : known ≡ unless_changed left changes)
+            {u : List (List ℕ)} (noted : u ≡ holders_after_lines t trace' lines (lines' - lines))
+            {work'' : List ℕ} (stored : work'' ≡ stored_after_lines work' trace' lines (lines' - lines))
           where
-            abbrev newly : Inputs p schedule outcomes t0 (rest_of trace' r.lines beyond) room
-            newly = other-rest g.given (rest_of trace' r.lines beyond)
+            abbrev newly : Inputs p schedule outcomes t0 (rest_of trace' lines' beyond) room
+            newly = other-rest g.given (rest_of trace' lines' beyond)
 
             -- it goes on
-            pub before-next : Before p schedule outcomes room beyond t0 work'' trace' u r.lines r.used (b.at + 1)
+            pub before-next : Before p schedule outcomes room beyond t0 work'' trace' u lines' used' (b.at + 1)
                 known
             before-next = record {
               given = newly;
               from = b.at + 1;
               words = work'';
               ready =
-                  subst (λ (n : ℕ). Ready newly n work'' trace' u r.lines r.used known) {x = suc b.at}
+                  subst (λ (n : ℕ). Ready newly n work'' trace' u lines' used' known) {x = suc b.at}
                   {y = b.at + 1} (omega arith)
-                  (subst (λ (x : Knowledge). Ready newly (suc b.at) work'' trace' u r.lines r.used x)
-                  (sym (knows ∙ ap (unless_changed r.known) says))
-                  (subst (λ (v : List (List ℕ)). Ready newly (suc b.at) work'' trace' v r.lines r.used
-                  (unless_changed r.known (changed_from trace' lines (r.lines - lines))))
+                  (subst (λ (x : Knowledge). Ready newly (suc b.at) work'' trace' u lines' used' x)
+                  (sym (knows ∙ ap (unless_changed left) says))
+                  (subst (λ (v : List (List ℕ)). Ready newly (suc b.at) work'' trace' v lines' used'
+                  (unless_changed left (changed_from trace' lines (lines' - lines))))
                   (sym noted)
-                  (ready-rest g.given (rest_of trace' r.lines beyond) next.1 (stored ∙ stored_next))));
+                  (ready-rest g.given (rest_of trace' lines' beyond) next.1 (stored ∙ stored_next))));
               taken = none-taken;
             }

@@ -7,7 +7,6 @@ ghost use Rattle.run_schedule.specs.SummaryCode.{after_run, run_leaves};
 
 use super::begin::begin_run;
 use super::entries::{RunSummary, run_entries};
-use table::words::word_at;
 
 pub fn accepted_run(
     program: &[u16],
@@ -22,15 +21,6 @@ pub fn accepted_run(
         schedule.now) trace.old work.old }
 {
     begin_run(program, work);
-    let methods = word_at(program, 0);
     let room = trace.len() / 6;
-    run_entries(
-        program,
-        2 + 20 * methods,
-        schedule,
-        outcomes,
-        trace,
-        work,
-        room,
-    )
+    run_entries(program, schedule, outcomes, trace, work, room)
 }

@@ -15,7 +15,8 @@ use Rattle.run_parts.proofs.Lifted.{lent, returned, lifted-words, part-lent}
 use Rattle.run_events.specs.declared.conclude.Single.{Single}
 use Rattle.run_single.specs.declared.result.Count.{Count}
 use Rattle.run_single.specs.declared.result.EntryResult.{EntryResult}
-use Rattle.run_single.specs.ResultCode.{after_entry, taken_to, full_at}
+use Rattle.run_single.specs.ResultCode.{after_entry}
+use Rattle.run_single.specs.declared.result.EntryResult.TheVariants.{Taken, Full}
 use Rattle.run_single.specs.SingleCode.{in_part, counted_words, event_line, recorded, concluded_at, single_op}
 
 -- the answer, the trace and the store each for itself
@@ -56,7 +57,7 @@ module _ (work : List ℕ) (kind : ℕ) where
 -- an entry with one line
 
 module _ (p outcomes trace work : List ℕ) (room : ℕ) (g : Count) (n : ℕ) (does : Single) where
-  pub single-full : {m : EntryResult} → room ≤ g.lines → m ≡ full_at g
+  pub single-full : {m : EntryResult} → room ≤ g.lines → m ≡ Full
       → after_entry m trace work ≡ single_op p outcomes trace work room g n does
   unfolding single_op
   single-full h e = took _ _ _ refl (le-leb room g.lines h) (entry-same e refl refl)
@@ -64,10 +65,10 @@ module _ (p outcomes trace work : List ℕ) (room : ℕ) (g : Count) (n : ℕ) (
   pub single-noted : {t : EventResult} {w v ts : List ℕ} {l : TraceLine} {u : ℕ} {m : EntryResult} → g.lines < room
       → after_event t w ≡ concluded_at p work n does outcomes g.used → v ≡ counted_words w t.kind
       → l ≡ event_line g.entry n t
-      → ts ≡ with_line trace g.lines l → u ≡ (g.used + t.used) % 4294967296 → m ≡ taken_to (g.lines + 1) u
+      → ts ≡ with_line trace g.lines l → u ≡ (g.used + t.used) % 4294967296 → m ≡ Taken (g.lines + 1) u
       → after_entry m ts v ≡ single_op p outcomes trace work room g n does
   unfolding single_op recorded
   single-noted h event-is counted lined written used moved =
       passed-by _ _ _ refl (lt-leb room g.lines h)
-      (entry-same (moved ∙ ap (taken_to (g.lines + 1)) used) (written ∙ ap (with_line trace g.lines) lined) counted
+      (entry-same (moved ∙ ap (Taken (g.lines + 1)) used) (written ∙ ap (with_line trace g.lines) lined) counted
       ∙ ap (recorded trace g n) event-is)

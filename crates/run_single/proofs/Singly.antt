@@ -37,7 +37,8 @@ use Rattle.run_events.proofs.Concluding.{concluded-fault, concluded-ends}
 use Rattle.run_events.specs.declared.conclude.Single.{Single}
 use Rattle.run_events.specs.declared.conclude.Single.TheVariants.{LastRet, Fault}
 use Rattle.run_single.specs.declared.result.Count.{Count}
-use Rattle.run_single.specs.ResultCode.{AfterEntry, after_entry, taken_to, full_at}
+use Rattle.run_single.specs.ResultCode.{AfterEntry, after_entry}
+use Rattle.run_single.specs.declared.result.EntryResult.TheVariants.{Taken, Full}
 use Rattle.run_single.specs.SingleCode.{in_part, concluded_at, counted_words, event_line, recorded, single_op}
 use Rattle.run_single.proofs.Here.{Here}
 
@@ -74,11 +75,11 @@ module _ {p outcomes : List ℕ} {s : State} {t0 : List ℕ} {room : ℕ} (here 
   -- what a taken entry leaves, and what an entry leaves by whether its lines fit
   abbrev pub took : Effect → AfterEntry
   took e =
-      after_entry (taken_to (length (s.lines ++ e.lines)) (s.used + e.used)) (trace_after (s.lines ++ e.lines) t0)
+      after_entry (Taken (length (s.lines ++ e.lines)) (s.used + e.used)) (trace_after (s.lines ++ e.lines) t0)
       (encode e.config ++ rest)
 
   abbrev pub full : AfterEntry
-  full = after_entry (full_at count) trace work
+  full = after_entry Full trace work
 
   abbrev pub tried : Effect → AfterEntry
   tried e = cond (fits room s e) (took e) full
@@ -98,7 +99,7 @@ module _ {p outcomes : List ℕ} {s : State} {t0 : List ℕ} {room : ℕ} (here 
     single-law what answer pr ev e conc long line ls us one cw = go (leb room (length s.lines)) refl
       where
         stored : recorded trace count n (concluded_at p work n what outcomes s.used)
-            ≡ after_entry (taken_to (length s.lines + 1) ((s.used + answer.used) % 4294967296))
+            ≡ after_entry (Taken (length s.lines + 1) ((s.used + answer.used) % 4294967296))
             (with_line trace (length s.lines) (event_line k n answer))
             (counted_words (encode (set_process config n pr) ++ rest) answer.kind)
         stored =
@@ -123,7 +124,7 @@ module _ {p outcomes : List ℕ} {s : State} {t0 : List ℕ} {room : ℕ} (here 
             (omega (arith, leb-true room (length s.lines) h, ap length ls))))
         go false h =
             stored
-            ∙ (λ i. after_entry (taken_to (lines-count i) (used-same i)) (trace-same i) (cw i))
+            ∙ (λ i. after_entry (Taken (lines-count i) (used-same i)) (trace-same i) (cw i))
             ∙ sym (ap (λ (b : Bool). cond b (took e) full)
             (le-leb (length s.lines + length e.lines) room
             (omega (arith, leb-false room (length s.lines) h, ap length ls))))

@@ -9,7 +9,8 @@ use Rattle.run_gates.specs.GatesCode.{AfterEvent, after_event}
 use Rattle.run_events.specs.declared.conclude.Single.{Single}
 use Rattle.run_events.specs.ConcludeCode.{conclude_op}
 use Rattle.run_single.specs.declared.result.Count.{Count}
-use Rattle.run_single.specs.ResultCode.{AfterEntry, after_entry, taken_to, full_at}
+use Rattle.run_single.specs.ResultCode.{AfterEntry, after_entry}
+use Rattle.run_single.specs.declared.result.EntryResult.TheVariants.{Taken, Full}
 
 -- what was done in part n, as done to the store
 unfoldable pub in_part : List ℕ → ℕ → AfterEvent → AfterEvent
@@ -30,11 +31,11 @@ event_line entry n t = record { entry = entry; process = n; kind = t.kind; a = t
 -- the line written, and the thing counted
 unfoldable pub recorded : List ℕ → Count → ℕ → AfterEvent → AfterEntry
 recorded trace g n l =
-    after_entry (taken_to (g.lines + 1) ((g.used + l.event.used) % 4294967296))
+    after_entry (Taken (g.lines + 1) ((g.used + l.event.used) % 4294967296))
     (with_line trace g.lines (event_line g.entry n l.event))
     (counted_words l.words l.event.kind)
 
 unfoldable pub single_op : List ℕ → List ℕ → List ℕ → List ℕ → ℕ → Count → ℕ → Single → AfterEntry
 single_op p outcomes trace work room g n does =
-    cond (leb room g.lines) (after_entry (full_at g) trace work)
+    cond (leb room g.lines) (after_entry Full trace work)
     (recorded trace g n (concluded_at p work n does outcomes g.used))

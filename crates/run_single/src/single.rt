@@ -1,29 +1,28 @@
 // An entry with one line.
 ghost use Rattle.std.specs.Prelude.{◌≡◌, ◌+◌, ◌*◌, ◌<◌, ◌≤◌, length};
-ghost use Rattle.table.specs.Table.{methods};
 ghost use Rattle.run_gates.specs.GatesCode.{after_event};
 ghost use Rattle.run_single.specs.ResultCode.{after_entry};
 ghost use Rattle.run_single.specs.SingleCode.{concluded_at, counted_words, event_line, single_op};
 
-use super::result::{Count, EntryResult, full, taken};
+use super::result::{Count, EntryResult};
 use run_events::conclude::{Single, conclude};
 use run_gates::event::EventResult;
 use run_parts::part::part_at;
 use run_store::references::ProcessNo;
 use run_store::values::{get, low, put};
+use table::program::Program;
 use trace_lines::{TraceLine, write_line};
 
 // The entry carried out in the process's part.
 fn conclude_at(
-    p: &[u16],
-    start: usize,
+    p: &Program<'_>,
     work: &mut [u32],
     n: ProcessNo,
     does: Single,
     outcomes: &[u8],
     used: u32,
 ) -> EventResult
-    requires { (start ≡ 2 + 20 * methods p.now) × (8192 ≤ length work.old) × (n.0 < 8) }
+    requires { (8192 ≤ length work.old) × (n.0 < 8) }
     ensures { after_event result work.new
         ≡ concluded_at p.now work.old n.0 does outcomes.now used }
 {
@@ -33,7 +32,6 @@ fn conclude_at(
     let to = from + 512;
     conclude(
         p,
-        start,
         &mut work[from..to],
         does,
         qubits,
@@ -62,7 +60,7 @@ fn event_line(entry: u16, n: ProcessNo, t: EventResult) -> TraceLine
     ensures { result ≡ event_line entry n.0 t }
 {
     TraceLine {
-        entry: entry,
+        entry,
         process: n.0,
         kind: t.kind,
         a: t.a,
@@ -73,8 +71,7 @@ fn event_line(entry: u16, n: ProcessNo, t: EventResult) -> TraceLine
 
 // An entry with one line.
 pub fn single(
-    p: &[u16],
-    start: usize,
+    p: &Program<'_>,
     outcomes: &[u8],
     trace: &mut [u16],
     work: &mut [u32],
@@ -83,17 +80,20 @@ pub fn single(
     n: ProcessNo,
     does: Single,
 ) -> EntryResult
-    requires { (start ≡ 2 + 20 * methods p.now) × (8192 ≤ length work.old) × (n.0 < 8)
+    requires { (8192 ≤ length work.old) × (n.0 < 8)
         × (g.lines < 16000000) }
     ensures { after_entry result trace.new work.new
         ≡ single_op p.now outcomes.now trace.old work.old
         room g n.0 does }
 {
     if room <= g.lines as usize {
-        return full(g);
+        return EntryResult::Full;
     }
-    let t = conclude_at(p, start, work, n, does, outcomes, g.used);
+    let t = conclude_at(p, work, n, does, outcomes, g.used);
     count_made(work, t.kind);
     write_line(trace, g.lines, event_line(g.entry, n, t));
-    taken(g.lines + 1, low(g.used as usize + t.used as usize))
+    EntryResult::Taken {
+        lines: g.lines + 1,
+        used: low(g.used as usize + t.used as usize),
+    }
 }

@@ -19,12 +19,10 @@ pub fn below(top: usize, j: u16) -> usize
 pub fn any_empty(w: &[u32], top: usize, n: u16) -> bool
     ensures { result ≡ empty_down w.now top n }
 {
-    let mut j: u16 = 0;
-    while j < n {
+    for j in 0..n {
         if get(w, below(top, j)) == 0 {
             return true;
         }
-        j += 1;
     }
     false
 }
@@ -43,10 +41,8 @@ pub fn move_down(w: &mut [u32], top: usize, to: usize, n: u16)
     requires { to < 4294967296 }
     ensures { w.new ≡ moved_down w.old top to n n }
 {
-    let mut j: u16 = 0;
-    while j < n {
+    for j in 0..n {
         move_one(w, below(top, j), to + 2 * ((n - 1 - j) as usize));
-        j += 1;
     }
 }
 
@@ -55,10 +51,8 @@ fn clear_within(w: &mut [u32], from: usize, n: usize)
     requires { from + n ≤ length w.old }
     ensures { w.new ≡ cleared_from w.old from n }
 {
-    let mut i = 0;
-    while i < n {
+    for i in 0..n {
         w[from + i] = 0;
-        i += 1;
     }
 }
 

@@ -43,10 +43,8 @@ pub fn empty_one(w: &mut [u32], t: Val, i: usize)
 pub fn give_away(w: &mut [u32], t: Val, n: u16)
     ensures { w.new ≡ emptied_by w.old t n }
 {
-    let mut j: u16 = 0;
-    while j < n {
+    for j in 0..n {
         empty_one(w, t, 64 + 2 * (j as usize));
-        j += 1;
     }
 }
 
@@ -84,9 +82,7 @@ pub fn give_qubit(w: &mut [u32], number: u32, n: u16)
     requires { 64 + 16 * n ≤ length w.old }
     ensures { w.new ≡ emptied_by w.old (record { tag = 3; number = number }) (8 * n) }
 {
-    let mut j: u16 = 0;
-    while j < n {
+    for j in 0..n {
         lose_eight(w, number, 64 + 16 * (j as usize));
-        j += 1;
     }
 }

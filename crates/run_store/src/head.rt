@@ -22,7 +22,7 @@ pub fn read_head(w: &[u32]) -> Head
     Head {
         status: get(w, 0),
         fault: get(w, 1),
-        frames: frames,
+        frames,
         method: get(w, at),
         place: get(w, at + 1),
         pending: get(w, at + 2),

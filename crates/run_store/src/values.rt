@@ -24,21 +24,18 @@ pub fn low(x: usize) -> u32
     (x % 4294967296) as u32
 }
 
+// The word at an index, 0 past the end.
 pub fn get(w: &[u32], at: usize) -> u32
     ensures { result ≡ get_or w.now at 0 }
 {
-    if at < w.len() {
-        return w[at];
-    }
-    0
+    slices::at_or(w, at, 0)
 }
 
+// A word written.
 pub fn put(w: &mut [u32], at: usize, x: u32)
     ensures { w.new ≡ set w.old at x }
 {
-    if at < w.len() {
-        w[at] = x;
-    }
+    slices::put(w, at, x);
 }
 
 pub fn value(w: &[u32], at: usize) -> Val

@@ -4,6 +4,7 @@ use mathlib.Core.Path.{◌≡◌, sym, ◌∙◌, ap, subst}
 use mathlib.Core.Bool.{Bool}
 use mathlib.Core.List.{List}
 use Rattle.table.specs.Table.{word, methods}
+use Rattle.table.proofs.Start.{op-there, argument-there}
 use Rattle.run_store.specs.declared.head.Head.{Head}
 use Rattle.run_store.specs.StoreCode.{head_of}
 use Rattle.run_ops.specs.OpsCode.{call_op, ret_op, op_functions, act_op, step_op}
@@ -14,7 +15,9 @@ module _ (p w : List ℕ) (start : ℕ) {h : Head} {op a : ℕ} (e : h ≡ head_
     methods p)
     (o : op ≡ word p (start + 2 * h.place)) (i : a ≡ word p (start + 2 * h.place + 1)) where
   acts : (n : ℕ) → op ≡ n → act_op p w h n a ≡ step_op p w
-  acts n z = step-acts p w start {h = h} {op = op} {a = a} e run s o i (ap (λ (x : ℕ). act_op p w h x a) (sym z))
+  acts n z =
+      step-acts p w {h = h} {op = op} {a = a} e run (op-there p start h.place s o) (argument-there p start h.place s i)
+      (ap (λ (x : ℕ). act_op p w h x a) (sym z))
 
   pub calls-step : {r : Bool} {w₁ : List ℕ} → op ≡ 12 → Does r (call_op p w h a) w w₁ → Does r (step_op p w) w w₁
   unfolding act_op op_functions

@@ -4,25 +4,26 @@ use mathlib.Core.Path.{◌≡◌, refl, sym, ◌∙◌, ap, subst}
 use mathlib.Core.Bool.{Bool, true, false, ◌||◌, not, true≢false}
 use mathlib.Core.List.{List, ◌++◌}
 use native.Mathlib.Omega.{arith}
-use lib.ListN.{get_or, set, length, length-set, take, drop, length-drop}
+use Rattle.std.specs.Prelude.{Option}
+use lib.ListN.{get_or, set, length, length-set, take, drop}
 use lib.Seq.{length-take-le, drop_at, take_at}
 use borrow.Rule.Slice.PartMut.{mid_of, put_mid}
 use borrow.Author.Tests.{ltb-false, leb-false, eqb-true}
 use lib.Dec.{eqb, ltb, leb}
 use Rattle.table.specs.Table.{word, methods}
+use Rattle.table.proofs.Start.{op-there, argument-there}
 use Rattle.run_store.specs.declared.head.Head.{Head}
 use Rattle.run_store.specs.StoreCode.{head_of, head_at, put_top}
-use Rattle.run_values.specs.ValuesCode.{AfterStep, after_step}
 use Rattle.run_ops.specs.OpsCode.{act_op, step_op}
 use Rattle.run_ops.proofs.Returns.{step-acts}
 use Rattle.run_parts.specs.PartsCode.{part_at, part_of, with_part}
 use Rattle.run_parts.proofs.Lifted.{lifted-words, part-lent}
 use Rattle.run_parts.proofs.Apart.{part-long}
 use Rattle.run_cursor.specs.declared.cursor.Cursor.{Cursor}
-use Rattle.run_cursor.specs.CursorCode.{head_with, laid, cursor, HeadFits, CursorStep}
+use Rattle.run_cursor.specs.CursorCode.{head_with, laid, cursor, HeadFits, CursorStep, CursorWent}
 use Rattle.run_frames.specs.FramesCode.{Does}
 use Rattle.run_stretch.specs.StretchCode.{Halts, PlainSteps, begins, goes_on}
-use Rattle.run_cursor.proofs.Laid.{head-laid, laid-first, steady-at}
+use Rattle.run_cursor.proofs.Laid.{head-laid, laid-first}
 use Rattle.run_cursor.proofs.Shapes.{goes-as}
 
 -- the op by its number
@@ -30,14 +31,13 @@ pub by-op : (p w : List ℕ) (h : Head) (a : ℕ) {op n : ℕ} → op ≡ n → 
 by-op p w h a e = ap (λ (o : ℕ). act_op p w h o a) e
 
 -- the step of a process that runs is its op's
-pub steps_on : (p : List ℕ) (start : ℕ) {h : Head} {w : List ℕ} {c : Cursor} {w' : List ℕ} {r : Cursor} {op a : ℕ} →
-    HeadFits h w c → h.status ≡ 1
+pub steps_on : (p : List ℕ) (start : ℕ) {h : Head} {w : List ℕ} {c : Cursor} {op a : ℕ} → HeadFits h w c → h.status ≡ 1
     → start ≡ 2 + 20 * methods p → op ≡ word p (start + 2 * c.place) → a ≡ word p (start + 2 * c.place + 1)
-    → {I : ℕ → Type 0} → CursorStep (act_op p (laid w h c) (head_with h c) op a) I h w c w' r
-    → CursorStep (step_op p (laid w h c)) I h w c w' r
+    → (I : ℕ → Type 0) (w' : List ℕ) (r : Option Cursor) → CursorStep (act_op p (laid w h c) (head_with h c) op a) I h w w' r
+    → CursorStep (step_op p (laid w h c)) I h w w' r
 unfolding head_with
-steps_on p start {h} {w} {c} s e b o i g = goes-as (sym (step-acts p (laid w h c) start {h = head_with h c} (sym
-    (head-laid s)) e b o i refl)) g
+steps_on p start {h} {w} {c} s e b o i I w' r g = goes-as I h w w' r (sym (step-acts p (laid w h c) {h = head_with h c}
+    (sym (head-laid s)) e (op-there p start c.place b o) (argument-there p start c.place b i) refl)) g
 
 pub laid-long : {h : Head} {w : List ℕ} {c : Cursor} → HeadFits h w c → length (laid w h c) ≡ 512
 unfolding laid put_top head_with
@@ -45,11 +45,6 @@ laid-long {h} {w} {c} s =
     length-set (set w (head_at h.frames + 1) c.place) (head_at h.frames + 2) c.pending
     ∙ length-set w (head_at h.frames + 1) c.place
     ∙ s.long
-
--- the cursor counts by its place and its number of pending values
-pub laid_by : (w : List ℕ) (h : Head) (c : Cursor) → laid w h c ≡ laid w h (cursor c.place c.pending)
-unfolding laid head_with
-laid_by w h c = refl
 
 module _ {p schedule : List ℕ} {n from : ℕ} {w₀ : List ℕ} where
   pub ran-up : {k : ℕ} {w : List ℕ} → PlainSteps p schedule n from w₀ k w → from ≤ k
@@ -63,22 +58,9 @@ module _ {p schedule : List ℕ} {n from : ℕ} {w₀ : List ℕ} where
   -- one step more at the cursor
   pub ran-step : {k : ℕ} {h : Head} {w w' : List ℕ} {c d : Cursor} → PlainSteps p schedule n from w₀ k (laid w h c) →
       k < length schedule → get_or schedule k 0 ≡ n
-      → HeadFits h w c → {I : ℕ → Type 0} → CursorStep (step_op p (laid w h c)) I h w c w' d → d.halted ≡ false
+      → HeadFits h w c → {I : ℕ → Type 0} → CursorWent (step_op p (laid w h c)) I h w' d
       → PlainSteps p schedule n from w₀ (k + 1) (laid w' h d)
-  ran-step r l e s g z = goes_on r l e (laid-long s) (laid-long g.steady) (g.going z)
-
-  -- where the frame's entries end
-  pub frame-ends : {k : ℕ} (h : Head) (w : List ℕ) (c : Cursor) → PlainSteps p schedule n from w₀ k (laid w h c)
-      → HeadFits h w c → k ≤ length schedule
-      → {Why : Type 0} → Why
-      → PlainSteps p schedule n from w₀ k (laid w h (cursor c.place c.pending)) × HeadFits h w (cursor c.place
-      c.pending) × (k ≤ length schedule) × Why
-  frame-ends h w c r s l why = (
-    ran-same r (sym (laid_by w h c)),
-    steady-at s (cursor c.place c.pending) s.few,
-    l,
-    why,
-  )
+  ran-step r l e s g = goes_on r l e (laid-long s) (laid-long g.steady) g.done
 
   -- entries and then those after them
   pub ran_then : {k : ℕ} {w : List ℕ} {k' : ℕ} {w' : List ℕ} → PlainSteps p schedule n from w₀ k w
@@ -86,60 +68,36 @@ module _ {p schedule : List ℕ} {n from : ℕ} {w₀ : List ℕ} where
   ran_then r begins = r
   ran_then r (goes_on q l e long long' s) = goes_on (ran_then r q) l e long long' s
 
--- a cursor that halts stands where it stood
-pub halted-place : {h : Head} {w w' : List ℕ} {c d : Cursor} → HeadFits h w c → HeadFits h w' d
-    → laid w' h d ≡ laid w h c → d.place ≡ c.place
-unfolding head_with
-halted-place s t e = ap (λ (g : Head). g.place) (sym (head-laid t) ∙ ap head_of e ∙ head-laid s)
-
 -- from the words of a process on, and back to them
-pub ran-top : {p schedule : List ℕ} {n from k : ℕ} {w w₂ : List ℕ} {h : Head} (w₁ : List ℕ) (i m : ℕ) → h ≡ head_of w
-    → PlainSteps p schedule n from (laid w h (cursor h.place h.pending)) k (laid w₁ h (cursor i m))
-    → w₂ ≡ put_top w₁ (record {
-      status = h.status;
-      fault = h.fault;
-      frames = h.frames;
-      method = h.method;
-      place = i;
-      pending = m;
-    })
+pub ran-top : {p schedule : List ℕ} {n from k : ℕ} {w w₂ : List ℕ} {h : Head} (w₁ : List ℕ) (c : Cursor) → h ≡ head_of w
+    → PlainSteps p schedule n from (laid w h (cursor h.place h.pending)) k (laid w₁ h c)
+    → w₂ ≡ put_top w₁ (head_with h c)
     → PlainSteps p schedule n from w k w₂
-unfolding laid head_with
-ran-top {p} {schedule} {n} {from} {k} {w} {w₂} {h} w₁ i m e r q =
-    ran-same (subst (λ (v : List ℕ). PlainSteps p schedule n from v k (laid w₁ h (cursor i m))) (laid-first w e) r) q
+unfolding laid
+ran-top {p} {schedule} {n} {from} {k} {w} {w₂} {h} w₁ c e r q =
+    ran-same (subst (λ (v : List ℕ). PlainSteps p schedule n from v k (laid w₁ h c)) (laid-first w e) r) q
 
-abbrev pub head_at_place : Head → ℕ → ℕ → Head
-head_at_place h i m = record {
-  status = h.status;
-  fault = h.fault;
-  frames = h.frames;
-  method = h.method;
-  place = i;
-  pending = m;
-}
-
-pub head-there : (h : Head) (w : List ℕ) (i m : ℕ) → HeadFits h w (cursor i m) → head_of (put_top w (head_at_place h i m)) ≡
-    head_at_place h i m
-unfolding laid head_with
-head-there h w i m s = head-laid s
+pub head-there : (h : Head) (w : List ℕ) (c : Cursor) → HeadFits h w c → head_of (put_top w (head_with h c)) ≡ head_with h c
+unfolding laid
+head-there h w c s = head-laid s
 
 -- the CALL or RET after them, with the head put back, or nothing
-module _ {p schedule : List ℕ} {n from k : ℕ} {w w₂ : List ℕ} {h : Head} {r : Bool} (w₁ : List ℕ) (i m : ℕ) (e : h ≡
+module _ {p schedule : List ℕ} {n from k : ℕ} {w w₂ : List ℕ} {h : Head} {r : Bool} (w₁ : List ℕ) (c : Cursor) (e : h ≡
     head_of w)
-    (ran : PlainSteps p schedule n from (laid w h (cursor h.place h.pending)) k (laid w₁ h (cursor i m))) where
-  pub ran-changed : HeadFits h w₁ (cursor i m) → Halts p schedule n h.method k i → Does r (step_op p (put_top w₁
-      (head_at_place h i m))) (put_top w₁ (head_at_place h i m)) w₂ → length w₂ ≡ 512 → r ≡ true
+    (ran : PlainSteps p schedule n from (laid w h (cursor h.place h.pending)) k (laid w₁ h c)) where
+  pub ran-changed : HeadFits h w₁ c → Halts p schedule n h.method k c.place → Does r (step_op p (put_top w₁
+      (head_with h c))) (put_top w₁ (head_with h c)) w₂ → length w₂ ≡ 512 → r ≡ true
       → PlainSteps p schedule n from w (k + 1) w₂ × (k + 1 ≤ length schedule) × (from < k + 1)
-  unfolding laid head_with
+  unfolding laid
   ran-changed s t d long z = (
-    goes_on (ran-top w₁ i m e ran refl) t.ahead t.names (laid-long s) long (d.done z),
+    goes_on (ran-top w₁ c e ran refl) t.ahead t.names (laid-long s) long (d.done z),
     omega (arith, t.ahead),
     omega (arith, ran-up ran),
   )
 
-  pub ran-left : Does r (step_op p (put_top w₁ (head_at_place h i m))) (put_top w₁ (head_at_place h i m)) w₂ → r ≡ false
+  pub ran-left : Does r (step_op p (put_top w₁ (head_with h c))) (put_top w₁ (head_with h c)) w₂ → r ≡ false
       → PlainSteps p schedule n from w k w₂
-  ran-left d z = ran-top w₁ i m e ran (d.left z)
+  ran-left d z = ran-top w₁ c e ran (d.left z)
 
 -- what was tested of a head
 pub frames-fit : (f : ℕ) → (ltb f 1 || ltb 8 f) ≡ false → (1 ≤ f) × (f ≤ 8)

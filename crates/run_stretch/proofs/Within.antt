@@ -1,16 +1,16 @@
 -- Within a method of an accepted table: what the check says of the instruction at a place, and where it leads.
-use Prim.Native.Nat.{ℕ, suc, ◌+◌, ◌*◌, ◌%◌, ◌≤◌, ◌<◌}
+use Prim.Native.Nat.{ℕ, ◌+◌, ◌*◌, ◌%◌, ◌≤◌, ◌<◌}
 use mathlib.Core.Path.{◌≡◌, refl, sym, ◌∙◌, ap, subst}
 use mathlib.Core.Bool.{Bool, true, false, ◌||◌, ◌&&◌}
 use mathlib.Core.List.{List}
 use native.Mathlib.Nat.{mod-eq_of_lt}
 use native.Mathlib.Omega.{arith}
 use lib.ListN.{length, get_or, get_or-eq_default}
-use lib.Dec.{T, eqb, ltb, leb}
+use lib.Dec.{T, eqb, ltb}
 use mir.Facts.{and_yes}
 use borrow.Author.Tests.{ltb-true, ltb-false}
-use Rattle.lists.proofs.Tests.{passed, passes}
-use Rattle.table.specs.Table.{word, methods, instructions, offset_of, length_of, end_of, op_at, arg_at, owner_of}
+use Rattle.lists.proofs.Tests.{passed}
+use Rattle.table.specs.Table.{word, methods, offset_of, length_of, end_of, op_at, arg_at}
 use Rattle.table.specs.Ops.{unlisted, ops, op_of}
 use Rattle.table.specs.Reading.{op_there}
 use Rattle.table.proofs.Ops.{ops-opened, closes-op, jumps-op, jumps-inside}

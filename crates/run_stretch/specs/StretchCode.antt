@@ -1,5 +1,7 @@
 -- Steps of one process, one after the other. These definitions follow the code.
-use Rattle.std.specs.Prelude.{ℕ, ◌+◌, ◌<◌, ◌≡◌, List, get_or, length}
+use Rattle.std.specs.Prelude.{ℕ, ◌+◌, ◌<◌, ◌≤◌, ◌≡◌, List, get_or, length}
+use Rattle.std.specs.declared.ops.ControlFlow.{ControlFlow}
+use Rattle.std.specs.ControlFlow.{MatchControlFlow}
 use Rattle.table.specs.Table.{op_at, arg_at}
 use Rattle.table.proofs.Owners.{Inside}
 use Rattle.run_values.specs.ValuesCode.{after_step}
@@ -25,3 +27,10 @@ pub data PlainSteps (p schedule : List ℕ) (n from : ℕ) (w₀ : List ℕ) : �
   goes_on : {k : ℕ} {w w' : List ℕ} → PlainSteps p schedule n from w₀ k w → k < length schedule
       → get_or schedule k 0 ≡ n → length w ≡ 512 → length w' ≡ 512
       → step_op p w ≡ after_step WentOn w' → PlainSteps p schedule n from w₀ (k + 1) w'
+
+-- the entries of one frame are plain steps up to index k: it goes on in the next frame, some entry having been passed,
+-- or ends there
+abbrev pub FrameRun : (p schedule : List ℕ) (n from : ℕ) (w w' : List ℕ) → ControlFlow ℕ ℕ → Type 0
+FrameRun p schedule n from w w' r =
+    MatchControlFlow r (λ k. PlainSteps p schedule n from w k w' × (k ≤ length schedule) × (from < k))
+    (λ k. PlainSteps p schedule n from w k w' × (k ≤ length schedule))

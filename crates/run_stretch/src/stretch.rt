@@ -1,5 +1,5 @@
 // Entries one after the other, as long as they name one process and are done here.
-ghost use Rattle.std.specs.Prelude.{◌≡◌, true, ℕ, ◌+◌, ◌*◌, ◌-◌, ◌<◌, ◌≤◌, length};
+ghost use Rattle.std.specs.Prelude.{◌≡◌, true, ℕ, ◌+◌, ◌*◌, ◌-◌, ◌<◌, ◌≤◌, length, IfSome};
 ghost use Rattle.table.specs.Table.{methods, offset_of};
 ghost use Rattle.table.proofs.Accepted.{Kept};
 ghost use Rattle.table.proofs.Owners.{Inside};
@@ -8,7 +8,7 @@ ghost use Rattle.run_ops.specs.OpsCode.{step_op};
 ghost use Rattle.run_parts.specs.PartsCode.{part_of, with_part};
 ghost use Rattle.run_cursor.specs.CursorCode.{laid, cursor, HeadFits};
 ghost use Rattle.run_frames.specs.FramesCode.{Does};
-ghost use Rattle.run_stretch.specs.StretchCode.{Halts, PlainSteps};
+ghost use Rattle.run_stretch.specs.StretchCode.{FrameRun, Halts, PlainSteps};
 
 use super::turn::step_on;
 use run_cursor::cursor::Cursor;
@@ -16,13 +16,13 @@ use run_frames::frames::{call, head_of, ret};
 use run_parts::part::part_at;
 use run_store::head::{Head, put_top};
 use run_store::references::ProcessNo;
+use std::ops::ControlFlow;
 
 // The first entry that is not done, and where the top frame stands; halted where that entry names the process.
 #[derive(Drop)]
 pub struct StretchEnd {
     pub at: usize,
-    pub place: u32,
-    pub pending: u32,
+    pub cursor: Cursor,
     pub halted: bool,
 }
 
@@ -41,63 +41,59 @@ fn run_frame(
     requires { HeadFits h w.old c × (h.status ≡ 1) × (offset ≡ offset_of p.now h.method) × (offset < 65536)
         × (start ≡ 2 + 20 * methods p.now) × Kept p.now × Inside p.now h.method c.place × (from ≤ length
         schedule.now) }
-    ensures { PlainSteps p.now schedule.now n from (laid w.old h c) result.at
-        (laid w.new h (cursor result.place result.pending))
-        × HeadFits h w.new (cursor result.place result.pending) × (result.at ≤ length schedule.now)
-        × (result.halted ≡ true → Halts p.now schedule.now n h.method result.at result.place) }
+    ensures { PlainSteps p.now schedule.now n from (laid w.old h c) result.at (laid w.new h result.cursor)
+        × HeadFits h w.new result.cursor × (result.at ≤ length schedule.now)
+        × (result.halted ≡ true → Halts p.now schedule.now n h.method result.at result.cursor.place) }
 {
-    let mut k = from;
-    let mut s = c;
-    while k < schedule.len() {
-        if schedule[k] != n {
+    let mut cursor = c;
+    for at in from..schedule.len() {
+        if schedule[at] != n {
             return StretchEnd {
-                at: k,
-                place: s.place,
-                pending: s.pending,
+                at,
+                cursor,
                 halted: false,
             };
         }
-        let d = step_on(p, start, w, h, s, offset);
-        if d.halted {
-            return StretchEnd {
-                at: k,
-                place: d.place,
-                pending: d.pending,
-                halted: true,
-            };
+        match step_on(p, start, w, h, cursor, offset) {
+            Some(next) => cursor = next,
+            None => {
+                return StretchEnd {
+                    at,
+                    cursor,
+                    halted: true,
+                };
+            }
         }
-        s = d;
-        k += 1;
     }
     StretchEnd {
-        at: k,
-        place: s.place,
-        pending: s.pending,
+        at: schedule.len(),
+        cursor,
         halted: false,
     }
 }
 
-// The first instruction of a method and the one after its last; none where there is no such method.
+// The first instruction of a method and the one after its last.
 #[derive(Drop)]
 struct Span {
     first: u32,
     end: u32,
 }
 
-fn span_of(p: &[u16], m: u32) -> Span
+// They, where there is such a method.
+fn span_of(p: &[u16], m: u32) -> Option<Span>
     requires { Kept p.now }
-    ensures { (result.first < 65536) × ((i : ℕ) → result.first ≤ i → i < result.end → (result.first ≡ offset_of p.now
-        m) × Inside p.now m i) }
+    ensures { IfSome result (λ s. (s.first < 65536) × ((i : ℕ) → s.first ≤ i → i < s.end → (s.first ≡ offset_of p.now
+        m) × Inside p.now m i)) }
 {
     if p[0] as u32 <= m {
-        return Span { first: 0, end: 0 };
+        return None;
     }
     let at = 2 + 2 * (m as usize);
     let first = p[at] as u32;
-    Span {
-        first: first,
+    Some(Span {
+        first,
         end: first + p[at + 1] as u32,
-    }
+    })
 }
 
 // The head put back, and then CALL or RET: whether it was done. The op is read before anything is written, so that what
@@ -112,23 +108,15 @@ fn change_frame(p: &[u16], start: usize, w: &mut [u32], h: Head) -> bool
     let op = p[at] % 32;
     let a = p[at + 1];
     put_top(w, h);
-    if op == 12 {
-        return call(p, w, h, a);
+    match op {
+        12 => call(p, w, h, a),
+        13 => ret(p, w, h),
+        _ => false,
     }
-    if op == 13 {
-        return ret(p, w, h);
-    }
-    false
 }
 
-// The first entry that is not done, and whether a frame was opened or closed just before it.
-#[derive(Drop)]
-struct NextEntry {
-    at: usize,
-    changed: bool,
-}
-
-// The entries of the top frame, its head h, with the CALL or RET that ends them; `first` is where its method starts.
+// The entries of the top frame, its head h, with the CALL or RET that ends them; `first` is where its method starts. The
+// answer is the first entry that is not done, and whether the process goes on there in the next frame.
 fn run_head(
     p: &[u16],
     start: usize,
@@ -138,69 +126,59 @@ fn run_head(
     schedule: &[u8],
     from: usize,
     n: u8,
-) -> NextEntry
+) -> ControlFlow<usize, usize>
     requires { HeadFits h w.old (cursor h.place h.pending) × (h ≡ head_of w.old) × (h.status ≡ 1) × (first ≡
         offset_of p.now h.method) × (first < 65536)
         × (start ≡ 2 + 20 * methods p.now) × Kept p.now × Inside p.now h.method h.place × (from ≤ length
         schedule.now) }
-    ensures { PlainSteps p.now schedule.now n from w.old result.at w.exit.now × (result.at ≤ length schedule.now)
-        × (result.changed ≡ true → from < result.at) }
+    ensures { FrameRun p.now schedule.now n from w.old w.exit.now result }
 {
     let c = Cursor {
         place: h.place,
         pending: h.pending,
-        halted: false,
     };
     let r = run_frame(p, start, w, h, first, schedule, from, n, c);
     let g = Head {
-        status: h.status,
-        fault: h.fault,
-        frames: h.frames,
-        method: h.method,
-        place: r.place,
-        pending: r.pending,
+        place: r.cursor.place,
+        pending: r.cursor.pending,
+        ..h
     };
     if !r.halted {
         put_top(w, g);
-        return NextEntry {
-            at: r.at,
-            changed: false,
-        };
+        return ControlFlow::Break(r.at);
     }
     if change_frame(p, start, w, g) {
-        return NextEntry {
-            at: r.at + 1,
-            changed: true,
-        };
+        return ControlFlow::Continue(r.at + 1);
     }
-    NextEntry {
-        at: r.at,
-        changed: false,
-    }
+    ControlFlow::Break(r.at)
 }
 
 // The same from the words of the process on, and back to them.
-fn run_top(p: &[u16], start: usize, w: &mut [u32], schedule: &[u8], from: usize, n: u8) -> NextEntry
+fn run_top(
+    p: &[u16],
+    start: usize,
+    w: &mut [u32],
+    schedule: &[u8],
+    from: usize,
+    n: u8,
+) -> ControlFlow<usize, usize>
     requires { (start ≡ 2 + 20 * methods p.now) × Kept p.now × (from ≤ length schedule.now) × (length w.old ≡
         512) }
-    ensures { PlainSteps p.now schedule.now n from w.old result.at w.exit.now × (result.at ≤ length schedule.now)
-        × (result.changed ≡ true → from < result.at) }
+    ensures { FrameRun p.now schedule.now n from w.old w.exit.now result }
 {
-    let none = NextEntry {
-        at: from,
-        changed: false,
-    };
     let frames = w[2];
     if (frames < 1) | (8 < frames) {
-        return none;
+        return ControlFlow::Break(from);
     }
     let h = head_of(w);
     if (h.status != 1) | (8 < h.pending) {
-        return none;
+        return ControlFlow::Break(from);
     }
-    let s = span_of(p, h.method);
+    let Some(s) = span_of(p, h.method) else {
+        return ControlFlow::Break(from);
+    };
     if (h.place < s.first) | (s.end <= h.place) {
-        return none;
+        return ControlFlow::Break(from);
     }
     run_head(p, start, w, h, s.first, schedule, from, n)
 }
@@ -214,11 +192,10 @@ fn run_frames(p: &[u16], start: usize, w: &mut [u32], schedule: &[u8], from: usi
 {
     let mut k = from;
     loop {
-        let r = run_top(p, start, w, schedule, k, n);
-        if !r.changed {
-            return r.at;
+        match run_top(p, start, w, schedule, k, n) {
+            ControlFlow::Continue(next) => k = next,
+            ControlFlow::Break(end) => return end,
         }
-        k = r.at;
     }
 }
 

@@ -13,56 +13,65 @@ use run_cursor::moves::{drop_top, end_of, get, push, put, store_slot};
 use run_cursor::numbers::{add, eq, less, not, sub};
 use run_moves::moves::extend;
 use run_store::head::Head;
+use run_store::values::{Val, empty};
 
-// The op's function. An op that is not done here halts. All numbers below 32 have an arm, so that no test of the number
+// The op's function; none where the op is not done here. All numbers below 32 have an arm, so that no test of the number
 // is compiled.
-pub fn act(p: &[u16], w: &mut [u32], h: Head, c: Cursor, offset: u32, op: usize, a: u16) -> Cursor
+pub fn act(
+    p: &[u16],
+    w: &mut [u32],
+    h: Head,
+    c: Cursor,
+    offset: u32,
+    op: usize,
+    a: u16,
+) -> Option<Cursor>
     requires { HeadFits h w.old c × (c.place < 65536) × (offset ≡ offset_of p.now h.method) × (offset < 65536)
         × Kept p.now × At p.now h.method c.place op a }
-    ensures { CursorStep (act_op p.now (laid w.old h c) (head_with h c) op a) (Inside p.now h.method) h w.old c w.new result }
+    ensures { CursorStep (act_op p.now (laid w.old h c) (head_with h c) op a) (Inside p.now h.method) h w.old w.new result }
 {
     match op {
-        0 => c.halt(),
-        1 => push(w, h, c, 1, extend(a)),
-        2 => push(w, h, c, 2, a as u32),
+        0 => None,
+        1 => {
+            let number = extend(a);
+            push(w, h, c, Val { tag: 1, number })
+        }
+        2 => {
+            let number = a as u32;
+            push(w, h, c, Val { tag: 2, number })
+        }
         3 => get(w, h, c, a),
         4 => put(w, h, c, a),
         5 => drop_top(w, h, c),
-        6 => store_slot(w, h, c, a, 0, 0),
-        7 => c.halt(),
-        8 => c.halt(),
+        6 => Some(store_slot(w, h, c, a, empty())),
+        7 | 8 => None,
         9 => end_of(w, h, c, a),
-        10 => c.halt(),
-        11 => c.halt(),
-        12 => c.halt(),
-        13 => c.halt(),
-        14 => c.halt(),
-        15 => c.halt(),
-        16 => c.halt(),
-        17 => jump(p, w, h, c, offset, a),
+        10 | 11 | 12 | 13 | 14 | 15 | 16 => None,
+        17 => Some(jump(p, w, h, c, offset, a)),
         18 => jump_on_false(p, w, h, c, offset, a),
         19 => add(w, h, c),
         20 => sub(w, h, c),
         21 => eq(w, h, c),
         22 => less(w, h, c),
         23 => not(w, h, c),
-        24 => c.halt(),
-        25 => c.halt(),
-        26 => c.halt(),
-        27 => c.halt(),
-        28 => c.halt(),
-        29 => c.halt(),
-        30 => c.halt(),
-        _ => c.halt(),
+        24 | 25 | 26 | 27 | 28 | 29 | 30 => None,
+        _ => None,
     }
 }
 
 // The step of the process. That the place is one of the method's is known, and so by the check what its instruction can
 // be.
-pub fn step_on(p: &[u16], start: usize, w: &mut [u32], h: Head, c: Cursor, offset: u32) -> Cursor
+pub fn step_on(
+    p: &[u16],
+    start: usize,
+    w: &mut [u32],
+    h: Head,
+    c: Cursor,
+    offset: u32,
+) -> Option<Cursor>
     requires { HeadFits h w.old c × (h.status ≡ 1) × (offset ≡ offset_of p.now h.method) × (offset < 65536)
         × (start ≡ 2 + 20 * methods p.now) × Kept p.now × Inside p.now h.method c.place }
-    ensures { CursorStep (step_op p.now (laid w.old h c)) (Inside p.now h.method) h w.old c w.new result }
+    ensures { CursorStep (step_op p.now (laid w.old h c)) (Inside p.now h.method) h w.old w.new result }
 {
     let at = start + 2 * (c.place as usize);
     let op = (p[at] % 32) as usize;

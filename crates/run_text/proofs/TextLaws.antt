@@ -8,8 +8,7 @@ use Rattle.machine.specs.Answer.{Answer, refusal, answer_of, lines_in}
 use Rattle.run.specs.Answers.{trace_left, store_left}
 use Rattle.text.specs.Statement.{text_table}
 use Rattle.text_parse.specs.Text.{Text, refused_text, translated_text, text_of}
-use Rattle.text_translate.specs.declared.Translation.{Translation}
-use Rattle.text_translate.specs.Translate.{answer_numbers, refused, table, short, answer_for, buffer_after}
+use Rattle.text_translate.specs.Translate.{refused, table, short, answer_for, buffer_after}
 use Rattle.text_translate.proofs.Given.{Given, given, refused-so, never-short}
 use Rattle.run_text.specs.RunText.{text_answer, text_trace, text_store}
 
@@ -20,28 +19,24 @@ Runs t schedule outcomes trace work a trace' work' =
     × (trace' ≡ text_trace t schedule outcomes trace work)
     × (work' ≡ text_store t schedule outcomes trace work)
 
-module _ (text buffer : List ℕ) {r k : Translation}
-    (says : answer_numbers r ≡ answer_for (length buffer) (text_of text))
-    (is : r ≡ k) where
-  same : answer_numbers k ≡ answer_for (length buffer) (text_of text)
-  same = sym (ap answer_numbers is) ∙ says
-
+module _ (text buffer : List ℕ) where
   -- refused by 30, 31 or 32
-  pub refused-runs : (schedule outcomes trace work : List ℕ) {n i : ℕ} {a : Answer} → answer_numbers k ≡ refused n i
-      → a ≡ refusal n i → Runs (text_of text) schedule outcomes trace work a trace work
+  pub refused-runs : (schedule outcomes trace work : List ℕ) {n i : ℕ}
+      → refused n i ≡ answer_for (length buffer) (text_of text)
+      → Runs (text_of text) schedule outcomes trace work (refusal n i) trace work
   unfolding text_answer text_trace text_store
-  refused-runs schedule outcomes trace work {n} {i} e q =
-      let t = refused-so (length buffer) (text_of text) (sym same ∙ e) in (
-        q ∙ sym (ap (λ x. text_answer x schedule outcomes (lines_in (length trace)) (length work)) t),
+  refused-runs schedule outcomes trace work e =
+      let t = refused-so (length buffer) (text_of text) (sym e) in (
+        sym (ap (λ x. text_answer x schedule outcomes (lines_in (length trace)) (length work)) t),
         sym (ap (λ x. text_trace x schedule outcomes trace work) t),
         sym (ap (λ x. text_store x schedule outcomes trace work) t),
       )
 
   -- a table of n words in the buffer
-  module _ {n : ℕ} (e : answer_numbers k ≡ table n) {filled : List ℕ}
+  module _ {n : ℕ} (e : table n ≡ answer_for (length buffer) (text_of text)) {filled : List ℕ}
       (f : filled ≡ buffer_after buffer (text_of text)) where
     g : Given buffer (text_of text) n
-    g = given buffer text n (sym same ∙ e)
+    g = given buffer text n (sym e)
 
     pub words-there : n ≤ length filled
     words-there =
@@ -66,5 +61,5 @@ module _ (text buffer : List ℕ) {r k : Translation}
         )
 
   -- the buffer is long enough
-  pub never-runs : {n : ℕ} {A : Type 0} → 8834 ≤ length buffer → answer_numbers k ≡ short n → A
-  never-runs {n} h e = absurd (never-short (length buffer) text n h (sym same ∙ e))
+  pub never-runs : {n : ℕ} → 8834 ≤ length buffer → short n ≡ answer_for (length buffer) (text_of text) → ⊥
+  never-runs {n} h e = never-short (length buffer) text n h (sym e)

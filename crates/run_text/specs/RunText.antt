@@ -1,13 +1,33 @@
 -- What a text's run answers, and what it leaves in the lent trace and the lent work store: "30 .., 31 .., 32 ..: all
 -- before question 1"; a text that none of them refuses runs as its table does.
-use Rattle.std.specs.Prelude.{ℕ, ◌*◌, List, take, length}
+use Rattle.std.specs.Prelude.{ℕ, ◌*◌, Result, Ok, Err, List, take, length}
 use Rattle.machine.specs.State.{Config, Line, State}
-use Rattle.machine.specs.Answer.{Answer, refusal, answer_of, lines_in}
+use Rattle.machine.specs.Answer.{Answer, refusal, ran, answer_of, lines_in}
 use Rattle.layout.specs.Layout.{decode}
 use Rattle.trace.specs.Trace.{lines_of}
 use Rattle.run.specs.Answers.{trace_left, store_left, lines_no, used_no}
+use Rattle.check_questions.specs.Check as questions
+use Rattle.run_ability.specs.EndingCode.{end_number}
+use Rattle.run_schedule.specs.declared.entries.RunSummary.{RunSummary}
 use Rattle.text.specs.Statement.{text_table}
 use Rattle.text_parse.specs.Text.{Text, refused_text, translated_text}
+use Rattle.text_translate.specs.Translate as text
+use Rattle.run_text.specs.declared.RunRefusal.{RunRefusal}
+use Rattle.run_text.specs.declared.RunRefusal.TheVariants as no
+
+-- a refusal's number and place
+abbrev pub number_of : RunRefusal → ℕ
+number_of (no.Text r) = text.number_of r
+number_of (no.Question r) = questions.number_of r
+
+abbrev pub place_of : RunRefusal → ℕ
+place_of (no.Text r) = text.place_of r
+place_of (no.Question r) = questions.place_of r
+
+-- the code's answer in the papers' numbers
+unfoldable pub answer_numbers : Result RunSummary RunRefusal → Answer
+answer_numbers (Err r) = refusal (number_of r) (place_of r)
+answer_numbers (Ok o) = ran (end_number o.end) o.entries o.lines o.used
 
 -- the answer, for a trace of so many lines and a work store of so many words
 unfoldable pub text_answer : Text → List ℕ → List ℕ → ℕ → ℕ → Answer

@@ -4,82 +4,70 @@
 // follows for the buffers, by the text's meaning, is in proofs/TextDemands.antt.
 #![tactic(auto)]
 
-ghost use Rattle.std.specs.Prelude.{◌≡◌, ◌≤◌, length, take};
-ghost use Rattle.machine.specs.Answer.{refusal, answer_of, lines_in};
-ghost use Rattle.run.specs.Answers.{answer_numbers, trace_left, store_left};
+ghost use Rattle.std.specs.Prelude.{◌≡◌, length};
+ghost use Rattle.machine.specs.Answer.{lines_in};
 ghost use Rattle.text_parse.specs.Text.{text_of};
-ghost use Rattle.run_text.specs.RunText.{text_answer, text_trace, text_store};
+ghost use Rattle.run_text.specs.RunText.{number_of, place_of, answer_numbers, text_answer, text_trace, text_store};
+ghost use Rattle.run_text.specs.declared.RunRefusal.TheVariants.{Text, Question};
 
-use run::{Answer, run};
-use text_translate::{Translation, translate};
+use check_questions::Refusal;
+use run::run;
+use run_schedule::entries::RunSummary;
+use text_translate::{TextRefusal, Translation, translate};
 
-fn refused(number: u32, place: usize) -> Answer
-    ensures { answer_numbers result ≡ refusal number place }
-{
-    Answer::Refused {
-        number: number,
-        place: place,
+// Why a text is not run: it has no table, or a question says no to its table, the schedule, the outcomes or the work
+// store.
+#[derive(Clone, Copy, Debug, PartialEq, Eq)]
+pub enum RunRefusal {
+    Text(TextRefusal),
+    Question(Refusal),
+}
+
+impl RunRefusal {
+    pub fn number(self) -> u32
+        ensures { result ≡ number_of self }
+    {
+        match self {
+            RunRefusal::Text(refusal) => refusal.number(),
+            RunRefusal::Question(refusal) => refusal.number(),
+        }
+    }
+
+    pub fn place(self) -> usize
+        ensures { result ≡ place_of self }
+    {
+        match self {
+            RunRefusal::Text(refusal) => refusal.place(),
+            RunRefusal::Question(refusal) => refusal.place(),
+        }
     }
 }
 
-// The run of the table in the buffer's first n words.
-fn run_first(
-    table: &[u16],
-    n: usize,
-    schedule: &[u8],
-    outcomes: &[u8],
-    trace: &mut [u16],
-    work: &mut [u32],
-) -> Answer
-    requires { n ≤ length table.now }
-    ensures { (answer_numbers result
-        ≡ answer_of (take n table.now) schedule.now outcomes.now
-        (lines_in (length trace.old)) (length work.old))
-        × (trace.new ≡ trace_left (take n table.now) schedule.now outcomes.now
-        trace.old work.old)
-        × (work.new ≡ store_left (take n table.now) schedule.now outcomes.now
-        trace.old work.old) }
-{
-    run(&table[..n], schedule, outcomes, trace, work)
+impl From<TextRefusal> for RunRefusal {
+    ghost from_gives = { λ e r. r ≡ Text e };
+
+    fn from(refusal: TextRefusal) -> RunRefusal {
+        RunRefusal::Text(refusal)
+    }
 }
 
-// With a lent buffer that is long enough for every table, so that the last case does not occur.
-fn run_with(
-    text: &[u8],
-    table: &mut [u16],
-    schedule: &[u8],
-    outcomes: &[u8],
-    trace: &mut [u16],
-    work: &mut [u32],
-) -> Answer
-    requires { 8834 ≤ length table.old }
-    ensures { (answer_numbers result
-        ≡ text_answer (text_of text.now) schedule.now outcomes.now
-        (lines_in (length trace.old)) (length work.old))
-        × (trace.new ≡ text_trace (text_of text.now) schedule.now outcomes.now
-        trace.old work.old)
-        × (work.new ≡ text_store (text_of text.now) schedule.now outcomes.now
-        trace.old work.old) }
-{
-    let t = translate(text, table);
-    match t {
-        Translation::Grammar(at) => refused(30, at),
-        Translation::Names(at) => refused(31, at),
-        Translation::Limits(at) => refused(32, at),
-        Translation::Table(n) => run_first(table, n, schedule, outcomes, trace, work),
-        Translation::Short(n) => refused(32, n),
+impl From<Refusal> for RunRefusal {
+    ghost from_gives = { λ e r. r ≡ Question e };
+
+    fn from(refusal: Refusal) -> RunRefusal {
+        RunRefusal::Question(refusal)
     }
 }
 
 // Asks 30, 31 and 32, then the eight questions, and runs where none says no. A table has at most 2 + 20 * 32 + 2 *
-// 4,096 words.
+// 4,096 words, so that it is never too long for the buffer here.
 pub fn run_text(
     text: &[u8],
     schedule: &[u8],
     outcomes: &[u8],
     trace: &mut [u16],
     work: &mut [u32],
-) -> Answer
+) -> Result<RunSummary, RunRefusal>
     ensures { (answer_numbers result
         ≡ text_answer (text_of text.now) schedule.now outcomes.now
         (lines_in (length trace.old)) (length work.old))
@@ -89,5 +77,8 @@ pub fn run_text(
         trace.old work.old) }
 {
     let mut table = [0u16; 8834];
-    run_with(text, &mut table, schedule, outcomes, trace, work)
+    let Translation::Table(n) = translate(text, &mut table)? else {
+        unreachable!()
+    };
+    Ok(run(&table[..n], schedule, outcomes, trace, work)?)
 }

@@ -13,13 +13,11 @@ pub fn count_things(work: &[u32], n: ProcessNo, args: u16) -> u32
     ensures { (result ≡ things_in work.now n.0 args args) × (result ≤ args) }
 {
     let mut count: u32 = 0;
-    let mut j: u16 = 0;
-    while j < args {
+    for j in 0..args {
         let v = operand_of(work, n, args - j);
         if 3 <= v.tag {
             count += 1;
         }
-        j += 1;
     }
     count
 }
@@ -29,7 +27,7 @@ pub fn gift_line(entry: u16, from: ProcessNo, to: ProcessNo, v: Val) -> TraceLin
     ensures { result ≡ gift_line entry from.0 to.0 v }
 {
     TraceLine {
-        entry: entry,
+        entry,
         process: from.0,
         kind: 6,
         a: to.0,
@@ -73,11 +71,9 @@ fn write_gifts(
         ≡ gifts_added (gifts line trace.old) work.now entry from.0 to.0 args args }
 {
     let mut next = line;
-    let mut j: u16 = 0;
-    while j < args {
+    for j in 0..args {
         let v = operand_of(work, from, args - j);
         next = write_gift(trace, next, entry, from, to, v);
-        j += 1;
     }
     next
 }
@@ -86,7 +82,7 @@ fn fork_line(entry: u16, n: ProcessNo, child: ProcessNo, m: u16, args: u16) -> T
     ensures { result ≡ fork_line entry n.0 child.0 m args }
 {
     TraceLine {
-        entry: entry,
+        entry,
         process: n.0,
         kind: 5,
         a: child.0,

@@ -6,10 +6,11 @@ ghost use Rattle.run_transfer.specs.TransferCode.{operand_of, arg_handed, args_h
 ghost use Rattle.run_giving.specs.GivingCode.{given_words, began_words, arguments_popped};
 
 use run_giving::{begin, give, pop_arguments};
-use run_parts::part::part_at;
+use run_parts::part::{part, part_at};
 use run_store::head::{Head, read_head};
 use run_store::references::ProcessNo;
 use run_store::values::{Val, put, put_value, value};
+use table::program::Program;
 
 // The value d below the next free one of the top frame.
 fn operand(w: &[u32], d: u16) -> Val
@@ -20,13 +21,12 @@ fn operand(w: &[u32], d: u16) -> Val
 }
 
 // The same of process n.
+#[tactic(auto, unfolding(crate::specs::TransferCode::operand_of))]
 pub fn operand_of(work: &[u32], n: ProcessNo, d: u16) -> Val
     requires { (8192 ≤ length work.now) × (n.0 < 8) }
     ensures { result ≡ operand_of work.now n.0 d }
 {
-    let from = part_at(n);
-    let to = from + 512;
-    operand(&work[from..to], d)
+    operand(part(work, n), d)
 }
 
 // Argument j of n, from the forking process's operands to the child's slot.
@@ -44,14 +44,12 @@ fn hand_args(work: &mut [u32], n: ProcessNo, child: ProcessNo, args: u16)
     requires { (8192 ≤ length work.old) × (n.0 < 8) × (child.0 < 8) }
     ensures { work.new ≡ args_handed work.old n.0 child.0 args args }
 {
-    let mut j: u16 = 0;
-    while j < args {
+    for j in 0..args {
         hand_arg(work, n, child, args, j);
-        j += 1;
     }
 }
 
-pub fn begin_at(p: &[u16], work: &mut [u32], child: ProcessNo, m: u16)
+pub fn begin_at(p: &Program<'_>, work: &mut [u32], child: ProcessNo, m: u16)
     requires { (8192 ≤ length work.old) × (child.0 < 8) }
     ensures { work.new
         ≡ with_part work.old child.0
@@ -87,9 +85,7 @@ fn slot_of(work: &[u32], child: ProcessNo, j: u16) -> Val
     requires { (8192 ≤ length work.now) × (child.0 < 8) }
     ensures { result ≡ value_at (part_of work.now child.0) (64 + 2 * j) }
 {
-    let from = part_at(child);
-    let to = from + 512;
-    value(&work[from..to], 64 + 2 * (j as usize))
+    value(part(work, child), 64 + 2 * (j as usize))
 }
 
 fn give_arg(work: &mut [u32], n: ProcessNo, child: ProcessNo, j: u16)
@@ -104,16 +100,14 @@ fn give_args(work: &mut [u32], n: ProcessNo, child: ProcessNo, args: u16)
     requires { (8192 ≤ length work.old) × (n.0 < 8) × (child.0 < 8) }
     ensures { work.new ≡ args_given work.old n.0 child.0 args }
 {
-    let mut j: u16 = 0;
-    while j < args {
+    for j in 0..args {
         give_arg(work, n, child, j);
-        j += 1;
     }
 }
 
 // "FORK gives its qubit, channel and end arguments to the new process, all taken off first, so the child has every
 // one".
-pub fn fork(p: &[u16], work: &mut [u32], n: ProcessNo, child: ProcessNo, m: u16, args: u16)
+pub fn fork(p: &Program<'_>, work: &mut [u32], n: ProcessNo, child: ProcessNo, m: u16, args: u16)
     requires { (8192 ≤ length work.old) × (n.0 < 8) × (child.0 < 8) }
     ensures { work.new ≡ forked_words p.now work.old n.0 child.0 m args }
 {

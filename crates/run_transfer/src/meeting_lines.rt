@@ -11,12 +11,9 @@ use trace_lines::{TraceLine, write_two};
 fn met_line(entry: u16, sender: ProcessNo, receiver: ProcessNo, e: Val) -> TraceLine
     ensures { result ≡ met_line entry sender.0 receiver.0 e }
 {
-    let mut side: u16 = 0;
-    if e.tag == 6 {
-        side = 1;
-    }
+    let side = if e.tag == 6 { 1 } else { 0 };
     TraceLine {
-        entry: entry,
+        entry,
         process: sender.0,
         kind: 7,
         a: receiver.0,
@@ -30,7 +27,7 @@ fn passed_line(entry: u16, sender: ProcessNo, v: Val) -> TraceLine
     ensures { result ≡ passed_line entry sender.0 v }
 {
     TraceLine {
-        entry: entry,
+        entry,
         process: sender.0,
         kind: 8,
         a: (v.number % 65536) as u16,

@@ -7,7 +7,7 @@ ghost use Rattle.run_values.specs.ValuesCode.{went_on, not_running, is_send, is_
 // .. is empty", "25 frame beyond 8", "26 int out of range". A case has no number of its own beside it: that would cost
 // four instructions in every step, and the cases after which a process may wait come first: that saves two
 // (docs/DECISIONS.md).
-#[derive(Clone, Copy)]
+#[derive(Clone, Copy, PartialEq, Eq)]
 pub enum StepResult {
     WentOn,
     NotRunning,
@@ -24,40 +24,30 @@ pub enum StepResult {
     OutOfRange,
 }
 
+// It went on.
 pub fn went_on(step: StepResult) -> bool
     ensures { result ≡ went_on step }
 {
-    match step {
-        StepResult::WentOn => true,
-        _ => false,
-    }
+    matches!(step, StepResult::WentOn)
 }
 
+// It does not run.
 pub fn not_running(step: StepResult) -> bool
     ensures { result ≡ not_running step }
 {
-    match step {
-        StepResult::NotRunning => true,
-        _ => false,
-    }
+    matches!(step, StepResult::NotRunning)
 }
 
+// It stands at SEND.
 pub fn is_send(step: StepResult) -> bool
     ensures { result ≡ is_send step }
 {
-    match step {
-        StepResult::AtSend => true,
-        _ => false,
-    }
+    matches!(step, StepResult::AtSend)
 }
 
 // SEND or RECV.
 pub fn is_offer(step: StepResult) -> bool
     ensures { result ≡ is_offer step }
 {
-    match step {
-        StepResult::AtSend => true,
-        StepResult::AtRecv => true,
-        _ => false,
-    }
+    matches!(step, StepResult::AtSend | StepResult::AtRecv)
 }

@@ -1,10 +1,9 @@
 -- Which word a thing's holder is read from: the one at which a run has stored it (crate layout, specs/Holders.antt), for
 -- each of the 32 qubits and of the 32 ends.
 use Prim.Native.Nat.{ℕ, ◌+◌, ◌*◌, ◌-◌, ◌/◌, ◌%◌, ◌<◌}
-use mathlib.Core.Path.{◌≡◌, refl, ◌∙◌, ap, ap₂, subst, sym}
+use mathlib.Core.Path.{◌≡◌, ◌∙◌, ap, ap₂, subst, sym}
 use mathlib.Core.Bool.{Bool, true, false, cond}
 use native.Mathlib.Omega.{arith}
-use lib.Dec.{ltb}
 use borrow.Author.Tests.{lt-ltb, le-ltb}
 use Rattle.machine.specs.Value.{Thing, qubit, end, side_no, side_of}
 use Rattle.layout.specs.Holders.{thing_at}

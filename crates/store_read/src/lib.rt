@@ -4,33 +4,30 @@
 #![tactic(auto)]
 
 ghost use Rattle.std.specs.Prelude.{◌≡◌};
-ghost use Rattle.store_read.specs.Stored.{word_of, stored_holder};
+ghost use Rattle.store_read.specs.Stored.{word_of, word_if, stored_holder};
 
-use run_store::values::get;
+use slices::at_or;
 
-// Which of the 64 words is the thing's; 64 where there is no such thing.
-fn word_of(kind: u64, number: u64) -> usize
-    ensures { result ≡ word_of kind number }
+// Which of the 64 words is the thing's, if there is such a thing.
+#[tactic(auto, using(std::proofs::lemmas::Bool::Decides::nat_tests), unfolding(crate::specs::Stored::word_of))]
+fn word_of(kind: u64, number: u64) -> Option<usize>
+    ensures { result ≡ word_if (word_of kind number) }
 {
-    if (kind == 3) & (number < 32) {
-        return number as usize;
+    match kind {
+        3 if number < 32 => Some(number as usize),
+        5 if number < 16 => Some(32 + 2 * (number as usize)),
+        6 if number < 16 => Some(33 + 2 * (number as usize)),
+        _ => None,
     }
-    if (kind == 5) & (number < 16) {
-        return 32 + 2 * (number as usize);
-    }
-    if (kind == 6) & (number < 16) {
-        return 33 + 2 * (number as usize);
-    }
-    64
 }
 
 // The holder of qubit `number` (kind 3), or of end 0 (kind 5) or end 1 (kind 6) of channel `number`.
+#[tactic(auto, using(std::proofs::lemmas::Bool::Decides::nat_tests), unfolding(crate::specs::Stored::stored_holder))]
 pub fn stored_holder(work: &[u32], kind: u64, number: u64) -> u16
     ensures { result ≡ stored_holder work.now kind number }
 {
-    let i = word_of(kind, number);
-    if (work.len() < 8256) | (64 <= i) {
-        return 65535;
+    match word_of(kind, number) {
+        Some(i) if 8256 <= work.len() => (at_or(work, 8192 + i, 0) % 65536) as u16,
+        _ => 65535,
     }
-    (get(work, 8192 + i) % 65536) as u16
 }

@@ -5,3 +5,4 @@ pub mod Owners
 pub mod Slots
 pub mod Methods
 pub mod Before
+pub mod Start

@@ -2,4 +2,5 @@
 // of one word.
 #![tactic(auto)]
 
+pub mod program;
 pub mod words;

@@ -6,8 +6,5 @@ ghost use Rattle.table.specs.Table.{word};
 pub fn word_at(p: &[u16], at: usize) -> usize
     ensures { (result ≡ word p.now at) × (result < 65536) }
 {
-    if at < p.len() {
-        return p[at] as usize;
-    }
-    0
+    slices::at_or(p, at, 0) as usize
 }

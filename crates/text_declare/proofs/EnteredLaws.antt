@@ -192,6 +192,12 @@ pub entering-fits : {text : List ℕ} {ds : List Declared} {σ τ : Tables} {ok 
 entering-fits (all-entered o e) p = e.fits
 entering-fits (too_many o l) p = not-both p o
 
+-- where they are too many, nothing is said of the tables
+pub entering-left : {text : List ℕ} {ds : List Declared} {σ τ υ : Tables} {ok : Bool} → ok ≡ false
+    → Entering text ds σ false υ → Entering text ds σ ok τ
+entering-left none (all-entered o e) = not-both o refl
+entering-left none (too_many o l) = too_many none l
+
 -- the variables of a method's body: its parameters, and then what its block declares
 pub body-entered : (text : List ℕ) (m : Method) (σ υ τ : Tables) → Entered text (map parameter_of m.parameters) σ υ
     → Entered text (declared_by m.declarations) υ τ → Entered text (body_variables m) σ τ

@@ -19,8 +19,13 @@ use Rattle.text_types.proofs.Answers.{passed-found, found_ok}
 use Rattle.text_types.proofs.Finding.{map-append}
 use Rattle.text_types.specs.Every.{every-read}
 use Rattle.text_types.proofs.Every.{every-leaves, every-choice, every-expect, every-name, every_of}
+use Rattle.text_types.proofs.TypeLaws.{not-both}
+use Rattle.std.specs.Prelude.{Result, Ok, Err, is_ok, IfOk}
+use Rattle.text_declare.specs.declared.entry.EnteredAt.{EnteredAt}
+use Rattle.text_declare.specs.declared.entry.EntryError.{EntryError}
+use Rattle.text_declare.specs.EntryAnswer.{entered_place}
 use Rattle.text_declare.specs.Entered.{Tables, Entered, Entering}
-use Rattle.text_declare.specs.EnterCode.{After, NameStands, Enters, enters, VariableEnters, ThreeEnter, a_name, NameEnters, NamesEnter, EndsEnter}
+use Rattle.text_declare.specs.EnterCode.{NameStands, Enters, enters, VariableEnters, ThreeEnter, a_name, NameEnters, NamesEnter, EndsEnter}
 use Rattle.text_declare.proofs.EnteredLaws.{entering-then, entering-fits}
 use Rattle.text_declare.proofs.ReadingLaws.{AtLeast, name-then, not-before, onward-token, onward-later, expect-enters, name-enters, enters-then, enters-read}
 
@@ -50,21 +55,27 @@ names-least t xs ts =
     subst (λ (k : ℕ). AtLeast k declared_in (more_names (enough ts) t xs ts)) (sym (map-length (plainly t) xs))
     (bounded-least (enough ts) t xs ts)
 
+-- the place of a variable that is entered
+pub entered-at : (r : Result EnteredAt EntryError) {place : ℕ} → IfOk r (λ d. d.at ≡ place) → is_ok r ≡ true
+    → entered_place r ≡ place
+entered-at (Ok d) e o = e
+entered-at (Err d) e o = not-both o refl
+
 module _ (text : List ℕ) where
   -- one name
   pub one_name : (i code : ℕ) (σ τ : Tables) {q ok : Bool} {start place at : ℕ} → NameStands text i q start place
-      → (q ≡ false → ok ≡ false) → (q ≡ true → at ≡ place)
+      → (q ≡ false → ok ≡ false) → (ok ≡ true → at ≡ place)
       → (q ≡ true → VariableEnters start place 0 code σ ok τ) → NameEnters text i code σ ok at τ
   unfolding a_name truth_word
   one_name i code σ τ {q} {ok} {start} {place} {at} name stop reached one =
       record {
         onward = λ o. let there = not-before stop o in
-            subst (λ (a : ℕ). (suc i ≤ a) × (a ≤ length text)) (sym (reached there))
+            subst (λ (a : ℕ). (suc i ≤ a) × (a ≤ length text)) (sym (reached o))
             (onward-token text i 33 (λ g. omega arith) name.stands there);
         says = λ t c fits.
             let x = name_of (first (tokens_at text i)) in
             name-enters text (λ x. plainly t x ∷ []) σ ok at τ i (λ x us. read x us) name.stands stop
-            (λ there. enters (λ o. ap (tokens_at text) (sym (reached there)))
+            (λ there. enters (λ o. ap (tokens_at text) (sym (reached o)))
             (one there text (plainly t x) (name.spelt there) refl c fits));
       }
 
@@ -85,19 +96,34 @@ module _ (text : List ℕ) where
             is-semicolon e (λ o. o) (λ o. enters-read text declared_in σ₀ ok at σ (variables t xs) o h));
       }
 
+  pub names-left : (i code : ℕ) (σ τ : Tables) {ok : Bool} {at place : ℕ} → (next_kind text i ≡ 25 → ⊥)
+      → Expected text i 26 false place → ok ≡ false → NamesEnter text i code σ ok at τ
+  unfolding more_names_rule
+  names-left i code σ τ {ok} {at} f e none =
+      record {
+        onward = λ o. not-both o none;
+        says = λ t xs σ₀ c h.
+            rw (
+              grammar.more_names-is t xs (tokens_at text i),
+              is-comma (first (tokens_at text i)) ∙ ne_eqb
+                  (next_kind text i) 25 f,
+            )
+            (expect-enters text declared_in σ₀ ok at τ ";" i 26 (λ us. read (variables t xs) us) (λ g. omega arith)
+            is-semicolon e (λ o. none) (λ o. not-both o refl));
+      }
+
   -- a comma and a name
   pub names-on : (i code : ℕ) (σ υ τ : Tables) {q n ok : Bool} {place middle at : ℕ} → next_kind text i ≡ 25
-      → Expected text i 25 q place → After q n (NameEnters text place code σ n middle υ)
+      → Expected text i 25 q place → NameEnters text place code σ n middle υ
       → (n ≡ false → ok ≡ false) → (n ≡ true → NamesEnter text middle code υ ok at τ)
       → NamesEnter text i code σ ok at τ
   unfolding more_names_rule
-  names-on i code σ υ τ {q} {n} {ok} {place} {middle} {at} k e named stop go =
+  names-on i code σ υ τ {q} {n} {ok} {place} {middle} {at} k e name stop go =
       let stands = found_ok text i 25 k e in
       let pass = passed-found text i 25 (λ g. omega arith) k e in
-      let name = named.on stands in
       record {
         onward = onward-later text i place (onward-token text i 25 (λ g. omega arith) e)
-            (λ g. stop (named.off g))
+            (λ g. not-both stands g)
             (λ there. onward-later text place middle name.onward stop (λ o. (go o).onward));
         says = λ t xs σ₀ c h.
             rw (
@@ -153,15 +179,15 @@ three-enter s0 e0 s1 e1 s2 e2 code end σ υ ω τ {q} {r} {ok} ends first stop1
 
 module _ (text : List ℕ) where
   -- the two ends of a channel
-  pub ends-enter : (i s0 e0 code : ℕ) (σ τ : Tables) {q1 q2 q3 q4 q5 q6 ok : Bool} {p1 p2 p3 p4 p5 at s2 s4 : ℕ}
+  pub ends-enter : (i s0 e0 code : ℕ) (σ τ : Tables) {q1 q2 q3 q4 q5 q6 ok : Bool} {p1 p2 p3 p4 p5 p6 at s2 s4 : ℕ}
       → Expected text i 23 q1 p1 → On q1 p1 q2 p2 (NameStands text p1 q2 s2 p2)
       → On q2 p2 q3 p3 (Expected text p2 25 q3 p3) → On q3 p3 q4 p4 (NameStands text p3 q4 s4 p4)
-      → On q4 p4 q5 p5 (Expected text p4 24 q5 p5) → On q5 p5 q6 at (Expected text p5 26 q6 at)
-      → (q6 ≡ false → ok ≡ false) → (q6 ≡ true → ThreeEnter s0 e0 s2 p2 s4 p4 code σ ok τ)
+      → On q4 p4 q5 p5 (Expected text p4 24 q5 p5) → On q5 p5 q6 p6 (Expected text p5 26 q6 p6)
+      → (ok ≡ true → at ≡ p6) → (q6 ≡ false → ok ≡ false) → (q6 ≡ true → ThreeEnter s0 e0 s2 p2 s4 p4 code σ ok τ)
       → EndsEnter text i s0 e0 code σ ok at τ
   unfolding end_names
-  ends-enter i s0 e0 code σ τ {q1} {q2} {q3} {q4} {q5} {q6} {ok} {p1} {p2} {p3} {p4} {p5} {at} {s2} {s4}
-      h1 h2 h3 h4 h5 h6 stop three =
+  ends-enter i s0 e0 code σ τ {q1} {q2} {q3} {q4} {q5} {q6} {ok} {p1} {p2} {p3} {p4} {p5} {p6} {at} {s2} {s4}
+      h1 h2 h3 h4 h5 h6 reached stop three =
       let stop5 : q5 ≡ false → ok ≡ false = λ o. stop (h6.off-ok o) in
       let stop4 : q4 ≡ false → ok ≡ false = λ o. stop5 (h5.off-ok o) in
       let stop3 : q3 ≡ false → ok ≡ false = λ o. stop4 (h4.off-ok o) in
@@ -176,7 +202,8 @@ module _ (text : List ℕ) where
             (λ o2. onward-later text p2 p3 (onward-token text p2 25 (λ g. omega arith) (h3.on o2)) stop3
             (λ o3. onward-later text p3 p4 (onward-token text p3 33 (λ g. omega arith) (h4.on o3).stands) stop4
             (λ o4. onward-later text p4 p5 (onward-token text p4 24 (λ g. omega arith) (h5.on o4)) stop5
-            (λ o5 o. onward-token text p5 26 (λ g. omega arith) (h6.on o5) (not-before stop o))))));
+            (λ o5 o. subst (λ (a : ℕ). (suc p5 ≤ a) × (a ≤ length text)) (sym (reached o))
+            (onward-token text p5 26 (λ g. omega arith) (h6.on o5) (not-before stop o)))))));
         says = λ t c spelt type fits.
             expect-enters text declared_in σ ok at τ "[" i 23 _ (λ e. omega arith) is-open-bracket h1 stop1
             (λ o1. name-enters text declared_in σ ok at τ p1 _ (h2.on o1).stands stop2
@@ -185,6 +212,6 @@ module _ (text : List ℕ) where
             (λ o4. expect-enters text declared_in σ ok at τ "]" p4 24 _ (λ e. omega arith) is-close-bracket
             (h5.on o4) stop5
             (λ o5. expect-enters text declared_in σ ok at τ ";" p5 26 _ (λ e. omega arith) is-semicolon (h6.on o5) stop
-            (λ o6. enters (λ o. refl)
+            (λ o6. enters (λ o. ap (tokens_at text) (sym (reached o)))
             (three o6 text t c a b spelt ((h2.on o1).spelt o2) ((h4.on o3).spelt o4) type fits)))))));
       }

@@ -22,7 +22,7 @@ use Rattle.text_types.proofs.Every.{every-leaves, every-choice, every-expect, ev
 use Rattle.text_types.proofs.Finding.{map-append}
 use Rattle.text_types.proofs.TypeLaws.{not-both}
 use Rattle.text_declare.specs.Entered.{Tables, Entered}
-use Rattle.text_declare.specs.EnterCode.{After, Enters, enters, left, a_name, NameEnters, ParameterEnters, RestEnters, ParametersEnter}
+use Rattle.text_declare.specs.EnterCode.{Enters, enters, left, a_name, NameEnters, ParameterEnters, RestEnters, ParametersEnter}
 use Rattle.text_declare.proofs.EnteredLaws.{entered-none}
 use Rattle.text_declare.proofs.ReadingLaws.{AtLeast, name-then, onward-token, onward-later, expect-enters, says_then, enters-then, enters-read}
 
@@ -74,19 +74,19 @@ module _ (text : List ℕ) where
   -- a type and a name
   pub parameter-enters : (i code : ℕ) (σ τ : Tables) {q ok : Bool} {place at : ℕ}
       → Says text (suc i) (λ t. code ≡ type_code t) q place (non_void_type (tokens_at text i))
-      → After q ok (NameEnters text place code σ ok at τ) → ParameterEnters text i σ ok at τ
+      → (q ≡ false → ok ≡ false) → (q ≡ true → NameEnters text place code σ ok at τ) → ParameterEnters text i σ ok at τ
   unfolding parameter
-  parameter-enters i code σ τ {q} {ok} {place} {at} typed named =
+  parameter-enters i code σ τ {q} {ok} {place} {at} typed stop named =
       record {
         onward = onward-later text i place
             (λ o. says-bounds text (λ t. code ≡ type_code t) (suc i) (non_void_type (tokens_at text i)) o typed)
-            named.off (λ o. (named.on o).onward);
+            stop (λ o. (named o).onward);
         says = λ fits.
             says_then text (λ p. parameter_of p ∷ []) σ ok at τ (λ t. code ≡ type_code t) (suc i)
-            (non_void_type (tokens_at text i)) _ typed named.off
+            (non_void_type (tokens_at text i)) _ typed stop
             (λ o t c. subst (Enters text (λ p. parameter_of p ∷ []) σ ok at τ)
             (sym (name-then (tokens_at text place) (λ x vs. read (record { type = t; name = x }) vs)))
-            (named-parameter text t σ τ (a_name (tokens_at text place)) ((named.on o).says t c fits)));
+            (named-parameter text t σ τ (a_name (tokens_at text place)) ((named o).says t c fits)));
       }
 
   -- a parameter and what comes after it
@@ -115,6 +115,18 @@ module _ (text : List ℕ) where
             rw (is-comma (first (tokens_at text i)) ∙ ne_eqb (next_kind text i) 25 f)
             (expect-enters text (map parameter_of) σ₀ ok at σ ")" i 20 (λ us. read ps us) (λ g. omega arith) is-close e
             (λ o. o) (λ o. enters-read text (map parameter_of) σ₀ ok at σ ps o h));
+      }
+
+  pub rest-left : (i : ℕ) (σ τ : Tables) {ok : Bool} {at place : ℕ} → (next_kind text i ≡ 25 → ⊥)
+      → Expected text i 20 false place → ok ≡ false → RestEnters text i σ ok at τ
+  unfolding after_parameter
+  rest-left i σ τ {ok} {at} f e none =
+      record {
+        onward = λ o. not-both o none;
+        says = λ ps σ₀ h.
+            rw (is-comma (first (tokens_at text i)) ∙ ne_eqb (next_kind text i) 25 f)
+            (expect-enters text (map parameter_of) σ₀ ok at τ ")" i 20 (λ us. read ps us) (λ g. omega arith) is-close e
+            (λ o. none) (λ o. not-both o refl));
       }
 
   -- a comma and a parameter

@@ -11,6 +11,7 @@ use lib.Dec.{eqb}
 use lib.ListN.{length, length-append}
 use Rattle.lists.proofs.Tests.{decide}
 use Rattle.text.specs.Tree.{Name, Declared}
+use Rattle.std.specs.Prelude.{Result, Ok, Err, is_ok, IsErr}
 use Rattle.text_parse.specs.Tokens.{Token, is, is_name, name_of}
 use Rattle.text_parse.specs.Grammar.{Reading, read, leaves, and_then, first, rest, leaves_at, expect, expect_name}
 use Rattle.text_tokens.specs.Places.{tokens_at}
@@ -58,6 +59,11 @@ module _ (text : List ℕ) where
       let after = go there o in
       let further : suc place ≤ at = after.0 in
       (omega arith, after.1)
+
+-- a reading that is refused has not stood
+pub not-ok : {A E : Type 0} (r : Result A E) → IsErr r → is_ok r ≡ false
+not-ok (Ok a) e = not-both e refl
+not-ok (Err e) h = refl
 
 -- What is entered
 

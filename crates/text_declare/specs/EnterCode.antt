@@ -33,11 +33,6 @@ pub record Answer (text : List ℕ) (low : ℕ) (ok : Bool) (at : ℕ) (S : Type
   pub onward : Onward text low ok at
   pub says : S
 
--- what holds after something that must stand: if the text has left the grammar, it has
-pub record After (before ok : Bool) (S : Type 0) : Type 0 where
-  pub on : before ≡ true → S
-  pub off : before ≡ false → ok ≡ false
-
 -- one variable, whose name stands from start up to end
 abbrev pub VariableEnters : ℕ → ℕ → ℕ → ℕ → Tables → Bool → Tables → Type 0
 VariableEnters start end flag code σ ok τ =

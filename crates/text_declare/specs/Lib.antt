@@ -1,2 +1,3 @@
 pub mod Entered
 pub mod EnterCode
+pub mod EntryAnswer

@@ -1,12 +1,14 @@
 // The declarations of a block.
+ghost use Rattle.std.specs.Prelude.{is_ok};
 ghost use Rattle.text_declare.specs.Entered.{tables};
+ghost use Rattle.text_declare.specs.EntryAnswer.{entered_place, tables_after};
 ghost use Rattle.text_declare.specs.EnterCode.{VariablesEnter, DeclarationEnters, DeclarationsEnter};
 
-use crate::entry::{EnteredAt, NameAt, enter, name_after};
+use crate::entry::{EnteredAt, EntryError, NameAt, enter, name_here};
 use crate::names::{end_names, more_names};
 use text_tokens::kinds::WITHENDS;
 use text_types::declarations::is_channel;
-use text_types::place::{PlaceAt, expect, next_kind};
+use text_types::place::{expect, next_kind};
 use text_types::types::{non_void_type, starts_type};
 
 // After the first name of a declaration, which is not entered yet.
@@ -19,20 +21,18 @@ fn after_name(
     used: usize,
     name: NameAt,
     code: u8,
-) -> EnteredAt
+) -> Result<EnteredAt, EntryError>
     ensures { VariablesEnter text.now from name.start name.at code
-        (tables scope.old n row.old used) result.ok result.at
-        (tables scope.new result.n row.new result.used) }
+        (tables scope.old n row.old used) (is_ok result)
+        (entered_place result) (tables_after scope.new row.new result) }
 {
-    let w = expect(text, from, WITHENDS);
-    if is_channel(code) & w.ok {
-        return end_names(text, w.at, scope, row, n, used, name, code);
+    match expect(text, from, WITHENDS) {
+        Ok(w) if is_channel(code) => end_names(text, w, scope, row, n, used, name, code),
+        _ => {
+            let first = enter(scope, row, n, used, name, 0, code)?;
+            more_names(text, from, scope, row, first.n, first.used, code)
+        }
     }
-    let first = enter(scope, row, n, used, name, 0, code);
-    if !first.ok {
-        return first;
-    }
-    more_names(text, from, scope, row, first.n, first.used, code)
 }
 
 // "oneVarDecl ;"
@@ -43,20 +43,12 @@ fn declaration(
     row: &mut [u16; 18],
     n: usize,
     used: usize,
-) -> EnteredAt
-    ensures { DeclarationEnters text.now from (tables scope.old n row.old used) result.ok
-        result.at (tables scope.new result.n row.new result.used) }
+) -> Result<EnteredAt, EntryError>
+    ensures { DeclarationEnters text.now from (tables scope.old n row.old used) (is_ok result)
+        (entered_place result) (tables_after scope.new row.new result) }
 {
-    let t = non_void_type(text, from);
-    let name = name_after(text, PlaceAt { ok: t.ok, at: t.at });
-    if !name.ok {
-        return EnteredAt {
-            ok: false,
-            at: name.at,
-            n: n,
-            used: used,
-        };
-    }
+    let t = non_void_type(text, from)?;
+    let name = name_here(text, t.at)?;
     after_name(text, name.at, scope, row, n, used, name, t.code)
 }
 
@@ -68,30 +60,13 @@ pub fn declarations(
     row: &mut [u16; 18],
     n: usize,
     used: usize,
-) -> EnteredAt
-    ensures { DeclarationsEnter text.now from (tables scope.old n row.old used) result.ok
-        result.at (tables scope.new result.n row.new result.used) }
+) -> Result<EnteredAt, EntryError>
+    ensures { DeclarationsEnter text.now from (tables scope.old n row.old used) (is_ok result)
+        (entered_place result) (tables_after scope.new row.new result) }
 {
-    let mut at = from;
-    let mut many = n;
-    let mut given = used;
-    let first = next_kind(text, at);
-    let mut more = starts_type(first);
-    while more {
-        let d = declaration(text, at, scope, row, many, given);
-        if !d.ok {
-            return d;
-        }
-        at = d.at;
-        many = d.n;
-        given = d.used;
-        let kind = next_kind(text, at);
-        more = starts_type(kind);
+    let mut d = EnteredAt { at: from, n, used };
+    while starts_type(next_kind(text, d.at)) {
+        d = declaration(text, d.at, scope, row, d.n, d.used)?;
     }
-    EnteredAt {
-        ok: true,
-        at: at,
-        n: many,
-        used: given,
-    }
+    Ok(d)
 }

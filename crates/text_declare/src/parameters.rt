@@ -1,10 +1,12 @@
 // The parameters of a method.
+ghost use Rattle.std.specs.Prelude.{is_ok};
 ghost use Rattle.text_declare.specs.Entered.{tables};
+ghost use Rattle.text_declare.specs.EntryAnswer.{entered_place, tables_after};
 ghost use Rattle.text_declare.specs.EnterCode.{ParameterEnters, RestEnters, ParametersEnter};
 
-use crate::entry::{EnteredAt, enter_name};
+use crate::entry::{EnteredAt, EntryError, enter_name};
 use text_tokens::kinds::{CLOSE, COMMA};
-use text_types::place::{PlaceAt, expect, next_kind};
+use text_types::place::expect;
 use text_types::types::non_void_type;
 
 // "methodDeclParam ::= nonVoidType paramName"
@@ -15,20 +17,12 @@ fn parameter(
     row: &mut [u16; 18],
     n: usize,
     used: usize,
-) -> EnteredAt
-    ensures { ParameterEnters text.now from (tables scope.old n row.old used) result.ok result.at
-        (tables scope.new result.n row.new result.used) }
+) -> Result<EnteredAt, EntryError>
+    ensures { ParameterEnters text.now from (tables scope.old n row.old used) (is_ok result)
+        (entered_place result) (tables_after scope.new row.new result) }
 {
-    let t = non_void_type(text, from);
-    enter_name(
-        text,
-        PlaceAt { ok: t.ok, at: t.at },
-        scope,
-        row,
-        n,
-        used,
-        t.code,
-    )
+    let t = non_void_type(text, from)?;
+    enter_name(text, t.at, scope, row, n, used, t.code)
 }
 
 // "(, methodDeclParam)*" after a parameter, and the closing bracket.
@@ -39,32 +33,16 @@ fn more_parameters(
     row: &mut [u16; 18],
     n: usize,
     used: usize,
-) -> EnteredAt
-    ensures { RestEnters text.now from (tables scope.old n row.old used) result.ok result.at
-        (tables scope.new result.n row.new result.used) }
+) -> Result<EnteredAt, EntryError>
+    ensures { RestEnters text.now from (tables scope.old n row.old used) (is_ok result)
+        (entered_place result) (tables_after scope.new row.new result) }
 {
-    let mut at = from;
-    let mut many = n;
-    let mut given = used;
-    let mut kind = next_kind(text, at);
-    while kind == COMMA {
-        let comma = expect(text, at, COMMA);
-        let p = parameter(text, comma.at, scope, row, many, given);
-        if !p.ok {
-            return p;
-        }
-        at = p.at;
-        many = p.n;
-        given = p.used;
-        kind = next_kind(text, at);
+    let mut p = EnteredAt { at: from, n, used };
+    while let Ok(comma) = expect(text, p.at, COMMA) {
+        p = parameter(text, comma, scope, row, p.n, p.used)?;
     }
-    let last = expect(text, at, CLOSE);
-    EnteredAt {
-        ok: last.ok,
-        at: last.at,
-        n: many,
-        used: given,
-    }
+    let at = expect(text, p.at, CLOSE)?;
+    Ok(EnteredAt { at, ..p })
 }
 
 // "methodDeclParamList?" and the closing bracket, after the opening one.
@@ -75,22 +53,13 @@ pub fn parameters(
     row: &mut [u16; 18],
     n: usize,
     used: usize,
-) -> EnteredAt
-    ensures { ParametersEnter text.now from (tables scope.old n row.old used) result.ok result.at
-        (tables scope.new result.n row.new result.used) }
+) -> Result<EnteredAt, EntryError>
+    ensures { ParametersEnter text.now from (tables scope.old n row.old used) (is_ok result)
+        (entered_place result) (tables_after scope.new row.new result) }
 {
-    let close = expect(text, from, CLOSE);
-    if close.ok {
-        return EnteredAt {
-            ok: true,
-            at: close.at,
-            n: n,
-            used: used,
-        };
+    if let Ok(at) = expect(text, from, CLOSE) {
+        return Ok(EnteredAt { at, n, used });
     }
-    let p = parameter(text, from, scope, row, n, used);
-    if !p.ok {
-        return p;
-    }
+    let p = parameter(text, from, scope, row, n, used)?;
     more_parameters(text, p.at, scope, row, p.n, p.used)
 }

@@ -1,37 +1,35 @@
 -- Which statement it is, by the kinds of its first tokens.
-use Prim.Native.Nat.{ℕ, suc, ◌+◌, ◌≤◌, ◌<◌}
+use Prim.Native.Nat.{ℕ, ◌+◌}
 use Prim.Native.String.{String}
 use native.Mathlib.Omega.{arith}
 use mathlib.Core.Path.{◌≡◌, refl, sym, ap, ◌∙◌, subst}
 use mathlib.Core.Logic.{⊎_elim}
-use mathlib.Core.Bool.{Bool, true, false, cond}
-use mathlib.Core.List.{List, [], ◌∷◌, ◌++◌, append-nil}
+use mathlib.Core.Bool.{true, false}
+use mathlib.Core.List.{List, ◌++◌, append-nil}
 use lib.Dec.{eqb}
-use lib.ListN.{length}
 use borrow.Author.Tests.{ne_eqb, eqb-true}
 use Rattle.lists.proofs.Tests.{clash, passes, decide}
 use Rattle.text.specs.Tree.{Declared, Statement, Program}
 use Rattle.text.specs.Translation.{Instruction, Scope}
-use Rattle.text_parse.specs.Tokens.{Token, is, is_name, name_of}
-use Rattle.text_parse.specs.Grammar.{Reading, read, leaves, first, rest, leaves_at, Scopes, expect, expect_name, and_then, next?}
-use Rattle.text_parse.specs.Equations.{expr_from, simple_rule, named_statement_rule, fork_rule, send_rule, recv_rule}
+use Rattle.text_parse.specs.Tokens.{Token, is, is_name}
+use Rattle.text_parse.specs.Grammar.{Reading, read, leaves, first, rest, Scopes, expect, expect_name, next?}
+use Rattle.text_parse.specs.Equations.{simple_rule, named_statement_rule, fork_rule, send_rule, recv_rule}
 use Rattle.text_tokens.specs.Places.{tokens_at}
 use Rattle.text_tokens.specs.KindsCode.{kind_of}
 use Rattle.text_tokens.specs.NextCode.{NextToken, next_at as token_next}
 use Rattle.text_tokens.specs.declared.next.TokenAt.{TokenAt}
 use Rattle.text_tokens.proofs.Tokenwise.{next-token}
 use Rattle.text_tokens.proofs.KindTests.{is-semicolon, is-measure, is-fork, is-send, is-recv, is-return, is-assign, is-name}
-use Rattle.text_types.specs.SaysCode.{next_kind, Passed}
+use Rattle.text_types.specs.SaysCode.{next_kind}
 use Rattle.text_types.proofs.Answers.{passed-next, kind-next}
 use Rattle.text_scan.proofs.Holding.{Holds, holds, off}
-use Rattle.text_slots.specs.Placing.{Placing}
 use Rattle.text_numbering.specs.CodeBy.{place_of}
-use Rattle.text_code.specs.OutcomeCode.{Tables, Outcome, all-written, over}
+use Rattle.text_code.specs.OutcomeCode.{Tables, all-written, over}
 use Rattle.text_code.specs.StatementBy.{statement_by}
 use Rattle.text_code.proofs.Steps.{past, pass-leads, Stands}
 use Rattle.text_code.proofs.Forms.{outcome-same, outcome-lower}
-use Rattle.text_emit.specs.declared.emit.Emit.{Emit}
-use Rattle.text_emit.specs.EmitCode.{tables_of, passed_by, Emits, StatementEmits, StatementFrom, InvokeFrom, MethodsOf, NamedEmits, SimpleEmits, give_rule, measure_rule, assign_rule, invoke_rule, name_rule}
+use Rattle.text_emit.specs.Reached.{EmitState}
+use Rattle.text_emit.specs.EmitCode.{tables_of, passed_by, StatementEmits, StatementFrom, InvokeFrom, NamedEmits, SimpleEmits, give_rule, measure_rule, assign_rule, invoke_rule, name_rule}
 use Rattle.text_emit.proofs.SimpleLaws.{At}
 
 module _ (us : List Token) (kind : ℕ) (k : kind_of (first us).bytes ≡ kind) where
@@ -109,14 +107,14 @@ module _ (us : List Token) (kind : ℕ) (k : kind_of (first us).bytes ≡ kind) 
 module _ (text : List ℕ) (n : ℕ) (scope : List ℕ) where
   -- the tokens to come, where all fits so far
   first_kind : {row code : List ℕ} {low : ℕ} {b : List Instruction} {es : List Declared} {σ : Tables} {us : List Token}
-      {e : Emit} (t : TokenAt) → e.ok ≡ true → NextToken text e.at t → At text n scope row code low b es us σ e
+      {e : EmitState} (t : TokenAt) → e.ok ≡ true → NextToken text e.at t → At text n scope row code low b es us σ e
       → kind_of (first us).bytes ≡ t.kind
   first_kind t on k (over o v) = absurd (clash o (passes on))
   first_kind t on k (all-written o l i u q w) =
       ap (λ (ts : List Token). kind_of (first ts).bytes) u ∙ kind-next text _ t k
 
   second-kind : {row code : List ℕ} {low : ℕ} {b : List Instruction} {es : List Declared} {σ : Tables} {us : List Token}
-      {e : Emit} → e.ok ≡ true → Stands us → At text n scope row code low b es us σ e
+      {e : EmitState} → e.ok ≡ true → Stands us → At text n scope row code low b es us σ e
       → kind_of (first (rest us)).bytes ≡ next_kind text (past text e.at)
   second-kind on s (over o v) = absurd (clash o (passes on))
   second-kind {row} {code} {low} {b} {es} {σ} {us} {e} on s (all-written o l i u q w) =
@@ -126,7 +124,7 @@ module _ (text : List ℕ) (n : ℕ) (scope : List ℕ) where
       let pass = passed-next text e.at t k (λ g. stands (kind-next text e.at t k ∙ g)) in
       ap (λ (ts : List Token). kind_of (first ts).bytes) (ap rest u ∙ pass.after)
 
-  module _ (e r : Emit) (code code' : List ℕ) where
+  module _ (e r : EmitState) (code code' : List ℕ) where
     -- another reading of the same tokens
     by-rule : {A : Type 0} {P : A → List Token → Type 0} {x y : Reading A} → x ≡ y → Holds P y → Holds P x
     by-rule {A} {P} q h = subst (Holds P) (sym q) h
@@ -148,18 +146,18 @@ module _ (text : List ℕ) (n : ℕ) (scope : List ℕ) where
     invoked-same scopes us f = ⊎_elim (λ y. rw (y, f y) refl) (λ z. rw z refl) (decide (is_name (first us)))
 
     -- where the second token stands
-    second_at : (a : Emit) (kind : ℕ) → a ≡ passed_by text e → kind ≡ next_kind text a.at
+    second_at : (a : EmitState) (kind : ℕ) → a ≡ passed_by text e → kind ≡ next_kind text a.at
         → kind ≡ next_kind text (past text e.at)
-    second_at a kind ea k = k ∙ ap (λ (x : Emit). next_kind text x.at) ea
+    second_at a kind ea k = k ∙ ap (λ (x : EmitState). next_kind text x.at) ea
 
-    pub named-assigns : (a : Emit) (kind : ℕ) → a ≡ passed_by text e → kind ≡ next_kind text a.at → kind ≡ 29
+    pub named-assigns : (a : EmitState) (kind : ℕ) → a ≡ passed_by text e → kind ≡ next_kind text a.at → kind ≡ 29
         → StatementFrom assign_rule text scope n e code r code' → NamedEmits text scope n e code r code'
     named-assigns a kind ea ek k s ms methods on i at row us low b es σ scopes sc pl few h =
         by-rule (named-same scopes us (λ y. is-assign (first (rest us))
         ∙ ap (λ (j : ℕ). eqb j 29) (second-kind on (name-stands us y) h ∙ sym (second_at a kind ea ek) ∙ k)))
         (s on ms i at row us low b es σ scopes sc pl few h)
 
-    pub named-invokes : (a : Emit) (kind : ℕ) → a ≡ passed_by text e → kind ≡ next_kind text a.at → (kind ≡ 29 → ⊥)
+    pub named-invokes : (a : EmitState) (kind : ℕ) → a ≡ passed_by text e → kind ≡ next_kind text a.at → (kind ≡ 29 → ⊥)
         → InvokeFrom text scope n e code r code' → NamedEmits text scope n e code r code'
     named-invokes a kind ea ek k s ms methods on i at row us low b es σ scopes sc pl few h =
         by-rule (invoked-same scopes us (λ y. is-assign (first (rest us))
@@ -175,7 +173,7 @@ module _ (text : List ℕ) (n : ℕ) (scope : List ℕ) where
           by-rule (rule-named us t.kind (first_kind t on there h) scopes k₁ k₂ k₃ k₄ k₅ k₆)
           (s ms methods on i at row us low b es σ scopes sc pl few h)
 
-      module _ (a : Emit) (ea : a ≡ passed_by text e) where
+      module _ (a : EmitState) (ea : a ≡ passed_by text e) where
         -- the word is passed
         passed : {row : List ℕ} {low : ℕ} {b : List Instruction} {es : List Declared} {σ : Tables} {us : List Token}
             → e.ok ≡ true → (t.kind ≡ 32 → ⊥) → At text n scope row code low b es us σ e
@@ -203,7 +201,7 @@ module _ (text : List ℕ) (n : ℕ) (scope : List ℕ) where
         after-word rule k same s ms methods on i at row us low b es σ scopes sc pl few h =
             by-rule (same us scopes (first_kind t on there h))
             (lowered low b i at sc ms (rule scopes (rest us))
-            (s (ap (λ (x : Emit). x.ok) ea ∙ on) ms i at row (rest us) (1 + low) b es σ scopes sc pl few (passed on k
+            (s (ap (λ (x : EmitState). x.ok) ea ∙ on) ms i at row (rest us) (1 + low) b es σ scopes sc pl few (passed on k
             h)))
 
         pub simple-measure : t.kind ≡ 9 → StatementFrom measure_rule text scope n a code r code'
@@ -233,7 +231,7 @@ module _ (text : List ℕ) (n : ℕ) (scope : List ℕ) where
             after-word give_rule (λ g. omega (arith, k, g)) (λ us scopes f. rule-give us t.kind f scopes k) (λ on. s)
 
   -- ; alone
-  pub simple-skip : (e a : Emit) (code : List ℕ) (t : TokenAt) → NextToken text e.at t → a ≡ passed_by text e
+  pub simple-skip : (e a : EmitState) (code : List ℕ) (t : TokenAt) → NextToken text e.at t → a ≡ passed_by text e
       → t.kind ≡ 26 → SimpleEmits text scope n e code a code
   unfolding simple_rule statement_by
   simple-skip e a code t there ea k ms methods on i at row us low b es σ scopes sc pl few h =

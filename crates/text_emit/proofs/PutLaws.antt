@@ -1,40 +1,44 @@
 -- Instructions put one after the other: a value stored, a call or a gate.
-use Prim.Native.Nat.{ℕ, zero, suc, ◌+◌, ◌*◌, ◌≤◌, ◌<◌}
+use Prim.Native.Nat.{ℕ, zero, suc, ◌+◌, ◌<◌}
 use native.Mathlib.Omega.{arith}
 use mathlib.Core.Path.{◌≡◌, refl, sym, ap, ◌∙◌, subst}
 use mathlib.Core.Bool.{Bool, true, false}
 use mathlib.Core.List.{List, [], ◌∷◌, ◌++◌, map, append-nil, append_assoc}
 use mathlib.Core.Option.{Option, none, some}
-use lib.ListN.{length, get_or}
+use lib.ListN.{get_or}
 use lib.Seq.{slice}
 use Rattle.lists.proofs.Tests.{clash, passes}
-use Rattle.text.specs.Tree.{Name, NonVoidType, Carried, int_type, boolean_type, qbit_type, plain, channel_type, end_type, Method, Program, main_first, method_of, gate_of, numbered, gate_names}
-use Rattle.text.specs.Translation.{Instruction, instruction, DROP, Placed, Scope, placed_slot, slot_of, found_in, assign_code, drop_code, carried_code, type_code, return_code}
+use Rattle.text.specs.Tree.{Name, NonVoidType, Carried, int_type, boolean_type, qbit_type, plain, channel_type, end_type, Method, Program, method_of, gate_of, numbered, gate_names}
+use Rattle.text.specs.Translation.{Instruction, instruction, DROP, Scope, placed_slot, slot_of, found_in, assign_code, drop_code, carried_code, type_code, return_code}
 use Rattle.text_parse.specs.Tokens.{Token}
-use Rattle.text_parse.specs.Grammar.{Reading, read, leaves, and_then, return_type, expect, expect_name}
+use Rattle.text_parse.specs.Grammar.{Reading, read, leaves, return_type}
 use Rattle.text_parse.specs.Equations.{method_from, method_rule, parameters_rule, method_body_rule}
 use Rattle.text_parse.proofs.Equations.{grammar}
 use Rattle.text_tokens.specs.Places.{tokens_at}
-use Rattle.text_types.specs.SaysCode.{Says, reads, leaves-at, ReturnSays}
+use Rattle.text_types.specs.SaysCode.{reads, ReturnSays}
 use Rattle.text_types.specs.declared.types.TypeAt.{TypeAt}
-use Rattle.text_slots.specs.Placing.{PlacedAt, Placing, nothing_placed, one_placed}
+use Rattle.std.specs.Prelude as P
+use Rattle.text_types.specs.declared.place.GrammarError.{GrammarError}
+use Rattle.text_types.specs.Answer.{type_code_in}
+use Rattle.text_methods.specs.declared.find.MethodAt.{MethodAt}
+use Rattle.text_slots.specs.Placing.{Placing, nothing_placed, one_placed}
 use Rattle.text_scan.proofs.Holding.{Holds, holds, off, held, then-holds, expect-holds, name-holds}
 use Rattle.text_methods.specs.MethodSays.{MethodSays, stands, absent, MethodOf}
 use Rattle.text_numbering.specs.CodeBy.{number_fits, place_of}
-use Rattle.text_code.specs.OutcomeCode.{Tables, Outcome}
 use Rattle.text_code.specs.StatementBy.{invoke_by}
 use Rattle.text_code.proofs.Forms.{outcome-same}
-use Rattle.text_emit.specs.declared.emit.Emit.{Emit}
-use Rattle.text_emit.specs.EmitCode.{tables_of, Puts, PutsOne, PutsValue, ends_first, ends_second, MethodsOf, PutsInvocation}
+use Rattle.text_emit.specs.Reached.{EmitState}
+use Rattle.text_emit.proofs.EmitLaws.{lost, puts-stuck}
+use Rattle.text_emit.specs.EmitCode.{Puts, PutsOne, PutsValue, ends_first, ends_second, MethodsOf, PutsInvocation}
 
 -- some instructions, and then others
-pub puts_then : (c d : List Instruction) (e f r : Emit) (code code₁ code₂ : List ℕ) → Puts c e code f code₁
+pub puts_then : (c d : List Instruction) (e f r : EmitState) (code code₁ code₂ : List ℕ) → Puts c e code f code₁
     → Puts d f code₁ r code₂ → Puts (c ++ d) e code r code₂
 puts_then c d e f r code code₁ code₂ p q text us n scope row low b es σ h =
     outcome-same text (append_assoc b c d) refl (q text us n scope row low (b ++ c) es σ (p text us n scope row low b es
     σ h))
 
-module _ (e f g h r : Emit) (c₀ c₁ c₂ c₃ c₄ : List ℕ) where
+module _ (e f g h r : EmitState) (c₀ c₁ c₂ c₃ c₄ : List ℕ) where
   four-puts : (i j k l : Instruction) → Puts (i ∷ []) e c₀ f c₁ → Puts (j ∷ []) f c₁ g c₂ → Puts (k ∷ []) g c₂ h c₃
       → Puts (l ∷ []) h c₃ r c₄ → Puts (i ∷ j ∷ k ∷ l ∷ []) e c₀ r c₄
   four-puts i j k l p q s t =
@@ -54,7 +58,7 @@ module _ (e f g h r : Emit) (c₀ c₁ c₂ c₃ c₄ : List ℕ) where
   second-end i p q s t =
       four-puts (instruction 3 i) (instruction 9 1) (instruction 4 (i + 2)) DROP (p refl) (q refl) (s refl) (t refl)
 
-module _ (slot : ℕ) (e f r : Emit) (c₀ c₁ c₂ : List ℕ) where
+module _ (slot : ℕ) (e f r : EmitState) (c₀ c₁ c₂ : List ℕ) where
   pub value-ends : (ends : Bool) → ends ≡ true → Puts (ends_first slot) e c₀ f c₁ → Puts (ends_second slot) f c₁ r c₂
       → PutsValue slot ends e c₀ r c₂
   unfolding assign_code
@@ -104,12 +108,12 @@ drop-value none f = absurd (f refl)
 drop-value (some t) f = refl
 
 -- a method's return type is read first
-returns-first : (text : List ℕ) (at : ℕ) (t : TypeAt) (m : Method) (us : List Token)
+returns-first : (text : List ℕ) (at : ℕ) (t : P.Result TypeAt GrammarError) (m : Method) (us : List Token)
     → ReturnSays text at t (return_type (tokens_at text at)) → method_from (tokens_at text at) ≡ read m us
-    → t.code ≡ return_code m.returns
+    → type_code_in t ≡ return_code m.returns
 unfolding method_rule method_body_rule
 returns-first text at t m us says e =
-    held m us (subst (Holds (λ (m : Method) (us : List Token). t.code ≡ return_code m.returns))
+    held m us (subst (Holds (λ (m : Method) (us : List Token). type_code_in t ≡ return_code m.returns))
     (sym (grammar.method-is (tokens_at text at)) ∙ e)
     (then-holds (coded (return_type (tokens_at text at)) says) (λ r vs g. name-holds vs (λ x ws n. expect-holds "(" ws
     (λ xs o. then-holds (any-tree (parameters_rule xs)) (λ ps ys u. expect-holds "{" ys (λ zs b. then-holds
@@ -120,58 +124,65 @@ returns-first text at t m us says e =
     any-tree (leaves i) = off
 
     coded : (r : Reading (Option NonVoidType)) → ReturnSays text at t r
-        → Holds (λ (o : Option NonVoidType) (us : List Token). t.code ≡ return_code o) r
+        → Holds (λ (o : Option NonVoidType) (us : List Token). type_code_in t ≡ return_code o) r
     coded (read a us) (reads o u h w p) = holds p
     coded (leaves i) s = off
 
-module _ (text : List ℕ) (start end : ℕ) (found : Bool) (index at params : ℕ) (e : Emit) (code : List ℕ) where
+module _ (text : List ℕ) (start end : ℕ) (e : EmitState) (code : List ℕ) where
   -- the method of a name, by its bytes
-  method-of : (ms : Program) (x : Name) (k : MethodsOf text ms) → x.spelling ≡ slice start end text
-      → MethodOf text (slice start end text) found index at params → MethodSays text k.in_text x found index at params
-  method-of ms x k s f =
-      subst (λ (b : List ℕ). MethodSays text k.in_text (record { spelling = b; at = x.at }) found index at params)
+  method-of : (ms : Program) (x : Name) (k : MethodsOf text ms) {o : P.Option MethodAt}
+      → x.spelling ≡ slice start end text → MethodOf text (slice start end text) o → MethodSays text k.in_text x o
+  method-of ms x k {o} s f =
+      subst (λ (b : List ℕ). MethodSays text k.in_text (record { spelling = b; at = x.at }) o)
       (sym s)
       (f k.in_text k.after x.at k.reading)
 
-  pub invoke-gate : (g : ℕ) (r : Emit) (code' : List ℕ) → found ≡ false
-      → MethodOf text (slice start end text) found index at params
+  pub invoke-gate : (g : ℕ) (r : EmitState) (code' : List ℕ) → MethodOf text (slice start end text) P.None
       → g ≡ numbered 1 (slice start end text) gate_names → PutsOne 10 g e code r code'
       → PutsInvocation text start end e code r code'
   unfolding invoke_by number_fits gate_of
-  invoke-gate g r code' missing f number p ms x k place s l w = by (method-of ms x k s f)
+  invoke-gate g r code' f number p ms x k place s l w = by (method-of ms x k s f)
     where
-      by : MethodSays text k.in_text x found index at params
-          → Puts (invoke_by place_of x (method_of ms x)) e code r code'
-      by (stands m us y _ _ _ _) = absurd (clash missing (passes y))
-      by (absent _ none' _) =
+      by : MethodSays text k.in_text x P.None → Puts (invoke_by place_of x (method_of ms x)) e code r code'
+      by (absent none') =
           rw (ap (λ (q : Program). method_of q x) k.ordered ∙ none', s, sym number) (p refl)
 
-  module _ (f r : Emit) (t : TypeAt) (code₁ code₂ : List ℕ) (yes : found ≡ true)
-      (says : MethodOf text (slice start end text) found index at params)
-      (type : ReturnSays text at t (return_type (tokens_at text at))) (p : PutsOne 12 start e code f code₁) where
+  -- the call itself does not fit
+  pub invoke-stuck : (a : MethodAt) (code' : List ℕ) → MethodOf text (slice start end text) (P.Some a)
+      → PutsOne 12 start e code lost code' → PutsInvocation text start end e code lost code'
+  unfolding invoke_by number_fits
+  invoke-stuck a code' says p ms x k place s l w = by (method-of ms x k s says)
+    where
+      by : MethodSays text k.in_text x (P.Some a) → Puts (invoke_by place_of x (method_of ms x)) e code lost code'
+      by (stands m us there reading _ _) =
+          rw (ap (λ (q : Program). method_of q x) k.ordered ∙ there, place)
+          (puts_then (instruction 12 start ∷ []) (drop_code m.returns) e lost lost code code' code' (p refl)
+          (puts-stuck (drop_code m.returns) lost lost code' code' refl refl))
+
+  module _ (a : MethodAt) (f r : EmitState) (t : P.Result TypeAt GrammarError) (code₁ code₂ : List ℕ)
+      (says : MethodOf text (slice start end text) (P.Some a))
+      (type : ReturnSays text a.at t (return_type (tokens_at text a.at))) (p : PutsOne 12 start e code f code₁) where
     -- a call of a method, and what is done with what it returns
-    call-then : (d : List Instruction) (r : Emit) (code' : List ℕ)
-        → ((m : Method) → t.code ≡ return_code m.returns → drop_code m.returns ≡ d) → Puts d f code₁ r code'
+    call-then : (d : List Instruction) (r : EmitState) (code' : List ℕ)
+        → ((m : Method) → type_code_in t ≡ return_code m.returns → drop_code m.returns ≡ d) → Puts d f code₁ r code'
         → PutsInvocation text start end e code r code'
     unfolding invoke_by number_fits
     call-then d r code' drops q ms x k place s l w = by (method-of ms x k s says)
       where
-        by : MethodSays text k.in_text x found index at params
-            → Puts (invoke_by place_of x (method_of ms x)) e code r code'
-        by (absent missing _ _) = absurd (clash missing (passes yes))
-        by (stands m us y there reading _ _) =
+        by : MethodSays text k.in_text x (P.Some a) → Puts (invoke_by place_of x (method_of ms x)) e code r code'
+        by (stands m us there reading _ _) =
             rw (
               ap (λ (q : Program). method_of q x) k.ordered ∙ there,
               place,
-              drops m (returns-first text at t m us type reading),
+              drops m (returns-first text a.at t m us type reading),
             )
             (puts_then (instruction 12 start ∷ []) d e f r code code₁ code' (p refl) q)
 
-    pub invoke-void : t.code ≡ 0 → PutsInvocation text start end e code f code₁
+    pub invoke-void : type_code_in t ≡ 0 → PutsInvocation text start end e code f code₁
     invoke-void z =
         call-then [] f code₁ (λ m g. drop-void m.returns (sym g ∙ z))
         (λ text us n scope row low b es σ h. outcome-same text (sym (append-nil b)) refl h)
 
-    pub invoke-value : (t.code ≡ 0 → ⊥) → PutsOne 5 0 f code₁ r code₂ → PutsInvocation text start end e code r code₂
+    pub invoke-value : (type_code_in t ≡ 0 → ⊥) → PutsOne 5 0 f code₁ r code₂ → PutsInvocation text start end e code r code₂
     unfolding number_fits
     invoke-value z q = call-then (DROP ∷ []) r code₂ (λ m g. drop-value m.returns (λ y. z (g ∙ y))) (q refl)

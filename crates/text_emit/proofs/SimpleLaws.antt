@@ -1,34 +1,33 @@
 -- Statements that hold no other: their parts one after the other.
-use Prim.Native.Nat.{ℕ, suc, ◌+◌, ◌*◌, ◌≤◌, ◌<◌}
+use Prim.Native.Nat.{ℕ, ◌+◌, ◌≤◌, ◌<◌}
 use Prim.Native.String.{String}
 use native.Mathlib.Omega.{arith}
 use mathlib.Core.Path.{◌≡◌, refl, sym, ap, ◌∙◌, subst}
-use mathlib.Core.Bool.{Bool, true, false}
+use mathlib.Core.Bool.{Bool, true}
 use mathlib.Core.List.{List, [], ◌∷◌, ◌++◌, append_assoc}
 use lib.Dec.{eqb}
 use lib.ListN.{length}
 use lib.Seq.{slice}
 use Rattle.lists.proofs.Tests.{clash, passes}
-use Rattle.text.specs.Tree.{Name, Declared, Statement, Program, method_of}
-use Rattle.text.specs.Translation.{Instruction, instruction, GET, DROP, MEAS, RET, FORK, SEND, Scope, slot_of, assign_code}
+use Rattle.text.specs.Tree.{Name, Declared, method_of}
+use Rattle.text.specs.Translation.{Instruction, GET, DROP, MEAS, RET, FORK, SEND, slot_of, assign_code}
 use Rattle.text_parse.specs.Tokens.{Token, is}
-use Rattle.text_parse.specs.Grammar.{Reading, read, leaves, first, Scopes, expect, and_then, measured_name}
+use Rattle.text_parse.specs.Grammar.{Reading, read, leaves, first, measured_name}
 use Rattle.text_parse.specs.Equations.{expr_from, arguments_rule, recv_rule, send_rule, fork_rule}
 use Rattle.text_tokens.specs.KindsCode.{kind_of}
 use Rattle.text_tokens.specs.NextCode.{NextToken}
 use Rattle.text_tokens.specs.declared.next.TokenAt.{TokenAt}
 use Rattle.text_tokens.proofs.KindTests.{is_open, is-close, is-comma, is-semicolon, is-assign}
 use Rattle.text_scan.proofs.Holding.{Holds, holds, off, After, AfterName, after-name, then-holds, expect-holds, name-holds}
-use Rattle.text_slots.specs.Placing.{Placing, SlotAnswer}
+use Rattle.text_slots.specs.Placing.{SlotAnswer}
 use Rattle.text_emit_expr.specs.PartsCode.{MeasuredUpTo}
 use Rattle.text_numbering.specs.CodeBy.{number_fits, code_by, arguments_by, place_of}
 use Rattle.text_code.specs.OutcomeCode.{Tables, Outcome, all-written, over}
 use Rattle.text_code.specs.StatementBy.{invoke_by, statement_by}
-use Rattle.text_code.proofs.Steps.{past}
 use Rattle.text_code.proofs.Forms.{outcome-same, outcome-lower, pass-after, pass-name}
 use Rattle.text_emit.proofs.PutLaws.{slot-word}
-use Rattle.text_emit.specs.declared.emit.Emit.{Emit}
-use Rattle.text_emit.specs.EmitCode.{tables_of, passed_by, Puts, PutsOne, Emits, StatementEmits, StatementFrom, InvokeFrom, PutsValue, PutsInvocation, give_rule, measure_rule, assign_rule, invoke_rule}
+use Rattle.text_emit.specs.Reached.{EmitState}
+use Rattle.text_emit.specs.EmitCode.{tables_of, passed_by, PutsOne, Emits, StatementEmits, StatementFrom, InvokeFrom, PutsValue, PutsInvocation, give_rule, measure_rule, assign_rule, invoke_rule}
 
 -- what holds of every tree that a reading comes to
 pub holds_read : {A : Type 0} {P : A → List Token → Type 0} (r : Reading A)
@@ -38,11 +37,11 @@ holds_read (leaves i) f = off
 
 module _ (text : List ℕ) (n : ℕ) (scope : List ℕ) where
   -- where an emission stands
-  abbrev pub At : List ℕ → List ℕ → ℕ → List Instruction → List Declared → List Token → Tables → Emit → Type 0
+  abbrev pub At : List ℕ → List ℕ → ℕ → List Instruction → List Declared → List Token → Tables → EmitState → Type 0
   At row code low b es us σ e = Outcome text low b es us σ e.ok e.at (tables_of e n scope row code)
 
   module _ {row code : List ℕ} {low : ℕ} {b : List Instruction} {es : List Declared} {σ : Tables} {us vs : List Token}
-      {e r : Emit} (p : r ≡ passed_by text e) where
+      {e r : EmitState} (p : r ≡ passed_by text e) where
     pub step-token : (s : String) (k : ℕ) → ((t : Token) → is s t ≡ eqb (kind_of t.bytes) k) → (k ≡ 32 → ⊥)
         → After s us vs → At row code low b es us σ e → At row code (1 + low) b es vs σ r
     step-token s k test f t h =
@@ -65,14 +64,14 @@ module _ (text : List ℕ) (n : ℕ) (scope : List ℕ) where
 
   -- the code of a whole statement under its own name
   pub as_code : {row code : List ℕ} {c d : List Instruction} {es : List Declared} {us : List Token} {σ : Tables}
-      {r : Emit} (low high : ℕ) → low ≤ high → c ≡ d → At row code high c es us σ r → At row code low d es us σ r
+      {r : EmitState} (low high : ℕ) → low ≤ high → c ≡ d → At row code high c es us σ r → At row code low d es us σ r
   as_code low high l e h = outcome-lower text low high l (outcome-same text e refl h)
 
   two-after : (b c : List Instruction) (i j : Instruction)
       → ((b ++ c) ++ (i ∷ [])) ++ (j ∷ []) ≡ b ++ (c ++ (i ∷ j ∷ []))
   two-after b c i j = append_assoc (b ++ c) (i ∷ []) (j ∷ []) ∙ append_assoc b c (i ∷ j ∷ [])
 
-  pub send-emits : (e a x c v d f r : Emit) (code₀ code₁ code₂ code₃ : List ℕ) → a ≡ passed_by text e
+  pub send-emits : (e a x c v d f r : EmitState) (code₀ code₁ code₂ code₃ : List ℕ) → a ≡ passed_by text e
       → Emits expr_from (code_by place_of) text scope n a code₀ x code₁ → c ≡ passed_by text x
       → Emits expr_from (code_by place_of) text scope n c code₁ v code₂ → d ≡ passed_by text v → f ≡ passed_by text d
       → PutsOne 15 0 f code₂ r code₃ → StatementEmits send_rule text scope n e code₀ r code₃
@@ -89,7 +88,7 @@ module _ (text : List ℕ) (n : ℕ) (scope : List ℕ) where
       ∙ append_assoc b (code_by place_of sc y) (code_by place_of sc z ++ (SEND ∷ [])))
       (put₁ refl text qs n scope row _ _ es σ (step-semicolon ef t₃ (step-close ed t₂ h₂))))))))))
 
-  pub give-emits : (e x c r : Emit) (code₀ code₁ code₂ : List ℕ)
+  pub give-emits : (e x c r : EmitState) (code₀ code₁ code₂ : List ℕ)
       → Emits expr_from (code_by place_of) text scope n e code₀ x code₁ → c ≡ passed_by text x
       → PutsOne 13 0 c code₁ r code₂ → StatementEmits give_rule text scope n e code₀ r code₂
   unfolding give_rule statement_by number_fits
@@ -100,7 +99,7 @@ module _ (text : List ℕ) (n : ℕ) (scope : List ℕ) where
 
   -- where a name's token stands, if all fits so far
   name-place : {row code : List ℕ} {low : ℕ} {b : List Instruction} {es : List Declared} {σ : Tables}
-      {us vs : List Token} {x : Name} {e : Emit} (t : TokenAt) → e.ok ≡ true → AfterName us x vs
+      {us vs : List Token} {x : Name} {e : EmitState} (t : TokenAt) → e.ok ≡ true → AfterName us x vs
       → NextToken text e.at t → At row code low b es us σ e → (x.at ≡ t.start) × (x.spelling ≡ slice t.start
       t.end text)
   name-place t on (after-name f) k (over o v) = absurd (clash o (passes on))
@@ -109,7 +108,7 @@ module _ (text : List ℕ) (n : ℕ) (scope : List ℕ) where
     ap (λ (ts : List Token). (first ts).bytes) (u ∙ k.reads),
   )
 
-  pub fork-emits : (e a c x d r : Emit) (t : TokenAt) (code₀ code₁ code₂ : List ℕ) → NextToken text e.at t
+  pub fork-emits : (e a c x d r : EmitState) (t : TokenAt) (code₀ code₁ code₂ : List ℕ) → NextToken text e.at t
       → a ≡ passed_by text e → c ≡ passed_by text a
       → Emits arguments_rule (arguments_by place_of) text scope n c code₀ x code₁ → d ≡ passed_by text x
       → PutsOne 14 t.start d code₁ r code₂ → StatementFrom fork_rule text scope n e code₀ r code₂
@@ -127,7 +126,7 @@ module _ (text : List ℕ) (n : ℕ) (scope : List ℕ) where
       → ((b ++ (i ∷ [])) ++ (j ∷ [])) ++ (k ∷ []) ≡ b ++ (i ∷ j ∷ k ∷ [])
   three-after b i j k = two-after b (i ∷ []) j k
 
-  pub measure-emits : (e a p q r : Emit) (start end at slot : ℕ) (ends : Bool) (code₀ code₁ code₂ code₃ : List ℕ)
+  pub measure-emits : (e a p q r : EmitState) (start end at slot : ℕ) (ends : Bool) (code₀ code₁ code₂ code₃ : List ℕ)
       → MeasuredUpTo text e.at start end at → SlotAnswer text scope n start end slot ends
       → a ≡ passed_by text (record { ok = e.ok; at = at; used = e.used; count = e.count })
       → PutsOne 3 slot a code₀ p code₁ → PutsOne 11 0 p code₁ q code₂ → PutsOne 5 0 q code₂ r code₃
@@ -143,7 +142,7 @@ module _ (text : List ℕ) (n : ℕ) (scope : List ℕ) where
       (put₃ refl text ws n scope row _ _ es σ (put₂ refl text ws n scope row _ _ es σ
       (put₁ refl text ws n scope row _ _ es σ (step-semicolon ea t h₁)))))))
     where
-      named : Emit
+      named : EmitState
       named = record { ok = e.ok; at = at; used = e.used; count = e.count }
 
       measured-holds : At row code₀ low b es us σ e
@@ -156,7 +155,7 @@ module _ (text : List ℕ) (n : ℕ) (scope : List ℕ) where
           let further : e.at < at = up.0.onward in
           (all-written o (omega arith) up.0.inside up.0.left f w, up.1))
 
-  pub receive-emits : (e a x c d p r : Emit) (code₀ code₁ code₂ code₃ : List ℕ) → a ≡ passed_by text e
+  pub receive-emits : (e a x c d p r : EmitState) (code₀ code₁ code₂ code₃ : List ℕ) → a ≡ passed_by text e
       → Emits expr_from (code_by place_of) text scope n a code₀ x code₁ → c ≡ passed_by text x → d ≡ passed_by text c
       → PutsOne 16 0 d code₁ p code₂ → PutsOne 5 0 p code₂ r code₃
       → StatementEmits recv_rule text scope n e code₀ r code₃
@@ -170,7 +169,7 @@ module _ (text : List ℕ) (n : ℕ) (scope : List ℕ) where
       (put₂ refl text ys n scope row _ _ es σ
       (put₁ refl text ys n scope row _ _ es σ (step-semicolon ed t₂ (step-close ec t₁ h₁)))))))))
 
-  pub assign-emits : (e a c x d r : Emit) (t : TokenAt) (slot : ℕ) (ends : Bool) (code₀ code₁ code₂ : List ℕ)
+  pub assign-emits : (e a c x d r : EmitState) (t : TokenAt) (slot : ℕ) (ends : Bool) (code₀ code₁ code₂ : List ℕ)
       → NextToken text e.at t → a ≡ passed_by text e → c ≡ passed_by text a
       → Emits expr_from (code_by place_of) text scope n c code₀ x code₁ → d ≡ passed_by text x
       → SlotAnswer text scope n t.start t.end slot ends → PutsValue slot ends d code₁ r code₂
@@ -193,7 +192,7 @@ module _ (text : List ℕ) (n : ℕ) (scope : List ℕ) where
       σ
       (step-semicolon ed t₂ h₁)))))))
 
-  pub invoke-emits : (e a c x d r : Emit) (t : TokenAt) (code₀ code₁ code₂ : List ℕ)
+  pub invoke-emits : (e a c x d r : EmitState) (t : TokenAt) (code₀ code₁ code₂ : List ℕ)
       → NextToken text e.at t → a ≡ passed_by text e → c ≡ passed_by text a
       → Emits arguments_rule (arguments_by place_of) text scope n c code₀ x code₁ → d ≡ passed_by text x
       → PutsInvocation text t.start t.end d code₁ r code₂ → InvokeFrom text scope n e code₀ r code₂

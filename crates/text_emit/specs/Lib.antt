@@ -1,1 +1,2 @@
 pub mod EmitCode
+pub mod Reached

@@ -1,9 +1,10 @@
 // A statement NAME(..); is a call of the first method of that name, or a gate where no method has it.
 ghost use Rattle.text_methods.specs.IndexCode.{Indexed};
 ghost use Rattle.text_emit.specs.EmitCode.{PutsInvocation};
+ghost use Rattle.text_emit.specs.Reached.{reached, there};
 
 use crate::emit::{Emit, put};
-use text_methods::index::method_indexed;
+use text_methods::methods::Methods;
 use text_roles::gate::gate_number;
 use text_types::types::return_type;
 
@@ -15,25 +16,27 @@ pub fn put_invocation(
     e: Emit,
     start: usize,
     end: usize,
-) -> Emit
+) -> Option<Emit>
     requires { Indexed text.now methods.now }
-    ensures { PutsInvocation text.now start end e code.old result code.new }
+    ensures { PutsInvocation text.now start end (there e) code.old (reached result) code.new }
 {
     if end < start {
-        return e;
+        return None;
     }
     if text.len() < end {
-        return e;
+        return None;
     }
-    let m = method_indexed(text, methods, start, end);
-    if !m.found {
+    let methods = Methods {
+        text,
+        index: methods,
+    };
+    let Some(m) = methods.method_indexed(start, end) else {
         let gate = gate_number(text, start, end);
         return put(code, e, 10, gate as usize);
+    };
+    let called = put(code, e, 12, start)?;
+    match return_type(text, m.at) {
+        Ok(t) if t.code != 0 => put(code, called, 5, 0),
+        _ => Some(called),
     }
-    let called = put(code, e, 12, start);
-    let t = return_type(text, m.at);
-    if t.code == 0 {
-        return called;
-    }
-    put(code, called, 5, 0)
 }

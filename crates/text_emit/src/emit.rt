@@ -3,14 +3,15 @@
 ghost use Rattle.std.specs.Prelude.{◌≡◌};
 ghost use Rattle.text_tokens.specs.NextCode.{NextToken};
 ghost use Rattle.text_emit.specs.EmitCode.{passed_by, PutsOne, Patches};
+ghost use Rattle.text_emit.specs.Reached.{reached, there};
 
-use text_emit_expr::state::{put as put_words, write};
+use text_emit_expr::state::put as put_words;
 use text_tokens::next::{TokenAt, next_token};
 
-// Whether all fits so far, the place in the text, the slots given out, and the instructions in the buffer.
+// Where all fits so far: the place in the text, the slots given out, and the instructions in the buffer. A step that
+// does not fit answers none.
 #[derive(Clone, Copy)]
 pub struct Emit {
-    pub ok: bool,
     pub at: usize,
     pub used: usize,
     pub count: usize,
@@ -18,63 +19,40 @@ pub struct Emit {
 
 // The next token is passed.
 pub fn pass(text: &[u8], e: Emit) -> Emit
-    ensures { result ≡ passed_by text.now e }
+    ensures { there result ≡ passed_by text.now (there e) }
 {
     let t = next_token(text, e.at);
-    Emit {
-        ok: e.ok,
-        at: t.end,
-        used: e.used,
-        count: e.count,
-    }
+    Emit { at: t.end, ..e }
 }
 
 // The next token, which has been read, is passed.
 pub fn pass_token(text: &[u8], e: Emit, t: TokenAt) -> Emit
     requires { NextToken text.now e.at t }
-    ensures { result ≡ passed_by text.now e }
+    ensures { there result ≡ passed_by text.now (there e) }
 {
-    Emit {
-        ok: e.ok,
-        at: t.end,
-        used: e.used,
-        count: e.count,
-    }
+    Emit { at: t.end, ..e }
 }
 
 // An instruction is put, where there is room for it.
-pub fn put(code: &mut [usize], e: Emit, op: usize, argument: usize) -> Emit
-    ensures { PutsOne op argument e code.old result code.new }
+pub fn put(code: &mut [usize], e: Emit, op: usize, argument: usize) -> Option<Emit>
+    ensures { PutsOne op argument (there e) code.old (reached result) code.new }
 {
-    if !e.ok {
-        return e;
-    }
     if 4096 <= e.count {
-        return Emit {
-            ok: false,
-            at: e.at,
-            used: e.used,
-            count: e.count,
-        };
+        return None;
     }
     put_words(code, e.count, op, argument);
-    Emit {
-        ok: true,
-        at: e.at,
-        used: e.used,
+    Some(Emit {
         count: e.count + 1,
-    }
+        ..e
+    })
 }
 
 // The argument of instruction k is put in.
 pub fn patch(code: &mut [usize], e: Emit, k: usize, argument: usize)
-    ensures { Patches e k argument code.old code.new }
+    ensures { Patches (there e) k argument code.old code.new }
 {
-    if !e.ok {
-        return;
-    }
     if 4096 <= k {
         return;
     }
-    write(code, 2 * k + 1, argument);
+    slices::put(code, 2 * k + 1, argument);
 }

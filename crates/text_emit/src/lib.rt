@@ -1,5 +1,5 @@
 // The code of statements that hold no other, written into a lent buffer while a text is gone over (Paper 1). Each step
-// takes where the emission stands and hands it on; once something does not fit, the steps after it do nothing.
+// takes where the emission stands and hands it on; none once something does not fit.
 #![tactic(auto)]
 
 pub mod calls;

@@ -1,8 +1,9 @@
-// The expressions and arguments within a statement: nothing is done where something before them does not fit.
+// The expressions and arguments within a statement.
 ghost use Rattle.std.specs.Prelude.{◌≤◌, length};
 ghost use Rattle.text_parse.specs.Equations.{expr_from, arguments_rule};
 ghost use Rattle.text_numbering.specs.CodeBy.{code_by, arguments_by, place_of};
 ghost use Rattle.text_emit.specs.EmitCode.{Emits};
+ghost use Rattle.text_emit.specs.Reached.{reached, there};
 
 use crate::emit::Emit;
 use text_emit_expr::arguments::emit_arguments;
@@ -15,27 +16,23 @@ pub fn expression(
     n: usize,
     pending: &mut [usize],
     code: &mut [usize],
-) -> Emit
+) -> Option<Emit>
     requires { 12288 ≤ length pending.old }
-    ensures { Emits expr_from (code_by place_of) text.now scope.now n e code.old result
+    ensures { Emits expr_from (code_by place_of) text.now scope.now n (there e) code.old (reached result)
         code.new }
 {
-    if !e.ok {
-        return e;
-    }
     if text.len() < e.at {
-        return e;
+        return None;
     }
     if 4096 < e.count {
-        return e;
+        return None;
     }
-    let a = emit_expression(text, e.at, scope, n, pending, code, e.count);
-    Emit {
-        ok: a.ok,
+    let a = emit_expression(text, e.at, scope, n, pending, code, e.count)?;
+    Some(Emit {
         at: a.at,
         used: e.used,
         count: a.count,
-    }
+    })
 }
 
 pub fn arguments(
@@ -45,25 +42,21 @@ pub fn arguments(
     n: usize,
     pending: &mut [usize],
     code: &mut [usize],
-) -> Emit
+) -> Option<Emit>
     requires { 12288 ≤ length pending.old }
-    ensures { Emits arguments_rule (arguments_by place_of) text.now scope.now n e
-        code.old result code.new }
+    ensures { Emits arguments_rule (arguments_by place_of) text.now scope.now n (there e)
+        code.old (reached result) code.new }
 {
-    if !e.ok {
-        return e;
-    }
     if text.len() < e.at {
-        return e;
+        return None;
     }
     if 4096 < e.count {
-        return e;
+        return None;
     }
-    let a = emit_arguments(text, e.at, scope, n, pending, code, e.count);
-    Emit {
-        ok: a.ok,
+    let a = emit_arguments(text, e.at, scope, n, pending, code, e.count)?;
+    Some(Emit {
         at: a.at,
         used: e.used,
         count: a.count,
-    }
+    })
 }

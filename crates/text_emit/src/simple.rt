@@ -4,6 +4,7 @@ ghost use Rattle.text_parse.specs.Equations.{recv_rule, send_rule, fork_rule};
 ghost use Rattle.text_tokens.specs.NextCode.{NextToken};
 ghost use Rattle.text_methods.specs.IndexCode.{Indexed};
 ghost use Rattle.text_emit.specs.EmitCode.{StatementEmits, StatementFrom, InvokeFrom, NamedEmits, SimpleEmits, give_rule, measure_rule, assign_rule};
+ghost use Rattle.text_emit.specs.Reached.{reached, there};
 
 use crate::calls::put_invocation;
 use crate::emit::{Emit, pass, pass_token, put};
@@ -23,16 +24,16 @@ pub fn receive(
     n: usize,
     pending: &mut [usize],
     code: &mut [usize],
-) -> Emit
+) -> Option<Emit>
     requires { 12288 ≤ length pending.old }
-    ensures { StatementEmits recv_rule text.now scope.now n e code.old result
+    ensures { StatementEmits recv_rule text.now scope.now n (there e) code.old (reached result)
         code.new }
 {
     let open = pass(text, e);
-    let x = expression(text, open, scope, n, pending, code);
+    let x = expression(text, open, scope, n, pending, code)?;
     let close = pass(text, x);
     let end = pass(text, close);
-    let received = put(code, end, 16, 0);
+    let received = put(code, end, 16, 0)?;
     put(code, received, 5, 0)
 }
 
@@ -44,15 +45,15 @@ pub fn send(
     n: usize,
     pending: &mut [usize],
     code: &mut [usize],
-) -> Emit
+) -> Option<Emit>
     requires { 12288 ≤ length pending.old }
-    ensures { StatementEmits send_rule text.now scope.now n e code.old result
+    ensures { StatementEmits send_rule text.now scope.now n (there e) code.old (reached result)
         code.new }
 {
     let open = pass(text, e);
-    let x = expression(text, open, scope, n, pending, code);
+    let x = expression(text, open, scope, n, pending, code)?;
     let comma = pass(text, x);
-    let v = expression(text, comma, scope, n, pending, code);
+    let v = expression(text, comma, scope, n, pending, code)?;
     let close = pass(text, v);
     let end = pass(text, close);
     put(code, end, 15, 0)
@@ -66,12 +67,12 @@ pub fn give(
     n: usize,
     pending: &mut [usize],
     code: &mut [usize],
-) -> Emit
+) -> Option<Emit>
     requires { 12288 ≤ length pending.old }
-    ensures { StatementEmits give_rule text.now scope.now n e code.old result
+    ensures { StatementEmits give_rule text.now scope.now n (there e) code.old (reached result)
         code.new }
 {
-    let x = expression(text, e, scope, n, pending, code);
+    let x = expression(text, e, scope, n, pending, code)?;
     let end = pass(text, x);
     put(code, end, 13, 0)
 }
@@ -84,37 +85,35 @@ pub fn fork(
     n: usize,
     pending: &mut [usize],
     code: &mut [usize],
-) -> Emit
+) -> Option<Emit>
     requires { 12288 ≤ length pending.old }
-    ensures { StatementFrom fork_rule text.now scope.now n e code.old result
+    ensures { StatementFrom fork_rule text.now scope.now n (there e) code.old (reached result)
         code.new }
 {
     let method = next_token(text, e.at);
     let name = pass_token(text, e, method);
     let open = pass(text, name);
-    let xs = arguments(text, open, scope, n, pending, code);
+    let xs = arguments(text, open, scope, n, pending, code)?;
     let end = pass(text, xs);
     put(code, end, 14, method.start)
 }
 
 // "measure ( StdBasis , variableName ) ;": GET, MEAS, DROP.
-pub fn measure(text: &[u8], e: Emit, scope: &[usize; 64], n: usize, code: &mut [usize]) -> Emit
-    ensures { StatementFrom measure_rule text.now scope.now n e code.old result
+pub fn measure(
+    text: &[u8],
+    e: Emit,
+    scope: &[usize; 64],
+    n: usize,
+    code: &mut [usize],
+) -> Option<Emit>
+    ensures { StatementFrom measure_rule text.now scope.now n (there e) code.old (reached result)
         code.new }
 {
     let name = measured(text, e.at);
-    let end = pass(
-        text,
-        Emit {
-            ok: e.ok,
-            at: name.at,
-            used: e.used,
-            count: e.count,
-        },
-    );
+    let end = pass(text, Emit { at: name.at, ..e });
     let q = slot_of(text, scope, n, name.start, name.end);
-    let got = put(code, end, 3, q.slot);
-    let measured = put(code, got, 11, 0);
+    let got = put(code, end, 3, q.slot)?;
+    let measured = put(code, got, 11, 0)?;
     put(code, measured, 5, 0)
 }
 
@@ -127,16 +126,16 @@ pub fn assign(
     n: usize,
     pending: &mut [usize],
     code: &mut [usize],
-) -> Emit
+) -> Option<Emit>
     requires { (12288 ≤ length pending.old) × NextToken text.now e.at t }
-    ensures { StatementFrom assign_rule text.now scope.now n e code.old result
+    ensures { StatementFrom assign_rule text.now scope.now n (there e) code.old (reached result)
         code.new }
 {
+    let s = slot_of(text, scope, n, t.start, t.end);
     let name = pass_token(text, e, t);
     let equals = pass(text, name);
-    let x = expression(text, equals, scope, n, pending, code);
+    let x = expression(text, equals, scope, n, pending, code)?;
     let end = pass(text, x);
-    let s = slot_of(text, scope, n, t.start, t.end);
     put_value(code, end, s.slot, s.ends)
 }
 
@@ -150,15 +149,15 @@ pub fn invoke(
     n: usize,
     pending: &mut [usize],
     code: &mut [usize],
-) -> Emit
+) -> Option<Emit>
     requires { (12288 ≤ length pending.old) × Indexed text.now methods.now
         × NextToken text.now e.at t }
-    ensures { InvokeFrom text.now scope.now n e code.old result
+    ensures { InvokeFrom text.now scope.now n (there e) code.old (reached result)
         code.new }
 {
     let name = pass_token(text, e, t);
     let open = pass(text, name);
-    let xs = arguments(text, open, scope, n, pending, code);
+    let xs = arguments(text, open, scope, n, pending, code)?;
     let end = pass(text, xs);
     put_invocation(text, methods, code, end, t.start, t.end)
 }
@@ -173,10 +172,10 @@ fn named(
     n: usize,
     pending: &mut [usize],
     code: &mut [usize],
-) -> Emit
+) -> Option<Emit>
     requires { (12288 ≤ length pending.old) × Indexed text.now methods.now
         × NextToken text.now e.at t }
-    ensures { NamedEmits text.now scope.now n e code.old result
+    ensures { NamedEmits text.now scope.now n (there e) code.old (reached result)
         code.new }
 {
     let name = pass_token(text, e, t);
@@ -196,15 +195,15 @@ pub fn simple(
     n: usize,
     pending: &mut [usize],
     code: &mut [usize],
-) -> Emit
+) -> Option<Emit>
     requires { (12288 ≤ length pending.old) × Indexed text.now methods.now }
-    ensures { SimpleEmits text.now scope.now n e code.old result
+    ensures { SimpleEmits text.now scope.now n (there e) code.old (reached result)
         code.new }
 {
     let t = next_token(text, e.at);
     let after = pass_token(text, e, t);
     if t.kind == SEMICOLON {
-        return after;
+        return Some(after);
     }
     if t.kind == MEASURE {
         return measure(text, after, scope, n, code);

@@ -24,9 +24,9 @@ use Rattle.text_code.specs.OutcomeCode.{Tables, Written, Outcome, all-written, o
 use Rattle.text_code.specs.StatementBy.{statement_by, statements_by}
 use Rattle.text_code.proofs.Outcomes.{typed-append}
 use Rattle.text_code.proofs.Forms.{outcome-same, outcome-lower}
-use Rattle.text_emit.specs.declared.emit.Emit.{Emit}
+use Rattle.text_emit.specs.Reached.{EmitState}
 use Rattle.text_emit.specs.EmitCode.{tables_of, passed_by}
-use Rattle.text_emit.proofs.EmitLaws.{emit_at}
+use Rattle.text_emit.proofs.EmitLaws.{emit_at, lost}
 use Rattle.text_emit.proofs.SimpleLaws.{step-token}
 use Rattle.text_emit_block.specs.BlockCode.{Clears, StatementTranslates, StatementsTranslate}
 use Rattle.text_emit_block.proofs.Frames.{begun, framed, from-here, tokens-of, place-of}
@@ -83,7 +83,7 @@ none-entered text σ f = record {
 
 -- what is written within the block, seen from before it
 module _ (text : List ℕ) (ds : List Declared) (scope row code scope₁ row₁ scope₂ row₂ code₂ : List ℕ)
-    (n many used given count : ℕ) (r : Emit)
+    (n many used given count : ℕ) (r : EmitState)
     (entered : Entered text ds (tables scope n row used) (tables scope₁ many row₁ given)) where
   abbrev Before : Tables
   Before = record { n = n; used = used; count = count; scope = scope; row = row; code = code }
@@ -120,11 +120,11 @@ module _ (text : List ℕ) (ds : List Declared) (scope row code scope₁ row₁ 
   block-outcome c es (over o (inr (inr h))) =
       over o (inr (inr (let b = entered.given in omega (arith, length-append ds es))))
 
-module _ (text : List ℕ) (n lft : ℕ) (e brace : Emit) (scope row code scope₁ row₁ : List ℕ) (ok : Bool)
+module _ (text : List ℕ) (n lft : ℕ) (e brace : EmitState) (scope row code scope₁ row₁ : List ℕ) (ok : Bool)
     (at many given : ℕ) (on : e.ok ≡ true) (long : length scope ≡ 64) (p : brace ≡ passed_by text e)
     (d : DeclarationsEnter text brace.at (tables scope n row e.used) ok at (tables scope₁ many row₁ given)) where
-  abbrev inner : Emit
-  inner = emit_at ok at given e.count
+  abbrev inner : EmitState
+  inner = emit_at true at given e.count
 
   -- the opening brace and the declarations
   abbrev Here : List Token → Type 0
@@ -146,7 +146,7 @@ module _ (text : List ℕ) (n lft : ℕ) (e brace : Emit) (scope row code scope�
       let start : Here us = all-written on (omega arith) i u refl (begun text τ few room) in
       expect-holds "{" us (λ us₁ a.
       let x = step-token text n scope p "{" 21 is-open-brace (λ g. omega (arith, g)) a start in
-      let fine = ap (λ (w : Emit). w.ok) p ∙ on in
+      let fine = ap (λ (w : EmitState). w.ok) p ∙ on in
       let place = place-of text x fine in
       let reached = d place.1 in
       let fits : Fits (tables scope n row e.used) = record { slots = le; room = room; long = long } in
@@ -160,18 +160,18 @@ module _ (text : List ℕ) (n lft : ℕ) (e brace : Emit) (scope row code scope�
 
   -- too many variables
   pub block-many : (scope₂ row₂ code₂ : List ℕ) → ok ≡ false
-      → StatementTranslates (block_from lft) text n e scope row code inner scope₂ row₂ code₂
+      → StatementTranslates (block_from lft) text n e scope row code lost scope₂ row₂ code₂
   unfolding block_rule within
   block-many scope₂ row₂ code₂ o ms m =
-      from-here (block_from lft) (λ sc i at s. statement_by place_of ms sc i at s) within text n e scope row code inner
+      from-here (block_from lft) (λ sc i at s. statement_by place_of ms sc i at s) within text n e scope row code lost
       scope₂ row₂ code₂ on (λ us scopes sc u i few room pl le.
       rw (grammar.block-is lft scopes us)
       (declared-then us _ u i few room le (λ ds vs y.
-      then-any (statements_from lft (declared_by ds ∷ scopes) vs) (λ ss ws. holds (over o (inr (inr
+      then-any (statements_from lft (declared_by ds ∷ scopes) vs) (λ ss ws. holds (over refl (inr (inr
       (let many = too-many-of y.1 o in
       omega (arith, length-append (declared_by ds) (all_within ss))))))))))
 
-  pub block-ends : (cleared r : Emit) (code₁ scope₂ row₂ code₂ : List ℕ) → ok ≡ true
+  pub block-ends : (cleared r : EmitState) (code₁ scope₂ row₂ code₂ : List ℕ) → ok ≡ true
       → Clears e.used given inner code cleared code₁
       → StatementsTranslate lft text many cleared scope₁ row₁ code₁ r scope₂ row₂ code₂
       → StatementTranslates (block_from lft) text n e scope row code r scope₂ row₂ code₂
@@ -183,8 +183,8 @@ module _ (text : List ℕ) (n lft : ℕ) (e brace : Emit) (scope row code scope�
       (declared-then us _ u i few room le (λ ds vs y.
       let en = entered_of y.1 fine in
       let σ : Tables = tables_of inner many scope₁ row₁ code in
-      let start : Outcome text at [] [] vs σ ok at σ =
-      all-written fine (omega arith) (y.0 fine).1.1 (y.0 fine).0 refl (begun text σ few en.fits.room) in
+      let start : Outcome text at [] [] vs σ true at σ =
+      all-written refl (omega arith) (y.0 fine).1.1 (y.0 fine).0 refl (begun text σ few en.fits.room) in
       let emptied = clears (declared_by ds) en.given text vs many scope₁ row₁ at [] [] σ start in
       then-holds (framed (statements_from lft) (λ sc i at ss. statements_by place_of ms sc i at ss) all_within text many
       cleared scope₁ row₁ code₁ r scope₂ row₂ code₂ (rest_of ms m) vs at (clear_code (declared_by ds) e.used) [] σ

@@ -20,15 +20,17 @@ use Rattle.text_code.specs.StatementBy.{statement_by}
 use Rattle.text_code.proofs.Outcomes.{outcome-stays}
 use Rattle.text_code.proofs.Steps.{patch-stays}
 use Rattle.text_code.proofs.Forms.{outcome-same, outcome-lower}
-use Rattle.text_emit.specs.declared.emit.Emit.{Emit}
+use Rattle.text_emit.specs.Reached.{EmitState}
 use Rattle.text_emit.specs.EmitCode.{tables_of, passed_by, PutsOne, Patches, Emits, Scoped, Translates, MethodsOf}
+use Rattle.text_emit.proofs.EmitLaws.{lost}
+use Rattle.text_emit.proofs.PartLaws.{emits-lost}
 use Rattle.text_emit.proofs.SimpleLaws.{step-token, step-open, step-close}
 use Rattle.text_emit_block.specs.BlockCode.{StatementTranslates, OtherwiseTranslates, else_from, else_rule, if_rule, while_rule}
 use Rattle.text_emit_block.proofs.Frames.{was-ok, written_of, tokens-of, scoped, framed, unframed, patched}
 use Rattle.text_emit_block.proofs.LevelLaws.{stands, misses, then-any}
 
 -- "( expr )"
-pub condition-emits : (text : List ℕ) (n : ℕ) (scope : List ℕ) (e a x r : Emit) (code₀ code₁ : List ℕ)
+pub condition-emits : (text : List ℕ) (n : ℕ) (scope : List ℕ) (e a x r : EmitState) (code₀ code₁ : List ℕ)
     → a ≡ passed_by text e → Emits expr_from (code_by place_of) text scope n a code₀ x code₁ → r ≡ passed_by text x
     → Emits condition_rule (code_by place_of) text scope n e code₀ r code₁
 unfolding condition_rule
@@ -37,6 +39,14 @@ condition-emits text n scope e a x r code₀ code₁ ea ex er row us low b es σ
     (ex row vs (1 + low) b es σ scopes sc pl few (step-open text n scope ea t h)) (λ y ws h₁.
     expect-holds ")" ws (λ xs t₁.
     holds (outcome-lower text (1 + low) (1 + (1 + (1 + low))) (omega arith) (step-close text n scope er t₁ h₁)))))
+
+-- the expression does not fit
+pub condition-refused : (text : List ℕ) (n : ℕ) (scope : List ℕ) (e a : EmitState) (code₀ code₁ : List ℕ)
+    → a ≡ passed_by text e → Emits expr_from (code_by place_of) text scope n a code₀ lost code₁
+    → Emits condition_rule (code_by place_of) text scope n e code₀ lost code₁
+condition-refused text n scope e a code₀ code₁ ea ex =
+    emits-lost condition_rule (code_by place_of) text n scope e (passed_by text lost) code₀ code₁ refl
+    (condition-emits text n scope e a lost (passed_by text lost) code₀ code₁ ea ex refl)
 
 -- no jump has a number
 jfalse-fits : (x y : ℕ) → number_fits (instruction 18 x) ≡ number_fits (instruction 18 y)
@@ -65,7 +75,7 @@ module _ (text : List ℕ) (n left : ℕ) (ms : Program) (known : MethodsOf text
   By sc i at s = statement_by place_of ms sc i at s
 
   -- the condition, JFALSE, and the body
-  module _ (e c test s : Emit) (scope row code₀ code₁ code₂ scope' row' code₃ : List ℕ) (on : e.ok ≡ true)
+  module _ (e c test s : EmitState) (scope row code₀ code₁ code₂ scope' row' code₃ : List ℕ) (on : e.ok ≡ true)
       (cond-emits : Emits condition_rule (code_by place_of) text scope n e code₀ c code₁)
       (put-emits : PutsOne 18 0 c code₁ test code₂)
       (body-emits : StatementTranslates (body_from left) text n test scope row code₂ s scope' row' code₃) where
@@ -227,7 +237,7 @@ module _ (text : List ℕ) (n left : ℕ) (ms : Program) (known : MethodsOf text
         (λ x us₁ t vs y₁ y. rw (misses text "else" 13 is-else s.at (tokens-of text y fine) f)
         (holds (if-fits us low b es σ scopes sc pl few h code₄ p x us₁ t vs y₁ y))))
 
-    pub if-else : (word r : Emit) (scope'' row'' code₄ : List ℕ) → s.ok ≡ true → next_kind text s.at ≡ 13
+    pub if-else : (word r : EmitState) (scope'' row'' code₄ : List ℕ) → s.ok ≡ true → next_kind text s.at ≡ 13
         → word ≡ passed_by text s
         → OtherwiseTranslates left c.count text n word scope' row' code₃ r scope'' row'' code₄
         → Translates (if_rule left) By within text n e scope row code₀ r scope'' row'' code₄
@@ -242,7 +252,7 @@ module _ (text : List ℕ) (n left : ℕ) (ms : Program) (known : MethodsOf text
         let S = By sc (σ.used + length es) (σ.count + length b + length C + 1) t in
         let z = step-token text n scope' p "else" 13 is-else (λ g. omega (arith, g)) (after there) y in
         rw there (then-holds
-        (o ms known (ap (λ (w : Emit). w.ok) p ∙ fine) (rest vs) (1 + (1 + (1 + low))) (b ++ C) S (es ++ within t) σ
+        (o ms known (ap (λ (w : EmitState). w.ok) p ∙ fine) (rest vs) (1 + (1 + (1 + low))) (b ++ C) S (es ++ within t) σ
         scopes sc (scoped text n word scope' row' code₃ sc pl few z)
         (known-place us low b es σ scopes sc pl few h x us₁ y₁ (JFALSE 0 ∷ S) (within t) y fine) z)
         (λ u ws z₁. holds (outcome-lower text (1 + low) (1 + (1 + (1 + (1 + low)))) (omega arith)
@@ -250,7 +260,7 @@ module _ (text : List ℕ) (n left : ℕ) (ms : Program) (known : MethodsOf text
         (append_assoc es (within t) (within u)) z₁))))))
 
     -- a while: JUMP goes back to the condition, JFALSE to after it
-    pub while-ends : (back : Emit) (code₄ code₅ : List ℕ) → PutsOne 17 e.count s code₃ back code₄
+    pub while-ends : (back : EmitState) (code₄ code₅ : List ℕ) → PutsOne 17 e.count s code₃ back code₄
         → Patches back c.count back.count code₄ code₅
         → Translates (while_rule left) By within text n e scope row code₀ back scope' row' code₅
     unfolding while_rule within number_fits
@@ -276,7 +286,7 @@ module _ (text : List ℕ) (n left : ℕ) (ms : Program) (known : MethodsOf text
         let three = length-append S (JUMP e.count ∷ []) in omega arith) z)))))
 
   -- the body of an else: JUMP goes to after it, and the JFALSE of its if to after that
-  pub otherwise-ends : (e jump r : Emit) (k : ℕ) (scope row code₀ code₁ code₂ scope' row' code₃ code₄ : List ℕ)
+  pub otherwise-ends : (e jump r : EmitState) (k : ℕ) (scope row code₀ code₁ code₂ scope' row' code₃ code₄ : List ℕ)
       → e.ok ≡ true → PutsOne 17 0 e code₀ jump code₁ → Patches jump k jump.count code₁ code₂
       → StatementTranslates (body_from left) text n jump scope row code₂ r scope' row' code₃
       → Patches r e.count r.count code₃ code₄

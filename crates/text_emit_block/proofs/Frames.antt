@@ -21,7 +21,7 @@ use Rattle.text_code.specs.OutcomeCode.{Tables, Written, Overflow, Outcome, all-
 use Rattle.text_code.proofs.Quiet.{both-fit}
 use Rattle.text_code.proofs.Outcomes.{written_then, over-second, outcome-stays}
 use Rattle.text_code.proofs.Steps.{patch-stays}
-use Rattle.text_emit.specs.declared.emit.Emit.{Emit}
+use Rattle.text_emit.specs.Reached.{EmitState}
 use Rattle.text_emit.specs.EmitCode.{tables_of, Patches, Scoped, Translates}
 
 -- whatever a reading comes to
@@ -96,7 +96,7 @@ module _ (text : List ℕ) where
 
 -- What is made of any outcome before a part of a text, where the variables are in scope from its beginning on.
 abbrev pub Framed : {A : Type 0} → (Scopes → List Token → Reading A) → (Scope → ℕ → ℕ → A → List Instruction)
-    → (A → List Declared) → List ℕ → ℕ → Emit → List ℕ → List ℕ → List ℕ → Emit → List ℕ → List ℕ → List ℕ → Type 0
+    → (A → List Declared) → List ℕ → ℕ → EmitState → List ℕ → List ℕ → List ℕ → EmitState → List ℕ → List ℕ → List ℕ → Type 0
 Framed rule c ds text n e scope row code r scope' row' code' =
     (us : List Token) (low : ℕ) (b : List Instruction) (es : List Declared) (σ : Tables) (scopes : Scopes) (sc : Scope)
     → Placing text σ.scope n sc → n ≤ σ.used
@@ -106,7 +106,7 @@ Framed rule c ds text n e scope row code r scope' row' code' =
     (rule scopes us)
 
 -- the variables in scope stay so
-pub scoped : (text : List ℕ) (n : ℕ) (e : Emit) (scope row code : List ℕ) {us : List Token} {low : ℕ}
+pub scoped : (text : List ℕ) (n : ℕ) (e : EmitState) (scope row code : List ℕ) {us : List Token} {low : ℕ}
     {b : List Instruction} {es : List Declared} {σ : Tables} (sc : Scope) → Placing text σ.scope n sc → n ≤ σ.used
     → Outcome text low b es us σ e.ok e.at (tables_of e n scope row code) → Scoped text scope n sc e
 scoped text n e scope row code {us} {low} {b} {es} {σ} sc pl few h on =
@@ -116,7 +116,7 @@ scoped text n e scope row code {us} {low} {b} {es} {σ} sc pl few h on =
     (w.kept n sc (omega arith) pl, omega arith)
 
 module _ {A : Type 0} (rule : Scopes → List Token → Reading A) (c : Scope → ℕ → ℕ → A → List Instruction)
-    (ds : A → List Declared) (text : List ℕ) (n : ℕ) (e : Emit) (scope row code : List ℕ) (r : Emit)
+    (ds : A → List Declared) (text : List ℕ) (n : ℕ) (e : EmitState) (scope row code : List ℕ) (r : EmitState)
     (scope' row' code' : List ℕ) where
   pub framed : Translates rule c ds text n e scope row code r scope' row' code'
       → Framed rule c ds text n e scope row code r scope' row' code'
@@ -169,7 +169,7 @@ module _ {A : Type 0} (rule : Scopes → List Token → Reading A) (c : Scope �
           (subst (λ (j : ℕ). Outcome text (1 + e.at) (c sc (e.used + 0) j a) (ds a) vs τ r.ok r.at υ) q x)
 
 -- an argument that is put in is what it is to be
-pub patched : (text : List ℕ) (n : ℕ) (e : Emit) (scope row code code' : List ℕ) {us : List Token} {low : ℕ}
+pub patched : (text : List ℕ) (n : ℕ) (e : EmitState) (scope row code code' : List ℕ) {us : List Token} {low : ℕ}
     (b d : List Instruction) (o a v k target : ℕ) {es : List Declared} {σ : Tables} → Patches e k v code code'
     → ((x y : ℕ) → number_fits (instruction o x) ≡ number_fits (instruction o y))
     → (e.ok ≡ true → k ≡ σ.count + length b) → (e.ok ≡ true → v ≡ target)

@@ -22,7 +22,7 @@ use Rattle.text_scan.proofs.Holding.{Holds, holds, off, after, then-holds, weake
 use Rattle.text_numbering.specs.CodeBy.{place_of}
 use Rattle.text_code.specs.StatementBy.{statement_by}
 use Rattle.text_code.proofs.Forms.{outcome-same, outcome-lower}
-use Rattle.text_emit.specs.declared.emit.Emit.{Emit}
+use Rattle.text_emit.specs.Reached.{EmitState}
 use Rattle.text_emit.specs.EmitCode.{passed_by, Scoped, SimpleEmits}
 use Rattle.text_emit.proofs.SimpleLaws.{step-token}
 use Rattle.text_emit_block.specs.BlockCode.{StatementTranslates, ThereTranslates, else_rule, if_rule, while_rule}
@@ -73,7 +73,7 @@ simple-declares scopes us =
     (λ t. then-any _ (λ e ws. expect-holds ";" ws (λ xs t. holds refl))) (λ f7. next-holds "(" vs
     (λ t. then-any _ (λ es ws. expect-holds ";" ws (λ xs t. holds refl))) (λ f8. leaves_at-holds vs)))))))))
 
-module _ (text : List ℕ) (n : ℕ) (e : Emit) (scope row code : List ℕ) (r : Emit) (scope' row' code' : List ℕ) where
+module _ (text : List ℕ) (n : ℕ) (e : EmitState) (scope row code : List ℕ) (r : EmitState) (scope' row' code' : List ℕ) where
   -- nothing is done where something does not fit
   pub nothing-done : (rule : Scopes → List Token → Reading Statement) → e.ok ≡ false → r.ok ≡ false
       → StatementTranslates rule text n e scope row code r scope' row' code'
@@ -150,16 +150,16 @@ module _ (text : List ℕ) (n : ℕ) (e : Emit) (scope row code : List ℕ) (r :
 
     -- if, while, or a statement that holds no other
     after-word : (rule : Scopes → List Token → Reading Statement) (s : String) (j : ℕ)
-        → ((t : Token) → is s t ≡ eqb (kind_of t.bytes) j) → (j ≡ 32 → ⊥) → (word : Emit) → word ≡ passed_by text e
+        → ((t : Token) → is s t ≡ eqb (kind_of t.bytes) j) → (j ≡ 32 → ⊥) → (word : EmitState) → word ≡ passed_by text e
         → ThereTranslates rule text n word scope row code r scope' row' code' → k ≡ j
         → StatementTranslates (λ scopes us. rule scopes (rest us)) text n e scope row code r scope' row' code'
     after-word rule s j test g word p t h ms m us low b es σ scopes sc in_scope x =
         weaker-holds (λ a vs y. outcome-lower text (1 + low) (1 + (1 + low)) (omega arith) y)
-        (t (ap (λ (w : Emit). w.ok) p ∙ on) ms m (rest us) (1 + low) b es σ scopes sc
+        (t (ap (λ (w : EmitState). w.ok) p ∙ on) ms m (rest us) (1 + low) b es σ scopes sc
         (subst (Scoped text scope n sc) (sym p) in_scope)
         (step-token text n scope p s j test g (after (stands text s j test e.at (tokens-of text x on) h)) x))
 
-    pub unbraced-if : (word : Emit) → k ≡ 12 → word ≡ passed_by text e
+    pub unbraced-if : (word : EmitState) → k ≡ 12 → word ≡ passed_by text e
         → ThereTranslates (if_rule left) text n word scope row code r scope' row' code'
         → StatementTranslates (unbraced_rule left) text n e scope row code r scope' row' code'
     unfolding unbraced_rule if_rule else_rule
@@ -168,7 +168,7 @@ module _ (text : List ℕ) (n : ℕ) (e : Emit) (scope row code : List ℕ) (r :
         (after-word (if_rule left) "if" 12 is-if (λ g. omega (arith, g)) word p t h ms m us low b es σ scopes sc
         in_scope x)
 
-    pub unbraced-while : (word : Emit) → k ≡ 14 → word ≡ passed_by text e
+    pub unbraced-while : (word : EmitState) → k ≡ 14 → word ≡ passed_by text e
         → ThereTranslates (while_rule left) text n word scope row code r scope' row' code'
         → StatementTranslates (unbraced_rule left) text n e scope row code r scope' row' code'
     unfolding unbraced_rule while_rule
@@ -181,7 +181,7 @@ module _ (text : List ℕ) (n : ℕ) (e : Emit) (scope row code : List ℕ) (r :
         in_scope x)
 
 -- it declares nothing, so the tables of variables stay as they are
-pub unbraced-simple : (text : List ℕ) (n : ℕ) (e : Emit) (scope row code : List ℕ) (r : Emit) (code' : List ℕ)
+pub unbraced-simple : (text : List ℕ) (n : ℕ) (e : EmitState) (scope row code : List ℕ) (r : EmitState) (code' : List ℕ)
     (left : ℕ) → e.ok ≡ true → (next_kind text e.at ≡ 12 → ⊥) → (next_kind text e.at ≡ 14 → ⊥)
     → SimpleEmits text scope n e code r code'
     → StatementTranslates (unbraced_rule left) text n e scope row code r scope row code'

@@ -1,7 +1,7 @@
 -- Statements one after the other, up to a closing brace.
 use Prim.Native.Nat.{ℕ, ◌+◌}
 use native.Mathlib.Omega.{arith}
-use mathlib.Core.Path.{◌≡◌, sym, ap, ◌∙◌, subst}
+use mathlib.Core.Path.{◌≡◌, sym, ap, ◌∙◌}
 use mathlib.Core.Bool.{Bool, true, false}
 use mathlib.Core.List.{List, ◌++◌, append-nil, append_assoc}
 use lib.ListN.{length, length-append}
@@ -18,23 +18,23 @@ use Rattle.text_code.specs.OutcomeCode.{Tables, Outcome, all-written, over}
 use Rattle.text_code.specs.StatementBy.{statement_by, statements_by}
 use Rattle.text_code.proofs.Outcomes.{outcome-stays}
 use Rattle.text_code.proofs.Forms.{outcome-same, outcome-lower}
-use Rattle.text_emit.specs.declared.emit.Emit.{Emit}
+use Rattle.text_emit.specs.Reached.{EmitState}
 use Rattle.text_emit.specs.EmitCode.{passed_by, MethodsOf}
-use Rattle.text_emit.proofs.EmitLaws.{emit_at}
+use Rattle.lists.proofs.Tests.{never}
 use Rattle.text_emit.proofs.SimpleLaws.{step-token}
 use Rattle.text_emit_block.specs.BlockCode.{Advance, StatementTranslates, StatementsTranslate}
 use Rattle.text_emit_block.proofs.Frames.{Framed, tokens-of, framed, unframed, unframed-off}
 use Rattle.text_emit_block.proofs.LevelLaws.{stands, misses, then-any}
 
 -- the statements from here on, seen from where the tables began
-abbrev pub StatementsFramed : ℕ → List ℕ → ℕ → Emit → List ℕ → List ℕ → List ℕ → Emit → List ℕ → List ℕ → List ℕ
+abbrev pub StatementsFramed : ℕ → List ℕ → ℕ → EmitState → List ℕ → List ℕ → List ℕ → EmitState → List ℕ → List ℕ → List ℕ
     → Type 0
 StatementsFramed left text n e scope row code r scope' row' code' =
     (ms : Program) → MethodsOf text ms
     → Framed (statements_from left) (λ sc i at ss. statements_by place_of ms sc i at ss) all_within text n e scope row code
     r scope' row' code'
 
-module _ (text : List ℕ) (n left : ℕ) (e : Emit) (scope row code : List ℕ) (r : Emit) (scope' row' code' : List ℕ) where
+module _ (text : List ℕ) (n left : ℕ) (e : EmitState) (scope row code : List ℕ) (r : EmitState) (scope' row' code' : List ℕ) where
   pub statements-stuck : e.ok ≡ false → r.ok ≡ false
       → StatementsTranslate left text n e scope row code r scope' row' code'
   statements-stuck o f ms m =
@@ -48,7 +48,7 @@ module _ (text : List ℕ) (n left : ℕ) (e : Emit) (scope row code : List ℕ)
       code r scope' row' code' on (f ms m)
 
 -- the closing brace
-pub statements-end : (text : List ℕ) (n left : ℕ) (e r : Emit) (scope row code : List ℕ) → e.ok ≡ true
+pub statements-end : (text : List ℕ) (n left : ℕ) (e r : EmitState) (scope row code : List ℕ) → e.ok ≡ true
     → next_kind text e.at ≡ 22 → r ≡ passed_by text e
     → StatementsFramed left text n e scope row code r scope row code
 unfolding statements_rule statements_by all_within
@@ -59,7 +59,7 @@ statements-end text n left e r scope row code on h p ms m us low b es σ scopes 
     (step-token text n scope p "}" 22 is-close-brace (λ g. omega (arith, g)) (after there) x)))
 
 -- a statement and those after it
-module _ (text : List ℕ) (n left : ℕ) (e s : Emit) (scope row code scope' row' code' : List ℕ) (on : e.ok ≡ true)
+module _ (text : List ℕ) (n left : ℕ) (e s : EmitState) (scope row code scope' row' code' : List ℕ) (on : e.ok ≡ true)
     (more : next_kind text e.at ≡ 22 → ⊥)
     (one : StatementTranslates (statement_from left) text n e scope row code s scope' row' code') where
   next-is : (ms : Program) (sc : Scope) (i at : ℕ) (b : List Instruction) (es : List Declared) (t : Statement)
@@ -79,7 +79,7 @@ module _ (text : List ℕ) (n left : ℕ) (e s : Emit) (scope row code scope' ro
       {x = at + length (b ++ S)} {y = at + length b + length S}
       (let one = length-append b S in omega arith)
 
-  pub statements-on : (r : Emit) (scope'' row'' code'' : List ℕ)
+  pub statements-on : (r : EmitState) (scope'' row'' code'' : List ℕ)
       → StatementsFramed left text n s scope' row' code' r scope'' row'' code''
       → StatementsFramed left text n e scope row code r scope'' row'' code''
   unfolding statements_rule all_within
@@ -94,7 +94,7 @@ module _ (text : List ℕ) (n left : ℕ) (e s : Emit) (scope row code scope' ro
       (append_assoc es (within t) (all_within ss)) z)))))
 
   -- a statement that does not fit; one of a text in the grammar ends further on
-  pub statements-fail : (r : Emit) (scope'' row'' code'' : List ℕ) (goes : Bool)
+  pub statements-fail : (r : EmitState) (scope'' row'' code'' : List ℕ) (goes : Bool)
       → Advance text e.at s.ok s.at goes → goes ≡ false → r.ok ≡ false
       → StatementsFramed left text n e scope row code r scope'' row'' code''
   unfolding statements_rule all_within
@@ -116,11 +116,6 @@ module _ (text : List ℕ) (n left : ℕ) (e s : Emit) (scope row code scope' ro
       not-ok (over p v) = p
       not-ok (all-written p l i u q w) = absurd (adv.off stops p (omega arith) i)
 
--- the emission again, where all fits
-pub statements-as : (text : List ℕ) (n left : ℕ) (s : Emit) (scope row code : List ℕ) (r : Emit)
-    (scope' row' code' : List ℕ) → s.ok ≡ true
-    → StatementsFramed left text n (emit_at true s.at s.used s.count) scope row code r scope' row' code'
-    → StatementsFramed left text n s scope row code r scope' row' code'
-statements-as text n left s scope row code r scope' row' code' fine f =
-    subst (λ (ok : Bool). StatementsFramed left text n (emit_at ok s.at s.used s.count) scope row code r scope'
-    row' code') (sym fine) f
+-- what does not fit stands nowhere
+pub nowhere : (text : List ℕ) (from at : ℕ) → Advance text from false at false
+nowhere text from at = record { on = λ e. never e; off = λ e p. absurd (never p) }

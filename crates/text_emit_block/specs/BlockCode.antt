@@ -1,6 +1,6 @@
 -- Statements that hold others: what is made of any outcome before them. These definitions follow the code.
 use Rattle.std.specs.Prelude.{ℕ, ◌+◌, ◌≤◌, ◌<◌, ◌≡◌, Bool, true, false, cond, List, ◌∷◌, ◌++◌, length}
-use Rattle.text.specs.Tree.{Expr, Declared, Statement, Statements, conditional, alternative, loop, Program}
+use Rattle.text.specs.Tree.{Expr, Declared, Statement, conditional, alternative, loop, Program}
 use Rattle.text.specs.Translation.{Instruction, JUMP, JFALSE, Scope, within, all_within, clear_code}
 use Rattle.text_parse.specs.Tokens.{Token}
 use Rattle.text_parse.specs.Grammar.{Reading, read, and_then, rest, next?, Scopes}
@@ -9,7 +9,7 @@ use Rattle.text_scan.proofs.Holding.{Holds}
 use Rattle.text_numbering.specs.CodeBy.{place_of}
 use Rattle.text_code.specs.OutcomeCode.{Tables, Outcome}
 use Rattle.text_code.specs.StatementBy.{statement_by, statements_by}
-use Rattle.text_emit.specs.declared.emit.Emit.{Emit}
+use Rattle.text_emit.specs.Reached.{EmitState}
 use Rattle.text_emit.specs.EmitCode.{tables_of, Puts, Scoped, Translates, MethodsOf}
 
 -- a part of the text is gone over, and all fits
@@ -18,24 +18,24 @@ pub record Advance (text : List ℕ) (from : ℕ) (ok : Bool) (at : ℕ) (r : Bo
   pub off : r ≡ false → ok ≡ true → from < at → at ≤ length text → ⊥
 
 -- the variables ds, whose slots are those from `from` up to `to`, are emptied
-abbrev pub Clears : ℕ → ℕ → Emit → List ℕ → Emit → List ℕ → Type 0
+abbrev pub Clears : ℕ → ℕ → EmitState → List ℕ → EmitState → List ℕ → Type 0
 Clears from to e code r code' =
     (ds : List Declared) → to ≡ from + length ds → Puts (clear_code ds from) e code r code'
 
 -- a statement, with the methods of the text
-abbrev pub StatementTranslates : (Scopes → List Token → Reading Statement) → List ℕ → ℕ → Emit → List ℕ → List ℕ
-    → List ℕ → Emit → List ℕ → List ℕ → List ℕ → Type 0
+abbrev pub StatementTranslates : (Scopes → List Token → Reading Statement) → List ℕ → ℕ → EmitState → List ℕ → List ℕ
+    → List ℕ → EmitState → List ℕ → List ℕ → List ℕ → Type 0
 StatementTranslates rule text n e scope row code r scope' row' code' =
     (ms : Program) → MethodsOf text ms
     → Translates rule (λ sc i at s. statement_by place_of ms sc i at s) within text n e scope row code r scope' row' code'
 
 -- the same where all fits so far
-abbrev pub ThereTranslates : (Scopes → List Token → Reading Statement) → List ℕ → ℕ → Emit → List ℕ → List ℕ
-    → List ℕ → Emit → List ℕ → List ℕ → List ℕ → Type 0
+abbrev pub ThereTranslates : (Scopes → List Token → Reading Statement) → List ℕ → ℕ → EmitState → List ℕ → List ℕ
+    → List ℕ → EmitState → List ℕ → List ℕ → List ℕ → Type 0
 ThereTranslates rule text n e scope row code r scope' row' code' =
     e.ok ≡ true → StatementTranslates rule text n e scope row code r scope' row' code'
 
-abbrev pub StatementsTranslate : ℕ → List ℕ → ℕ → Emit → List ℕ → List ℕ → List ℕ → Emit → List ℕ → List ℕ → List ℕ
+abbrev pub StatementsTranslate : ℕ → List ℕ → ℕ → EmitState → List ℕ → List ℕ → List ℕ → EmitState → List ℕ → List ℕ → List ℕ
     → Type 0
 StatementsTranslate left text n e scope row code r scope' row' code' =
     (ms : Program) → MethodsOf text ms
@@ -65,7 +65,7 @@ else_from at d t =
     ∷ d ++ (JUMP (at + 1 + length d + 1 + length (t (at + 1 + length d + 1))) ∷ t (at + 1 + length d + 1))
 
 -- The body of an else, where all fits so far: the JFALSE of its if is instruction k, the first after those of b.
-abbrev pub OtherwiseTranslates : ℕ → ℕ → List ℕ → ℕ → Emit → List ℕ → List ℕ → List ℕ → Emit → List ℕ → List ℕ
+abbrev pub OtherwiseTranslates : ℕ → ℕ → List ℕ → ℕ → EmitState → List ℕ → List ℕ → List ℕ → EmitState → List ℕ → List ℕ
     → List ℕ → Type 0
 OtherwiseTranslates left k text n e scope row code r scope' row' code' =
     (ms : Program) → MethodsOf text ms → e.ok ≡ true

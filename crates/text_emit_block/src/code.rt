@@ -2,6 +2,7 @@
 ghost use Rattle.std.specs.Prelude.{◌≤◌, length};
 ghost use Rattle.text_parse.specs.Equations.{statement_from, body_from, block_from, unbraced_rule};
 ghost use Rattle.text_methods.specs.IndexCode.{Indexed};
+ghost use Rattle.text_emit.specs.Reached.{reached, there};
 ghost use Rattle.text_emit_block.specs.BlockCode.{StatementTranslates, ThereTranslates, StatementsTranslate, OtherwiseTranslates, if_rule, while_rule};
 
 use crate::parts::{advances, clears, condition, words};
@@ -23,18 +24,15 @@ fn statement(
     pending: &mut [usize],
     code: &mut [usize],
     left: usize,
-) -> Emit
+) -> Option<Emit>
     requires { (12288 ≤ length pending.old) × Indexed text.now methods.now }
-    ensures { StatementTranslates (statement_from left) text.now n e scope.old
-        row.old code.old result scope.new row.new code.new }
+    ensures { StatementTranslates (statement_from left) text.now n (there e) scope.old
+        row.old code.old (reached result) scope.new row.new code.new }
 {
-    if !e.ok {
-        return e;
-    }
     let kind = next_kind(text, e.at);
     if kind == OPEN_BRACE {
         if left == 0 {
-            return e;
+            return None;
         }
         return block(text, methods, e, scope, n, row, pending, code, left - 1);
     }
@@ -53,16 +51,13 @@ fn body(
     pending: &mut [usize],
     code: &mut [usize],
     left: usize,
-) -> Emit
+) -> Option<Emit>
     requires { (12288 ≤ length pending.old) × Indexed text.now methods.now }
-    ensures { StatementTranslates (body_from left) text.now n e scope.old
-        row.old code.old result scope.new row.new code.new }
+    ensures { StatementTranslates (body_from left) text.now n (there e) scope.old
+        row.old code.old (reached result) scope.new row.new code.new }
 {
-    if !e.ok {
-        return e;
-    }
     if left == 0 {
-        return e;
+        return None;
     }
     let kind = next_kind(text, e.at);
     if kind == OPEN_BRACE {
@@ -83,10 +78,10 @@ fn unbraced(
     pending: &mut [usize],
     code: &mut [usize],
     left: usize,
-) -> Emit
+) -> Option<Emit>
     requires { (12288 ≤ length pending.old) × Indexed text.now methods.now }
-    ensures { ThereTranslates (unbraced_rule left) text.now n e scope.old
-        row.old code.old result scope.new row.new code.new }
+    ensures { ThereTranslates (unbraced_rule left) text.now n (there e) scope.old
+        row.old code.old (reached result) scope.new row.new code.new }
 {
     let kind = next_kind(text, e.at);
     if kind == IF {
@@ -112,17 +107,14 @@ fn conditional(
     pending: &mut [usize],
     code: &mut [usize],
     left: usize,
-) -> Emit
+) -> Option<Emit>
     requires { (12288 ≤ length pending.old) × Indexed text.now methods.now }
-    ensures { ThereTranslates (if_rule left) text.now n e scope.old
-        row.old code.old result scope.new row.new code.new }
+    ensures { ThereTranslates (if_rule left) text.now n (there e) scope.old
+        row.old code.old (reached result) scope.new row.new code.new }
 {
-    let c = condition(text, e, scope, n, pending, code);
-    let test = put(code, c, 18, 0);
-    let s = body(text, methods, test, scope, n, row, pending, code, left);
-    if !s.ok {
-        return s;
-    }
+    let c = condition(text, e, scope, n, pending, code)?;
+    let test = put(code, c, 18, 0)?;
+    let s = body(text, methods, test, scope, n, row, pending, code, left)?;
     let kind = next_kind(text, s.at);
     if kind == ELSE {
         let word = pass(text, s);
@@ -131,7 +123,7 @@ fn conditional(
         );
     }
     patch(code, s, c.count, s.count);
-    s
+    Some(s)
 }
 
 // "code" after else: JUMP K, L: T, K:; the JFALSE that goes to L is instruction k.
@@ -147,16 +139,16 @@ fn otherwise(
     code: &mut [usize],
     left: usize,
     k: usize,
-) -> Emit
+) -> Option<Emit>
     requires { (12288 ≤ length pending.old) × Indexed text.now methods.now }
-    ensures { OtherwiseTranslates left k text.now n e scope.old
-        row.old code.old result scope.new row.new code.new }
+    ensures { OtherwiseTranslates left k text.now n (there e) scope.old
+        row.old code.old (reached result) scope.new row.new code.new }
 {
-    let jump = put(code, e, 17, 0);
+    let jump = put(code, e, 17, 0)?;
     patch(code, jump, k, jump.count);
-    let t = body(text, methods, jump, scope, n, row, pending, code, left);
+    let t = body(text, methods, jump, scope, n, row, pending, code, left)?;
     patch(code, t, e.count, t.count);
-    t
+    Some(t)
 }
 
 // "while ( expr ) code", after while: L: E, JFALSE K, S, JUMP L, K:
@@ -171,17 +163,17 @@ fn repeated(
     pending: &mut [usize],
     code: &mut [usize],
     left: usize,
-) -> Emit
+) -> Option<Emit>
     requires { (12288 ≤ length pending.old) × Indexed text.now methods.now }
-    ensures { ThereTranslates (while_rule left) text.now n e scope.old
-        row.old code.old result scope.new row.new code.new }
+    ensures { ThereTranslates (while_rule left) text.now n (there e) scope.old
+        row.old code.old (reached result) scope.new row.new code.new }
 {
-    let c = condition(text, e, scope, n, pending, code);
-    let test = put(code, c, 18, 0);
-    let s = body(text, methods, test, scope, n, row, pending, code, left);
-    let back = put(code, s, 17, e.count);
+    let c = condition(text, e, scope, n, pending, code)?;
+    let test = put(code, c, 18, 0)?;
+    let s = body(text, methods, test, scope, n, row, pending, code, left)?;
+    let back = put(code, s, 17, e.count)?;
     patch(code, back, c.count, back.count);
-    back
+    Some(back)
 }
 
 // "{ varDeclaration code* }", where all fits so far: CLEAR for each of its variables, then its statements.
@@ -196,24 +188,22 @@ fn block(
     pending: &mut [usize],
     code: &mut [usize],
     left: usize,
-) -> Emit
+) -> Option<Emit>
     requires { (12288 ≤ length pending.old) × Indexed text.now methods.now }
-    ensures { ThereTranslates (block_from left) text.now n e scope.old
-        row.old code.old result scope.new row.new code.new }
+    ensures { ThereTranslates (block_from left) text.now n (there e) scope.old
+        row.old code.old (reached result) scope.new row.new code.new }
 {
     let long = words(scope);
     let open = pass(text, e);
-    let d = declarations(text, open.at, scope, row, n, e.used);
+    let Ok(d) = declarations(text, open.at, scope, row, n, e.used) else {
+        return None;
+    };
     let inner = Emit {
-        ok: d.ok,
         at: d.at,
         used: d.used,
         count: e.count,
     };
-    if !d.ok {
-        return inner;
-    }
-    let cleared = clears(code, inner, e.used, d.used);
+    let cleared = clears(code, inner, e.used, d.used)?;
     statements(text, methods, cleared, scope, d.n, row, pending, code, left)
 }
 
@@ -229,47 +219,21 @@ pub fn statements(
     pending: &mut [usize],
     code: &mut [usize],
     left: usize,
-) -> Emit
+) -> Option<Emit>
     requires { (12288 ≤ length pending.old) × Indexed text.now methods.now }
-    ensures { StatementsTranslate left text.now n e scope.old
-        row.old code.old result scope.new row.new code.new }
+    ensures { StatementsTranslate left text.now n (there e) scope.old
+        row.old code.old (reached result) scope.new row.new code.new }
 {
-    if !e.ok {
-        return e;
-    }
-    let mut at = e.at;
-    let mut used = e.used;
-    let mut count = e.count;
-    let mut kind = next_kind(text, at);
+    let mut here = e;
+    let mut kind = next_kind(text, here.at);
     while kind != CLOSE_BRACE {
-        let here = Emit {
-            ok: true,
-            at: at,
-            used: used,
-            count: count,
-        };
-        let s = statement(text, methods, here, scope, n, row, pending, code, left);
-        let on = advances(text, at, s);
+        let s = statement(text, methods, here, scope, n, row, pending, code, left)?;
+        let on = advances(text, here.at, s);
         if !on {
-            return Emit {
-                ok: false,
-                at: s.at,
-                used: s.used,
-                count: s.count,
-            };
+            return None;
         }
-        at = s.at;
-        used = s.used;
-        count = s.count;
-        kind = next_kind(text, at);
+        here = s;
+        kind = next_kind(text, here.at);
     }
-    pass(
-        text,
-        Emit {
-            ok: true,
-            at: at,
-            used: used,
-            count: count,
-        },
-    )
+    Some(pass(text, here))
 }

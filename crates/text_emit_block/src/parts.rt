@@ -3,6 +3,7 @@ ghost use Rattle.std.specs.Prelude.{◌<◌, ◌≤◌, length, true, ◌≡◌}
 ghost use Rattle.text_parse.specs.Equations.{condition_rule};
 ghost use Rattle.text_numbering.specs.CodeBy.{code_by, place_of};
 ghost use Rattle.text_emit.specs.EmitCode.{Emits};
+ghost use Rattle.text_emit.specs.Reached.{reached, there};
 ghost use Rattle.text_emit_block.specs.BlockCode.{Advance, Clears};
 
 use text_emit::emit::{Emit, pass, put};
@@ -16,65 +17,32 @@ pub fn condition(
     n: usize,
     pending: &mut [usize],
     code: &mut [usize],
-) -> Emit
+) -> Option<Emit>
     requires { 12288 ≤ length pending.old }
-    ensures { Emits condition_rule (code_by place_of) text.now scope.now n e
-        code.old result code.new }
+    ensures { Emits condition_rule (code_by place_of) text.now scope.now n (there e)
+        code.old (reached result) code.new }
 {
     let open = pass(text, e);
-    let x = expression(text, open, scope, n, pending, code);
-    pass(text, x)
+    let x = expression(text, open, scope, n, pending, code)?;
+    Some(pass(text, x))
 }
 
 // CLEAR for each slot from `from` up to `to`.
-pub fn clears(code: &mut [usize], e: Emit, from: usize, to: usize) -> Emit
-    ensures { Clears from to e code.old result code.new }
+pub fn clears(code: &mut [usize], e: Emit, from: usize, to: usize) -> Option<Emit>
+    ensures { Clears from to (there e) code.old (reached result) code.new }
 {
-    let mut i = from;
-    let mut ok = e.ok;
-    let mut at = e.at;
-    let mut used = e.used;
-    let mut count = e.count;
-    while i < to {
-        let one = put(
-            code,
-            Emit {
-                ok: ok,
-                at: at,
-                used: used,
-                count: count,
-            },
-            6,
-            i,
-        );
-        ok = one.ok;
-        at = one.at;
-        used = one.used;
-        count = one.count;
-        i = i + 1;
+    let mut r = e;
+    for i in from..to {
+        r = put(code, r, 6, i)?;
     }
-    Emit {
-        ok: ok,
-        at: at,
-        used: used,
-        count: count,
-    }
+    Some(r)
 }
 
-// Whether a part of the text from `from` up to `at` is gone over and all fits.
+// Whether a part of the text from `from` up to s is gone over.
 pub fn advances(text: &[u8], from: usize, s: Emit) -> bool
-    ensures { Advance text.now from s.ok s.at result }
+    ensures { Advance text.now from true s.at result }
 {
-    if !s.ok {
-        return false;
-    }
-    if s.at <= from {
-        return false;
-    }
-    if text.len() < s.at {
-        return false;
-    }
-    true
+    (from < s.at) & (s.at <= text.len())
 }
 
 // How many words a lent table has. An array that is lent as a slice shows its length.

@@ -1,5 +1,5 @@
 -- The code of arguments, one expression after the other.
-use Prim.Native.Nat.{ℕ, suc, ◌+◌, ◌*◌, ◌-◌, ◌≤◌, ◌<◌}
+use Prim.Native.Nat.{ℕ, suc, ◌+◌, ◌*◌, ◌≤◌, ◌<◌}
 use native.Mathlib.Omega.{arith}
 use mathlib.Core.Path.{◌≡◌, refl, sym, ap, ◌∙◌, subst}
 use mathlib.Core.Bool.{Bool, true, false, cond, ◌&&◌}
@@ -7,6 +7,7 @@ use mathlib.Core.List.{List, [], ◌∷◌, ◌++◌}
 use borrow.Author.Tests.{eqb-true, ne_eqb, le-leb, lt-leb, leb-false}
 use lib.Dec.{eqb, leb}
 use lib.ListN.{length, length-append}
+use Rattle.std.specs.Prelude.{None}
 use Rattle.lists.specs.Lists.{every, put_from}
 use Rattle.lists.proofs.Tests.{passes, clash}
 use Rattle.text.specs.Tree.{Expr, Exprs, no_more, also}
@@ -28,8 +29,7 @@ use Rattle.text_expr.proofs.Steps.{expect-then, and_then-assoc, and_then-same}
 use Rattle.text_numbering.specs.CodeBy.{code_by, arguments_by, place_of, number_fits}
 use Rattle.text_emit_expr.specs.RestCode.{prefixed}
 use Rattle.text_emit_expr.specs.EndsCode.{Answer, Outcome, Ends}
-use Rattle.text_emit_expr.specs.Emitted.{Emitted, ExpressionEmitted, ArgumentsEmitted, ParametersEmitted}
-use Rattle.text_emit_expr.specs.declared.expression.EmitAt.{EmitAt}
+use Rattle.text_emit_expr.specs.Emitted.{Said, said, Emitted, ExpressionEmitted, ArgumentsEmitted, ParametersEmitted}
 use Rattle.text_numbering.proofs.CodeLaws.{numbers_fit, arguments-fit, every_append}
 use Rattle.text_emit_expr.proofs.RestLaws.{prefixed-twice, prefixed-then, prefixed-expect}
 use Rattle.text_emit_expr.proofs.EndedRest.{not_left, expect-read}
@@ -133,12 +133,12 @@ refused-list count c (read b vs) f d us e =
 -- The answers from after an argument, and from its beginning
 
 -- after an argument whose code fits, what comes after it; else the answer is no
-pub record After (scopes : Scopes) (sc : Scope) (text code : List ℕ) (r : EmitAt) (a : Answer) : Type 0 where
+pub record After (scopes : Scopes) (sc : Scope) (text code : List ℕ) (r : Said) (a : Answer) : Type 0 where
   pub fits : r.ok ≡ true
       → Ends text (suc r.at) r.count code (argument_rest scopes sc (tokens_at text r.at)) a
   pub not : r.ok ≡ false → a.ok ≡ false
 
-module _ (text scope : List ℕ) (n at : ℕ) (code : List ℕ) (count : ℕ) (code₁ : List ℕ) (r : EmitAt)
+module _ (text scope : List ℕ) (n at : ℕ) (code : List ℕ) (count : ℕ) (code₁ : List ℕ) (r : Said)
     (emission : ExpressionEmitted text scope n at code count code₁ r) (le : n ≤ 16) (scopes : Scopes) (sc : Scope)
     (pl : Placing text scope n sc) where
   pub argument-ends : (a : Answer) → After scopes sc text code₁ r a
@@ -177,23 +177,18 @@ module _ (text scope : List ℕ) (n at : ℕ) (code : List ℕ) (count : ℕ) (c
       of (both_read e vs p g) = by e vs (emission le scopes sc pl e vs p) g r.ok refl
 
 -- every answer from after the argument r is one from the first argument's beginning
-abbrev pub Continued : List ℕ → List ℕ → ℕ → ℕ → List ℕ → ℕ → List ℕ → EmitAt → Type 0
+abbrev pub Continued : List ℕ → List ℕ → ℕ → ℕ → List ℕ → ℕ → List ℕ → Said → Type 0
 Continued text scope n from code count code' r =
     n ≤ 16 → (scopes : Scopes) (sc : Scope) → Placing text scope n sc → (a : Answer)
     → After scopes sc text code' r a → Ends text (suc from) count code (parameters_rest scopes sc (tokens_at text from)) a
 
--- the code's test
-pub comma-follows : (ok : Bool) (k : ℕ) → (ok && eqb k 25) ≡ true → (ok ≡ true) × (k ≡ 25)
-comma-follows true k e = (refl, eqb-true k 25 e)
-comma-follows false k e = absurd (passes e)
-
 -- every answer from after one argument is one from after an earlier one
-abbrev pub Later : List ℕ → List ℕ → ℕ → List ℕ → EmitAt → List ℕ → EmitAt → Type 0
+abbrev pub Later : List ℕ → List ℕ → ℕ → List ℕ → Said → List ℕ → Said → Type 0
 Later text scope n code r code' r' =
     n ≤ 16 → (scopes : Scopes) (sc : Scope) → Placing text scope n sc → (a : Answer)
     → After scopes sc text code' r' a → After scopes sc text code r a
 
-module _ (text scope : List ℕ) (n : ℕ) (code₁ : List ℕ) (r : EmitAt) (t : TokenAt)
+module _ (text scope : List ℕ) (n : ℕ) (code₁ : List ℕ) (r : Said) (t : TokenAt)
     (next : NextToken text r.at t) where
   comma-passed : t.kind ≡ 25 → Passed text r.at t.end
   comma-passed e = passed-next text r.at t next (λ g. omega (arith, e, g))
@@ -202,19 +197,18 @@ module _ (text scope : List ℕ) (n : ℕ) (code₁ : List ℕ) (r : EmitAt) (t 
   comma-onward e = ((comma-passed e).onward, (comma-passed e).within)
 
   -- a comma, and the next argument
-  pub comma-later : (code₂ : List ℕ) (r₂ : EmitAt) → (r.ok && eqb t.kind 25) ≡ true
+  pub comma-later : (code₂ : List ℕ) (r₂ : Said) → r.ok ≡ true → t.kind ≡ 25
       → ExpressionEmitted text scope n t.end code₁ r.count code₂ r₂ → Later text scope n code₁ r code₂ r₂
   unfolding argument_rest
-  comma-later code₂ r₂ test m le scopes sc pl a after =
-      let both = comma-follows r.ok t.kind test in
-      let pass = comma-passed both.1 in
+  comma-later code₂ r₂ fit comma m le scopes sc pl a after =
+      let pass = comma-passed comma in
       let on : r.at < t.end = pass.onward in record {
         fits = λ b.
-            subst (λ x. Ends text (suc r.at) r.count code₁ x a) (sym (comma-rest scopes sc both.1))
+            subst (λ x. Ends text (suc r.at) r.count code₁ x a) (sym (comma-rest scopes sc comma))
             (ends-lower text (suc r.at) (suc t.end) r.count code₁
             (parameters_rest scopes sc (tokens_at text t.end)) a (omega arith)
             (argument-ends text scope n t.end code₁ r.count code₂ r₂ m le scopes sc pl a after));
-        not = λ b. absurd (clash b (passes both.0));
+        not = λ b. absurd (clash b (passes fit));
       }
     where
       comma-rest : (scopes : Scopes) (sc : Scope) → t.kind ≡ 25
@@ -224,23 +218,23 @@ module _ (text scope : List ℕ) (n : ℕ) (code₁ : List ℕ) (r : EmitAt) (t 
           ∙ ap (λ (j : ℕ). eqb j 25) (kind-next text r.at t next ∙ e))
           (ap (parameters_rest scopes sc) (comma-passed e).after)
 
-pub later-here : (text scope : List ℕ) (n : ℕ) (code : List ℕ) (r : EmitAt) → Later text scope n code r code r
+pub later-here : (text scope : List ℕ) (n : ℕ) (code : List ℕ) (r : Said) → Later text scope n code r code r
 later-here text scope n code r le scopes sc pl a after = after
 
-pub later-then : (text scope : List ℕ) (n : ℕ) (code : List ℕ) (r : EmitAt) (code₁ : List ℕ) (r₁ : EmitAt)
-    (code₂ : List ℕ) (r₂ : EmitAt) → Later text scope n code r code₁ r₁ → Later text scope n code₁ r₁ code₂ r₂
+pub later-then : (text scope : List ℕ) (n : ℕ) (code : List ℕ) (r : Said) (code₁ : List ℕ) (r₁ : Said)
+    (code₂ : List ℕ) (r₂ : Said) → Later text scope n code r code₁ r₁ → Later text scope n code₁ r₁ code₂ r₂
     → Later text scope n code r code₂ r₂
 later-then text scope n code r code₁ r₁ code₂ r₂ f g le scopes sc pl a after =
     f le scopes sc pl a (g le scopes sc pl a after)
 
 -- from the first argument on
-pub continued-by : (text scope : List ℕ) (n from : ℕ) (code : List ℕ) (count : ℕ) (code₁ : List ℕ) (r : EmitAt)
-    (code₂ : List ℕ) (r₂ : EmitAt) → ExpressionEmitted text scope n from code count code₁ r
+pub continued-by : (text scope : List ℕ) (n from : ℕ) (code : List ℕ) (count : ℕ) (code₁ : List ℕ) (r : Said)
+    (code₂ : List ℕ) (r₂ : Said) → ExpressionEmitted text scope n from code count code₁ r
     → Later text scope n code₁ r code₂ r₂ → Continued text scope n from code count code₂ r₂
 continued-by text scope n from code count code₁ r code₂ r₂ m f le scopes sc pl a after =
     argument-ends text scope n from code count code₁ r m le scopes sc pl a (f le scopes sc pl a after)
 
-module _ (text scope : List ℕ) (n from : ℕ) (code : List ℕ) (count : ℕ) (code₁ : List ℕ) (r : EmitAt) (t : TokenAt)
+module _ (text scope : List ℕ) (n from : ℕ) (code : List ℕ) (count : ℕ) (code₁ : List ℕ) (r : Said) (t : TokenAt)
     (next : NextToken text r.at t) (so_far : Continued text scope n from code count code₁ r) where
   -- the last argument
   no-comma : (r.ok && eqb t.kind 25) ≡ false → r.ok ≡ true → eqb t.kind 25 ≡ false
@@ -303,6 +297,27 @@ module _ (text scope : List ℕ) (n from : ℕ) (code : List ℕ) (count : ℕ) 
         written = o.written;
       }
 
+-- an argument does not fit
+pub parameters-refused : (text scope : List ℕ) (n from : ℕ) (code : List ℕ) (count : ℕ) (code₁ : List ℕ)
+    → Continued text scope n from code count code₁ (said None)
+    → ParametersEmitted text scope n from code count code₁ (said None)
+unfolding parameters_rest and_then
+parameters-refused text scope n from code count code₁ so_far le scopes sc pl es us q =
+    let o : Outcome text (suc from) count code (arguments_by place_of sc es) us
+    (record { ok = false; at = 0; count = 0; code = code₁ }) =
+    so_far le scopes sc pl (record { ok = false; at = 0; count = 0; code = code₁ })
+    (record { fits = λ b. absurd (passes b); not = λ b. refl }) (arguments_by place_of sc es) us
+    (ap (λ m. and_then m (λ es us. read (arguments_by place_of sc es) us)) q) in record {
+      judged = o.judged
+          ∙ ap (λ (b : Bool). leb (count + length (arguments_by place_of sc es)) 4096 && b)
+          (sym (arguments-fit place_of sc es));
+      left = λ b. absurd (passes b);
+      onward = λ b. absurd (passes b);
+      inside = λ b. absurd (passes b);
+      counted = λ b. absurd (passes b);
+      written = λ b. absurd (passes b);
+    }
+
 -- Arguments: none, or these
 
 module _ (text scope : List ℕ) (n from : ℕ) (code : List ℕ) (count : ℕ) (t : TokenAt)
@@ -326,7 +341,7 @@ module _ (text scope : List ℕ) (n from : ℕ) (code : List ℕ) (count : ℕ) 
         written = λ z. refl;
       })
 
-  pub some-arguments : (code' : List ℕ) (r : EmitAt) → (t.kind ≡ 20 → ⊥)
+  pub some-arguments : (code' : List ℕ) (r : Said) → (t.kind ≡ 20 → ⊥)
       → ParametersEmitted text scope n from code count code' r → ArgumentsEmitted text scope n from code count code' r
   unfolding arguments_rule
   some-arguments code' r f m le scopes sc pl es us q =

@@ -1,6 +1,6 @@
 // The code of the arguments of a call, a fork or a gate.
 ghost use Rattle.std.specs.Prelude.{◌≡◌, ◌&&◌, ◌≤◌, length};
-ghost use Rattle.text_emit_expr.specs.Emitted.{ArgumentsEmitted, ParametersEmitted};
+ghost use Rattle.text_emit_expr.specs.Emitted.{ArgumentsEmitted, EndsWithin, ParametersEmitted, said};
 
 use crate::expression::{EmitAt, emit_expression};
 use text_tokens::kinds::{CLOSE, COMMA};
@@ -15,24 +15,21 @@ fn emit_parameters(
     pending: &mut [usize],
     code: &mut [usize],
     count: usize,
-) -> EmitAt
+) -> Option<EmitAt>
     requires { (from ≤ length text.now) × (12288 ≤ length pending.old) × (count ≤ 4096) }
     ensures { ParametersEmitted text.now scope.now n from code.old count
-        code.new result × (from ≤ result.at) × (result.at ≤ length text.now) × (result.count ≤ 4096) }
+        code.new (said result) × EndsWithin text.now from result }
 {
-    let mut r = emit_expression(text, from, scope, n, pending, code, count);
+    let mut r = emit_expression(text, from, scope, n, pending, code, count)?;
     let mut t = next_token(text, r.at);
-    while r.ok & (t.kind == COMMA) {
-        let u = emit_expression(text, t.end, scope, n, pending, code, r.count);
-        r = u;
-        let v = next_token(text, u.at);
-        t = v;
+    while t.kind == COMMA {
+        r = emit_expression(text, t.end, scope, n, pending, code, r.count)?;
+        t = next_token(text, r.at);
     }
-    EmitAt {
-        ok: r.ok,
+    Some(EmitAt {
         at: t.end,
         count: r.count,
-    }
+    })
 }
 
 // "methodParams? )", after the opening bracket, after the `count` instructions that stand in the buffer.
@@ -44,18 +41,14 @@ pub fn emit_arguments(
     pending: &mut [usize],
     code: &mut [usize],
     count: usize,
-) -> EmitAt
+) -> Option<EmitAt>
     requires { (from ≤ length text.now) × (12288 ≤ length pending.old) × (count ≤ 4096) }
     ensures { ArgumentsEmitted text.now scope.now n from code.old count
-        code.new result × (from ≤ result.at) × (result.at ≤ length text.now) × (result.count ≤ 4096) }
+        code.new (said result) × EndsWithin text.now from result }
 {
     let t = next_token(text, from);
     if t.kind == CLOSE {
-        return EmitAt {
-            ok: true,
-            at: t.end,
-            count: count,
-        };
+        return Some(EmitAt { at: t.end, count });
     }
     emit_parameters(text, from, scope, n, pending, code, count)
 }

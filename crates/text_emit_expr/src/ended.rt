@@ -1,5 +1,5 @@
 // One step where an operand or an expression has ended: the token t from the state's place on.
-ghost use Rattle.std.specs.Prelude.{◌≡◌, true, false, ◌≤◌, ◌<◌};
+ghost use Rattle.std.specs.Prelude.{◌≡◌, true, false, ◌≤◌, ◌<◌, MatchOption};
 ghost use Rattle.text_tokens.specs.NextCode.{NextToken};
 ghost use Rattle.text_emit_expr.specs.EndsCode.{Standing, Steps, CallSteps, operator_word, bracket_closed, goes, top_of};
 
@@ -8,23 +8,23 @@ use crate::state::{StateAt, gone};
 use text_tokens::kinds::{CLOSE, COMMA, EQUALS, LESS, MINUS, PLUS};
 use text_tokens::next::TokenAt;
 
-// ADD, SUB, EQ, LESS; 0 for what is no operator.
-fn operator_op(kind: u8) -> usize
-    ensures { result ≡ operator_word kind }
+// ADD, SUB, EQ, LESS; none for what is no operator.
+fn operator_op(kind: u8) -> Option<usize>
+    ensures { MatchOption result (operator_word kind ≡ 0) (λ op. (op ≡ operator_word kind) × (op ≡ 0 → ⊥)) }
 {
     if kind == PLUS {
-        return 19;
+        return Some(19);
     }
     if kind == MINUS {
-        return 20;
+        return Some(20);
     }
     if kind == EQUALS {
-        return 21;
+        return Some(21);
     }
     if kind == LESS {
-        return 22;
+        return Some(22);
     }
-    0
+    None
 }
 
 // The innermost bracket that has no instruction is closed.
@@ -34,7 +34,7 @@ fn close_bracket(s: StateAt, at: usize) -> StateAt
 {
     StateAt {
         phase: 1,
-        at: at,
+        at,
         unclosed: s.unclosed - 1,
         entries: s.entries,
         count: s.count,
@@ -119,10 +119,9 @@ pub fn ended_step(
     ensures { CallSteps text.now pending.old code.old s pending.new
         code.new result }
 {
-    let op = operator_op(t.kind);
-    if op == 0 {
+    let Some(op) = operator_op(t.kind) else {
         return end_step(text, pending, code, s, t);
-    }
+    };
     if s.phase == 1 {
         return push(pending, s, op, 0, t.end);
     }

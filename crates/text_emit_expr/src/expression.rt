@@ -1,17 +1,16 @@
 // The code of one expression.
 ghost use Rattle.std.specs.Prelude.{◌≡◌, ◌≤◌, length};
 ghost use Rattle.text_emit_expr.specs.EndsCode.{Standing, Steps};
-ghost use Rattle.text_emit_expr.specs.Emitted.{ExpressionEmitted};
+ghost use Rattle.text_emit_expr.specs.Emitted.{EndsWithin, ExpressionEmitted, said};
 
 use crate::ended::ended_step;
 use crate::operand::operand_step;
 use crate::state::StateAt;
 use text_tokens::next::next_token;
 
-// Whether the code fits, the place after the expression, and the instructions in the buffer.
+// Where the code fits: the place after the expression, and the instructions in the buffer.
 #[derive(Clone, Copy)]
 pub struct EmitAt {
-    pub ok: bool,
     pub at: usize,
     pub count: usize,
 }
@@ -36,7 +35,8 @@ fn step(
     ended_step(text, pending, code, s, t)
 }
 
-// The code of the expression at `from`, after the `count` instructions that stand in the buffer.
+// The code of the expression at `from`, after the `count` instructions that stand in the buffer; none where it does not
+// fit.
 pub fn emit_expression(
     text: &[u8],
     from: usize,
@@ -45,25 +45,26 @@ pub fn emit_expression(
     pending: &mut [usize],
     code: &mut [usize],
     count: usize,
-) -> EmitAt
+) -> Option<EmitAt>
     requires { (from ≤ length text.now) × (12288 ≤ length pending.old) × (count ≤ 4096) }
     ensures { ExpressionEmitted text.now scope.now n from code.old count
-        code.new result × (from ≤ result.at) × (result.at ≤ length text.now) × (result.count ≤ 4096) }
+        code.new (said result) × EndsWithin text.now from result }
 {
     let mut s = StateAt {
         phase: 0,
         at: from,
         unclosed: 0,
         entries: 0,
-        count: count,
+        count,
     };
     while s.phase < 3 {
-        let u = step(text, scope, n, pending, code, s);
-        s = u;
+        s = step(text, scope, n, pending, code, s);
     }
-    EmitAt {
-        ok: s.phase == 3,
+    if s.phase != 3 {
+        return None;
+    }
+    Some(EmitAt {
         at: s.at,
         count: s.count,
-    }
+    })
 }

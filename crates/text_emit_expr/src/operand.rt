@@ -150,7 +150,7 @@ pub fn open_bracket(s: StateAt, at: usize) -> StateAt
 {
     StateAt {
         phase: 0,
-        at: at,
+        at,
         unclosed: s.unclosed + 1,
         entries: s.entries,
         count: s.count,

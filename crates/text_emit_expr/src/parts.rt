@@ -60,14 +60,13 @@ pub fn allocated(text: &[u8], from: usize) -> CodeUpTo
             at: brackets(text, t.end),
         };
     }
-    let carried = bracketed(text, t.end);
-    if !carried.ok {
+    let Ok(carried) = bracketed(text, t.end) else {
         return CodeUpTo {
             op: 0,
             argument: 0,
             at: t.end,
         };
-    }
+    };
     let end = brackets(text, carried.at);
     if t.kind == CHANNEL {
         return CodeUpTo {

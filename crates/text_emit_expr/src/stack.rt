@@ -1,9 +1,10 @@
 // The stack of instructions that wait, in a lent slice of three words for each of 4096 entries. All of them are to be
 // written, so an entry more would be an instruction that no table has.
-ghost use Rattle.std.specs.Prelude.{◌≡◌, ◌&&◌, ◌||◌, ◌<◌, ◌≤◌, eqb, leb, get_or};
+ghost use Rattle.std.specs.Prelude.{◌≡◌, ◌&&◌, ◌||◌, ◌<◌, ◌≤◌, eqb, leb};
 ghost use Rattle.text_emit_expr.specs.EndsCode.{Push, Pop, top_of, goes, Flush};
 
-use crate::state::{StateAt, gave_up, put, write};
+use crate::state::{StateAt, gave_up, put};
+use slices::at_or;
 
 pub fn push(pending: &mut [usize], s: StateAt, op: usize, argument: usize, at: usize) -> StateAt
     ensures { Push pending.old s op argument at pending.new result }
@@ -11,25 +12,16 @@ pub fn push(pending: &mut [usize], s: StateAt, op: usize, argument: usize, at: u
     if 4096 <= s.entries {
         return gave_up(s);
     }
-    write(pending, 3 * s.entries, op);
-    write(pending, 3 * s.entries + 1, argument);
-    write(pending, 3 * s.entries + 2, s.unclosed);
+    slices::put(pending, 3 * s.entries, op);
+    slices::put(pending, 3 * s.entries + 1, argument);
+    slices::put(pending, 3 * s.entries + 2, s.unclosed);
     StateAt {
         phase: 0,
-        at: at,
+        at,
         unclosed: 0,
         entries: s.entries + 1,
         count: s.count,
     }
-}
-
-fn word(words: &[usize], i: usize) -> usize
-    ensures { result ≡ get_or words.now i 0 }
-{
-    if i < words.len() {
-        return words[i];
-    }
-    0
 }
 
 // The op that waits innermost; 0 where a bracket is open above it, or none waits.
@@ -43,7 +35,7 @@ pub fn top(pending: &[usize], s: StateAt) -> usize
     if s.entries == 0 {
         return 0;
     }
-    word(pending, 3 * (s.entries - 1))
+    at_or(pending, 3 * (s.entries - 1), 0)
 }
 
 // The instruction that waits innermost is written.
@@ -55,13 +47,13 @@ pub fn pop(pending: &[usize], code: &mut [usize], s: StateAt, phase: u8, at: usi
         return gave_up(s);
     }
     let i = 3 * (s.entries - 1);
-    let op = word(pending, i);
-    let argument = word(pending, i + 1);
+    let op = at_or(pending, i, 0);
+    let argument = at_or(pending, i + 1, 0);
     put(code, s.count, op, argument);
     StateAt {
-        phase: phase,
-        at: at,
-        unclosed: word(pending, i + 2),
+        phase,
+        at,
+        unclosed: at_or(pending, i + 2, 0),
         entries: s.entries - 1,
         count: s.count + 1,
     }

@@ -1,5 +1,5 @@
 // Where emission stands, and instructions written into the lent buffer.
-ghost use Rattle.std.specs.Prelude.{◌≡◌, [], ◌∷◌, ◌*◌, ◌<◌, set};
+ghost use Rattle.std.specs.Prelude.{◌≡◌, [], ◌∷◌, ◌*◌, ◌<◌};
 ghost use Rattle.lists.specs.Lists.{put_from};
 ghost use Rattle.text.specs.Translation.{instruction};
 ghost use Rattle.text_emit_expr.specs.EndsCode.{gave_up, gone, Emission};
@@ -33,20 +33,11 @@ pub fn gone(s: StateAt, phase: u8, at: usize) -> StateAt
     ensures { result ≡ gone s phase at }
 {
     StateAt {
-        phase: phase,
-        at: at,
+        phase,
+        at,
         unclosed: s.unclosed,
         entries: s.entries,
         count: s.count,
-    }
-}
-
-// A word written, where the slice has it.
-pub fn write(words: &mut [usize], i: usize, v: usize)
-    ensures { words.new ≡ set words.old i v }
-{
-    if i < words.len() {
-        words[i] = v;
     }
 }
 
@@ -55,8 +46,8 @@ pub fn put(code: &mut [usize], count: usize, op: usize, argument: usize)
     requires { count < 4096 }
     ensures { code.new ≡ put_from code.old (2 * count) (op ∷ argument ∷ []) }
 {
-    write(code, 2 * count, op);
-    write(code, 2 * count + 1, argument);
+    slices::put(code, 2 * count, op);
+    slices::put(code, 2 * count + 1, argument);
 }
 
 // The next instruction of the buffer; a table has 4096.
@@ -75,8 +66,8 @@ pub fn emit(
     }
     put(code, s.count, op, argument);
     StateAt {
-        phase: phase,
-        at: at,
+        phase,
+        at,
         unclosed: s.unclosed,
         entries: s.entries,
         count: s.count + 1,

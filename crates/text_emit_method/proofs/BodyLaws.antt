@@ -27,9 +27,9 @@ use Rattle.text_numbering.specs.CodeBy.{place_of}
 use Rattle.text_code.specs.OutcomeCode.{Tables, Written, Outcome, all-written, over}
 use Rattle.text_code.specs.StatementBy.{statements_by}
 use Rattle.text_code.proofs.Forms.{outcome-same, outcome-lower}
-use Rattle.text_emit.specs.declared.emit.Emit.{Emit}
+use Rattle.text_emit.specs.Reached.{EmitState}
 use Rattle.text_emit.specs.EmitCode.{tables_of}
-use Rattle.text_emit.proofs.EmitLaws.{emit_at}
+use Rattle.text_emit.proofs.EmitLaws.{emit_at, lost}
 use Rattle.text_emit_block.specs.BlockCode.{StatementsTranslate}
 use Rattle.text_emit_block.proofs.LevelLaws.{then-any}
 use Rattle.text_emit_method.specs.StepsCode.{body_by, before, BodyTranslates}
@@ -72,7 +72,7 @@ module _ (text : List ℕ) (scope row row₀ code : List ℕ) (n given : ℕ) wh
     kept = λ m sc h p. p;
   }
 
-  module _ (r : Emit) (scope' row' code' : List ℕ) where
+  module _ (r : EmitState) (scope' row' code' : List ℕ) where
     -- the same seen from before the method
     body-outcome : {low : ℕ} {c : List Instruction} {vs : List Declared} {us : List Token} {ok : Bool} {at : ℕ}
         → Outcome text low c vs us Inside ok at (tables_of r n scope' row' code')
@@ -116,12 +116,12 @@ module _ (text : List ℕ) (from n : ℕ) (scope row code scope₁ row₁ : List
 
   -- too many variables
   pub body-many : (scope₂ row₂ code₂ : List ℕ) → ok ≡ false
-      → BodyTranslates text from n scope row code (emit_at ok at given 0) scope₂ row₂ code₂
+      → BodyTranslates text from n scope row code lost scope₂ row₂ code₂
   unfolding method_body_rule variables_of body_variables
   body-many scope₂ row₂ code₂ o ms _ h scope₀ row₀ e =
       declared-then _ e.fits (λ ds vs y. then-any (statements_from 31 _ vs) (λ ss ws. holds (
         record { returns = refl; name = refl; parameters = refl },
-        over o (inr (inr
+        over refl (inr (inr
             (let many = too-many-of y.1 o in
             let ps = map parameter_of h.parameters in
             let have : n ≡ 0 + length ps = e.given in
@@ -130,8 +130,8 @@ module _ (text : List ℕ) (from n : ℕ) (scope row code scope₁ row₁ : List
             omega arith))),
       )))
 
-  pub body-written : (r : Emit) (scope₂ row₂ code₂ : List ℕ) → ok ≡ true
-      → StatementsTranslate 31 text many (emit_at ok at given 0) scope₁ row₁ code r scope₂ row₂ code₂
+  pub body-written : (r : EmitState) (scope₂ row₂ code₂ : List ℕ) → ok ≡ true
+      → StatementsTranslate 31 text many (emit_at true at given 0) scope₁ row₁ code r scope₂ row₂ code₂
       → BodyTranslates text from n scope row code r scope₂ row₂ code₂
   unfolding method_body_rule variables_of body_variables body_by
   body-written r scope₂ row₂ code₂ o go ms methods h scope₀ row₀ e =
@@ -144,7 +144,7 @@ module _ (text : List ℕ) (from n : ℕ) (scope row code scope₁ row₁ : List
       (go ms methods vs at [] (ps ++ declared_by ds) (Inside text scope₁ row₁ row₀ code many given)
       ((ps ++ declared_by ds) ∷ []) (opened (ps ++ declared_by ds) 0 [])
       (λ on. (scope-begun text (ps ++ declared_by ds) scope₀ row₀ (tables scope₁ many row₁ given) all, all.fits.slots))
-      (all-written o (omega arith) place.1.1 place.0 refl
+      (all-written refl (omega arith) place.1.1 place.0 refl
       (variables-written text scope₁ row₁ row₀ code many given (ps ++ declared_by ds) scope₀ all)))
       (λ ss ws z. holds (
         record { returns = refl; name = refl; parameters = refl },

@@ -16,9 +16,9 @@ use Rattle.text_numbering.specs.CodeBy.{number_fits}
 use Rattle.text_code.specs.OutcomeCode.{Overflow, Outcome, all-written, over}
 use Rattle.text_code.proofs.Quiet.{quiet-after, closing-quiet}
 use Rattle.text_code.proofs.Forms.{outcome-same}
-use Rattle.text_emit.specs.declared.emit.Emit.{Emit}
+use Rattle.text_emit.specs.Reached.{EmitState}
 use Rattle.text_emit.specs.EmitCode.{tables_of, PutsOne}
-use Rattle.text_emit.proofs.EmitLaws.{emit_at}
+use Rattle.text_emit.proofs.EmitLaws.{lost}
 use Rattle.text_emit_method.specs.StepsCode.{before, with_hole, ended, Ending, all-ended, too_much, Ends}
 
 -- no type has the code of void
@@ -45,7 +45,7 @@ ended-fits : (c : List Instruction) (t : Option NonVoidType) (vs : List Declared
 ended-fits c t vs = quiet-after c (closing t (length vs)) (closing-quiet t (length vs))
 
 module _ (text : List ℕ) (low : ℕ) (c : List Instruction) (vs : List Declared) (us : List Token)
-    (t : Option NonVoidType) (scope row row₀ code₀ : List ℕ) (r : Emit) (row' code' : List ℕ) where
+    (t : Option NonVoidType) (scope row row₀ code₀ : List ℕ) (r : EmitState) (row' code' : List ℕ) where
   -- the code with its end is written, and there is a slot for what the end takes
   ended-outcome : row' ≡ with_hole t (length vs) row → (length vs ≤ 16 → length vs + length (hole_type t) ≤ 16)
       → Outcome text low (ended c t vs) vs us (before row₀ code₀) r.ok r.at (tables_of r 0 scope row code')
@@ -75,8 +75,8 @@ module _ (text : List ℕ) (low : ℕ) (c : List Instruction) (vs : List Declare
   ended-over o (inr (inl g)) = too_much o (inr (inl g))
   ended-over o (inr (inr h)) = too_much o (inr (inr (omega arith)))
 
-module _ (type : ℕ) (e : Emit) (row code : List ℕ) where
-  pub ends-void : (r : Emit) (code' : List ℕ) → type ≡ 0 → PutsOne 13 0 e code r code'
+module _ (type : ℕ) (e : EmitState) (row code : List ℕ) where
+  pub ends-void : (r : EmitState) (code' : List ℕ) → type ≡ 0 → PutsOne 13 0 e code r code'
       → Ends type e row code r row code'
   unfolding closing with_hole hole_type number_fits
   ends-void r code' z p text us low c vs t scope row₀ code₀ q h =
@@ -86,9 +86,9 @@ module _ (type : ℕ) (e : Emit) (row code : List ℕ) where
       (p refl text us 0 scope row low c vs (before row₀ code₀) h))
 
   -- something before it does not fit
-  pub ends_stuck : (row' code' : List ℕ) → e.ok ≡ false → Ends type e row code e row' code'
+  pub ends_stuck : (row' code' : List ℕ) → e.ok ≡ false → Ends type e row code lost row' code'
   ends_stuck row' code' off text us low c vs t scope row₀ code₀ q (over o v) =
-      ended-over text low c vs us t scope row row₀ code₀ e row' code' o v
+      ended-over text low c vs us t scope row row₀ code₀ lost row' code' refl v
   ends_stuck row' code' off text us low c vs t scope row₀ code₀ q (all-written o l i u f w) =
       absurd (clash off (passes o))
 
@@ -96,16 +96,16 @@ module _ (type : ℕ) (e : Emit) (row code : List ℕ) where
   module _ (value : type ≡ 0 → ⊥) where
     -- no slot is left
     pub ends-full : (row' code' : List ℕ) → 15 < e.used
-        → Ends type e row code (emit_at false e.at e.used e.count) row' code'
+        → Ends type e row code lost row' code'
     unfolding return_code hole_type
     ends-full row' code' full text us low c vs none scope row₀ code₀ q h = absurd (value q)
     ends-full row' code' full text us low c vs (some t) scope row₀ code₀ q (over o v) =
-        ended-over text low c vs us (some t) scope row row₀ code₀ (emit_at false e.at e.used e.count) row' code'
+        ended-over text low c vs us (some t) scope row row₀ code₀ lost row' code'
         refl v
     ends-full row' code' full text us low c vs (some t) scope row₀ code₀ q (all-written o l i u f w) =
         too_much refl (inr (inr (let given = w.given in omega arith)))
 
-    pub ends-value : (g r : Emit) (code₁ code₂ : List ℕ) → e.ok ≡ true → e.used ≤ 15
+    pub ends-value : (g r : EmitState) (code₁ code₂ : List ℕ) → e.ok ≡ true → e.used ≤ 15
         → PutsOne 3 e.used e code g code₁ → PutsOne 13 0 g code₁ r code₂
         → Ends type e row code r (set row (2 + e.used) type) code₂
     unfolding return_code closing with_hole hole_type number_fits

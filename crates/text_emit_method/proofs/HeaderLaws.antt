@@ -9,7 +9,7 @@ use lib.Dec.{eqb}
 use lib.ListN.{length, set, length-map}
 use lib.Seq.{slice}
 use borrow.Author.Tests.{eqb-true}
-use Rattle.text.specs.Tree.{Name, Declared, Parameter, parameter_of}
+use Rattle.text.specs.Tree.{Name, NonVoidType, Declared, Parameter, parameter_of}
 use Rattle.text_parse.specs.Tokens.{Token, is, is_name, name_of}
 use Rattle.text_parse.specs.Grammar.{Reading, read, leaves, first, rest, and_then, leaves_at, next?, expect, expect_name, return_type}
 use Rattle.text_parse.specs.Equations.{parameters_rule, method_rule, method_body_rule}
@@ -19,7 +19,11 @@ use Rattle.text_tokens.specs.NextCode.{NextToken}
 use Rattle.text_tokens.specs.declared.next.TokenAt.{TokenAt}
 use Rattle.text_tokens.proofs.KindTests.{is-name, is_open}
 use Rattle.text_types.specs.SaysCode.{Passed, Says, reads, leaves-at, ReturnSays}
+use Rattle.std.specs.Prelude.{Ok, Err}
+use Rattle.lists.proofs.Tests.{clash, passes}
+use Rattle.text_types.specs.declared.place.GrammarError.{GrammarError}
 use Rattle.text_types.specs.declared.types.TypeAt.{TypeAt}
+use mathlib.Core.Option.{Option}
 use Rattle.text_types.proofs.Answers.{passed-next, kind-next}
 use Rattle.text_scan.proofs.Holding.{Holds, holds, off, then-holds, expect-holds, name-holds, After, after, AfterName, after-name}
 use Rattle.text_declare.specs.Entered.{tables, Fits, typed, Entering, all-entered, too_many}
@@ -127,7 +131,7 @@ unfolding empty_row
 counted-row ds a k = ap (λ (ws : List ℕ). set ws 1 k) (typed-row ds a 0) ∙ sym (typed-row ds a k)
 
 module _ (text scope scope' row' : List ℕ) (a n used w : ℕ) (long : length scope ≡ 64) where
-  counted-entering : (ps : List Parameter) {ok : Bool} → (n ≤ 16 → w ≡ n)
+  pub counted-entering : (ps : List Parameter) {ok : Bool} → (n ≤ 16 → w ≡ n)
       → Entering text (map parameter_of ps) (tables scope 0 (empty_row a 0) 0) ok (tables scope' n row' used)
       → Entering text (map parameter_of ps) (tables scope 0 (empty_row a (length ps)) 0) ok
       (tables scope' n (set row' 1 w) n)
@@ -149,15 +153,41 @@ module _ (text scope scope' row' : List ℕ) (a n used w : ℕ) (long : length s
         places = e.places;
       })
 
-module _ (text : List ℕ) (from : ℕ) (scope scope' row' : List ℕ) (t : TypeAt) (name opening : TokenAt) (ok : Bool)
-    (at n used w : ℕ) where
-  pub header-enters : ReturnSays text from t (return_type (tokens_at text from)) → NextToken text t.at name
+-- where they are too many, nothing is said of the tables
+pub too-many-rows : {text scope a b scope' row' scope'' row'' : List ℕ} {n used k m : ℕ} (ps : List Parameter)
+    → Entering text (map parameter_of ps) (tables scope 0 a 0) false (tables scope' n row' used)
+    → Entering text (map parameter_of ps) (tables scope 0 b 0) false (tables scope'' k row'' m)
+too-many-rows ps (too_many o h) = too_many o h
+too-many-rows ps (all-entered o e) = absurd (clash refl (passes o))
+
+-- what is refused is not a header
+pub header-refused : {text scope scope' row' : List ℕ} {from at start end code n : ℕ} {ok : Bool}
+    (e : GrammarError) → ReturnSays text from (Err e) (return_type (tokens_at text from))
+    → HeaderEnters text from scope ok at start end code n scope' row'
+unfolding header_rule and_then
+header-refused {text} {scope} {scope'} {row'} {from} {at} {start} {end} {code} {n} {ok} e says long =
+    refused (return_type (tokens_at text from)) says
+  where
+    refused : (r : Reading (Option NonVoidType)) → ReturnSays text from (Err e) r
+        → Holds (HeaderEntered text from scope ok at start end code n scope' row')
+        (and_then r (λ t us. expect_name us (λ x vs. expect "(" vs (λ ws.
+        and_then (parameters_rule ws) (λ ps xs. read (record { returns = t; name = x; parameters = ps }) xs)))))
+    refused (read a us) (reads o u h w p) = absurd (clash refl (passes o))
+    refused (leaves i) s = off
+
+module _ (text : List ℕ) (from : ℕ) (scope scope' row' scope'' row'' : List ℕ) (t : TypeAt) (name opening : TokenAt)
+    (ok : Bool) (at at' n used n' : ℕ) where
+  pub header-enters : ReturnSays text from (Ok t) (return_type (tokens_at text from)) → NextToken text t.at name
       → NextToken text name.end opening
       → ParametersEnter text opening.end (tables scope 0 (empty_row t.code 0) 0) ok at (tables scope' n row' used)
-      → (n ≤ 16 → w ≡ n)
-      → HeaderEnters text from scope ok at name.start name.end t.code n scope' (set row' 1 w)
+      → (ok ≡ true → at' ≡ at)
+      → (length scope ≡ 64 → (ps : List Parameter)
+      → Entering text (map parameter_of ps) (tables scope 0 (empty_row t.code 0) 0) ok (tables scope' n row' used)
+      → Entering text (map parameter_of ps) (tables scope 0 (empty_row t.code (length ps)) 0) ok
+      (tables scope'' n' row'' n'))
+      → HeaderEnters text from scope ok at' name.start name.end t.code n' scope'' row''
   unfolding header_rule
-  header-enters says k j enter f long =
+  header-enters says k j enter same counted long =
       then-holds (says_holds says) (λ r us q. name-holds us (λ x vs s.
       let y = name-passed text t.at name k q.1.0 s in
       expect-holds "(" vs (λ ws b.
@@ -165,15 +195,16 @@ module _ (text : List ℕ) (from : ℕ) (scope scope' row' : List ℕ) (t : Type
       let fits : Fits (tables scope 0 (empty_row t.code 0) 0) =
       record { slots = omega arith; room = omega arith; long = long } in
       subst (λ (ts : List Token).
-      Holds (HeaderEntered text from scope ok at name.start name.end t.code n scope' (set row' 1 w))
+      Holds (HeaderEntered text from scope ok at' name.start name.end t.code n' scope'' row'')
       (and_then (parameters_rule ts) (λ ps xs. read (record { returns = r; name = x; parameters = ps }) xs))) (sym z.0)
       (then-holds (enters-holds (enter.says fits)) (λ ps xs g. holds (record {
         place = sym y.1.1.0;
         spelt = y.1.1.1;
         type = q.0;
-        left = g.0;
-        onward = λ o. (further q.1.1 y.1.0 z.1.0 (enter.onward o).0, (enter.onward o).1);
-        entering = counted-entering text scope scope' row' t.code n used w long ps f g.1;
+        left = λ o. g.0 o ∙ ap (tokens_at text) (sym (same o));
+        onward = λ o. subst (λ (a : ℕ). (from < a) × (a ≤ length text)) (sym (same o))
+            (further q.1.1 y.1.0 z.1.0 (enter.onward o).0, (enter.onward o).1);
+        entering = counted long ps g.1;
       }))))))
     where
       further : {b c d : ℕ} → suc from ≤ b → b < c → c < d → suc d ≤ at → from < at

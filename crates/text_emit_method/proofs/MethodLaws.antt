@@ -8,11 +8,12 @@ use mathlib.Core.List.{List, [], ◌++◌, map}
 use mathlib.Core.Option.{Option, none, some}
 use lib.ListN.{length, length-append, length-map}
 use Rattle.lists.specs.Lists.{every, put_from}
+use Rattle.lists.proofs.Tests.{passes}
 use Rattle.text.specs.Tree.{Name, NonVoidType, declared_by, parameter_of, Method, Program, body_variables}
 use Rattle.text.specs.Translation.{Instruction, code_words, return_code, variables_of, all_within, hole_of, hole_type, code_of_type, slot_codes, row_words, opened}
 use Rattle.text.specs.Limits.{is_number, all_numbers_in}
 use Rattle.text_parse.specs.Tokens.{Token}
-use Rattle.text_parse.specs.Grammar.{Reading, read}
+use Rattle.text_parse.specs.Grammar.{Reading, read, leaves}
 use Rattle.text_parse.specs.Equations.{method_from, method_body_rule, declarations_from, statements_from}
 use Rattle.text_parse.proofs.Equations.{grammar}
 use Rattle.text_tokens.specs.Places.{tokens_at}
@@ -22,7 +23,7 @@ use Rattle.text_declare.proofs.RowLaws.{row-void, row-value}
 use Rattle.text_numbering.specs.CodeBy.{number_fits, place_of}
 use Rattle.text_code.specs.StatementBy.{method_by}
 use Rattle.text_code.proofs.Quiet.{statements-fit}
-use Rattle.text_emit.specs.declared.emit.Emit.{Emit}
+use Rattle.text_emit.specs.Reached.{EmitState}
 use Rattle.text_emit.specs.EmitCode.{MethodsOf}
 use Rattle.text_emit_block.proofs.LevelLaws.{then-any}
 use Rattle.text_emit_method.specs.MethodCode.{NameAt, TooLarge, MethodEmits, emitted, too_large, not-read}
@@ -121,7 +122,7 @@ module _ (text : List ℕ) (from : ℕ) (scope : List ℕ) (ok : Bool) (at start
         let three = method-slots ms m in
         omega arith))))))))
 
-    module _ (methods : MethodsOf text ms) (on : ok ≡ true) (b e : Emit) (scope₂ row₂ row₃ code code₂ code₃ : List ℕ)
+    module _ (methods : MethodsOf text ms) (on : ok ≡ true) (b e : EmitState) (scope₂ row₂ row₃ code code₂ code₃ : List ℕ)
         (body : BodyTranslates text at n scope₁ row₁ code b scope₂ row₂ code₂)
         (close : Ends type b row₂ code₂ e row₃ code₃) where
       -- what the end of the code comes to
@@ -158,3 +159,11 @@ module _ (text : List ℕ) (from : ℕ) (scope : List ℕ) (ok : Bool) (at start
           (close text vs (1 + at) (body_by ms m) (variables_of m) m.returns scope₂
           (empty_row type (length h.parameters)) code (x.type ∙ ap return_code (sym y.0.returns)) y.1))
           (body ms methods h scope (empty_row type (length h.parameters)) (entered_of x.entering on))))
+
+-- of a method that does not fit nothing is said but its name
+pub method-refused : {text : List ℕ} {ms : Program} {from at place start end long many : ℕ} {row row' code code' : List ℕ}
+    (r : Reading Method) → MethodEmits text ms from false at start end long row code code' r
+    → MethodEmits text ms from false place start end many row' code code' r
+method-refused (read m us) (emitted n o w) = absurd (passes o)
+method-refused (read m us) (too_large n o t) = too_large n refl t
+method-refused (leaves i) not-read = not-read

@@ -14,7 +14,7 @@ use Rattle.text_declare.specs.Entered.{tables, typed, Entered, Entering}
 use Rattle.text_numbering.specs.CodeBy.{number_fits, place_of}
 use Rattle.text_code.specs.StatementBy.{statements_by}
 use Rattle.text_code.specs.OutcomeCode.{Tables, Outcome}
-use Rattle.text_emit.specs.declared.emit.Emit.{Emit}
+use Rattle.text_emit.specs.Reached.{EmitState}
 use Rattle.text_emit.specs.EmitCode.{tables_of, MethodsOf}
 
 -- "methodHeader ::= type methodName ( methodDeclParamList? )"
@@ -64,7 +64,7 @@ abbrev pub before : List ℕ → List ℕ → Tables
 before row code = record { n = 0; used = 0; count = 0; scope = []; row = row; code = code }
 
 -- After the header: what the block declares is entered, and the code of its statements is written.
-abbrev pub BodyTranslates : List ℕ → ℕ → ℕ → List ℕ → List ℕ → List ℕ → Emit → List ℕ → List ℕ → List ℕ → Type 0
+abbrev pub BodyTranslates : List ℕ → ℕ → ℕ → List ℕ → List ℕ → List ℕ → EmitState → List ℕ → List ℕ → List ℕ → Type 0
 BodyTranslates text from n scope row code r scope' row' code' =
     (ms : Program) → MethodsOf text ms → (h : Header) (scope₀ row₀ : List ℕ)
     → Entered text (map parameter_of h.parameters) (tables scope₀ 0 row₀ 0) (tables scope n row n)
@@ -98,13 +98,13 @@ TooMuch c t vs =
     (4096 < length (ended c t vs)) ⊎ ((every number_fits c ≡ false) ⊎ (16 < length vs + length (hole_type t)))
 
 pub data Ending (text : List ℕ) (low : ℕ) (c : List Instruction) (vs : List Declared) (us : List Token)
-    (t : Option NonVoidType) (row₀ code₀ : List ℕ) (r : Emit) (row' code' : List ℕ) : Type 0 where
+    (t : Option NonVoidType) (row₀ code₀ : List ℕ) (r : EmitState) (row' code' : List ℕ) : Type 0 where
   all-ended : r.ok ≡ true → AllEnded text low c vs us t row₀ code₀ r.at r.count row' code'
       → Ending text low c vs us t row₀ code₀ r row' code'
   too_much : r.ok ≡ false → TooMuch c t vs → Ending text low c vs us t row₀ code₀ r row' code'
 
 -- What the end of a method of the return type of this code makes of any outcome before it.
-abbrev pub Ends : ℕ → Emit → List ℕ → List ℕ → Emit → List ℕ → List ℕ → Type 0
+abbrev pub Ends : ℕ → EmitState → List ℕ → List ℕ → EmitState → List ℕ → List ℕ → Type 0
 Ends type e row code r row' code' =
     (text : List ℕ) (us : List Token) (low : ℕ) (c : List Instruction) (vs : List Declared) (t : Option NonVoidType)
     (scope row₀ code₀ : List ℕ) → type ≡ return_code t

@@ -1,6 +1,7 @@
 // "{ varDeclaration code* }" of a method: no CLEAR, and its block is the first level of nesting.
 ghost use Rattle.std.specs.Prelude.{◌≤◌, length};
 ghost use Rattle.text_methods.specs.IndexCode.{Indexed};
+ghost use Rattle.text_emit.specs.Reached.{reached};
 ghost use Rattle.text_emit_method.specs.StepsCode.{BodyTranslates};
 
 use text_declare::declarations::declarations;
@@ -18,30 +19,23 @@ pub fn body(
     scope: &mut [usize; 64],
     pending: &mut [usize],
     code: &mut [usize],
-) -> Emit
+) -> Option<Emit>
     requires { Indexed text.now methods.now }
     ensures { 12288 ≤ length pending.old
-        → BodyTranslates text.now from n scope.old row.old code.old result
+        → BodyTranslates text.now from n scope.old row.old code.old (reached result)
         scope.new row.new code.new }
 {
     if pending.len() < 12288 {
-        return Emit {
-            ok: false,
-            at: from,
-            used: n,
-            count: 0,
-        };
+        return None;
     }
     let open = next_token(text, from);
-    let d = declarations(text, open.end, scope, row, n, n);
+    let Ok(d) = declarations(text, open.end, scope, row, n, n) else {
+        return None;
+    };
     let begin = Emit {
-        ok: d.ok,
         at: d.at,
         used: d.used,
         count: 0,
     };
-    if !d.ok {
-        return begin;
-    }
     statements(text, methods, begin, scope, d.n, row, pending, code, 31)
 }

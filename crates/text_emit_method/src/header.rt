@@ -33,20 +33,40 @@ pub fn header(text: &[u8], from: usize, scope: &mut [usize; 64], row: &mut [u16;
     ensures { HeaderEnters text.now from scope.old result.ok result.at result.start result.end result.code result.n
         scope.new row.new }
 {
-    let t = return_type(text, from);
+    let Ok(t) = return_type(text, from) else {
+        return HeaderAt {
+            ok: false,
+            at: from,
+            start: from,
+            end: from,
+            code: 0,
+            n: 0,
+        };
+    };
     let name = next_token(text, t.at);
     let open = next_token(text, name.end);
     let mut fresh = [0u16; 18];
     fresh[0] = t.code as u16;
     *row = fresh;
-    let p = parameters(text, open.end, scope, row, 0, 0);
-    row[1] = as_word(p.n);
-    HeaderAt {
-        ok: p.ok,
-        at: p.at,
-        start: name.start,
-        end: name.end,
-        code: t.code,
-        n: p.n,
+    match parameters(text, open.end, scope, row, 0, 0) {
+        Ok(p) => {
+            row[1] = as_word(p.n);
+            HeaderAt {
+                ok: true,
+                at: p.at,
+                start: name.start,
+                end: name.end,
+                code: t.code,
+                n: p.n,
+            }
+        }
+        Err(_) => HeaderAt {
+            ok: false,
+            at: open.end,
+            start: name.start,
+            end: name.end,
+            code: t.code,
+            n: 0,
+        },
     }
 }

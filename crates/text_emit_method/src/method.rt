@@ -41,19 +41,24 @@ pub fn emit_method(
         row.new code.old code.new (method_from (tokens_at text.now at)) }
 {
     let h = header(text, at, scope, row);
+    let refused = MethodAt {
+        ok: false,
+        at: h.at,
+        start: h.start,
+        end: h.end,
+        long: 0,
+    };
     if !h.ok {
-        return MethodAt {
-            ok: false,
-            at: h.at,
-            start: h.start,
-            end: h.end,
-            long: 0,
-        };
+        return refused;
     }
-    let b = body(text, methods, h.at, h.n, row, scope, pending, code);
-    let e = close(row, code, b, h.code);
+    let Some(b) = body(text, methods, h.at, h.n, row, scope, pending, code) else {
+        return refused;
+    };
+    let Some(e) = close(row, code, b, h.code) else {
+        return refused;
+    };
     MethodAt {
-        ok: e.ok,
+        ok: true,
         at: e.at,
         start: h.start,
         end: h.end,

@@ -3,7 +3,7 @@ use Prim.Native.Nat.{ℕ, zero, suc, ◌+◌, ◌-◌, ◌*◌, ◌≤◌, ◌<�
 use native.Mathlib.Omega.{arith}
 use native.Mathlib.Nat.{le_of_lt}
 use mathlib.Core.Logic.{⊎_elim}
-use mathlib.Core.Bool.{Bool, true, false, cond, ◌&&◌, not}
+use mathlib.Core.Bool.{Bool, true, false, cond, ◌&&◌}
 use mathlib.Core.Path.{◌≡◌, refl, sym, ap, subst, ◌∙◌}
 use mathlib.Core.List.{List, [], ◌∷◌, ◌++◌}
 use mathlib.Core.Option.{none, some, none-ne-some, some-injective}
@@ -15,7 +15,7 @@ use borrow.Author.Tests.{eq-eqb, ne_eqb, ltb-true, ltb-false}
 use Rattle.lists.specs.Lists.{All, any, below, all_below}
 use Rattle.lists.proofs.Tests.{decide, passed, failed, or_cases, and_both}
 use Rattle.lists.proofs.First.{any_below}
-use Rattle.table.specs.Table.{methods, instructions, offset_of, row, slot_types, is_type, op_at, arg_at, owner_of}
+use Rattle.table.specs.Table.{instructions, offset_of, row, slot_types, is_type, op_at, arg_at, owner_of}
 use Rattle.table.specs.Ops.{op_of}
 use Rattle.table.specs.Reading.{op_there, after, opens, before, jumps_to, is_target, reads}
 use Rattle.table.specs.Questions.{instruction_kept}

@@ -19,7 +19,7 @@ use Rattle.table.proofs.Ops.{ops-opened}
 use Rattle.check_arguments.specs.LimitsCode.{limits_for}
 use Rattle.check_instructions.specs.OwnersCode.{owner_in}
 use Rattle.check_instructions.specs.declared.owner.Owner.{Owner}
-use Rattle.check_types.specs.PendingCode.{types_of, Held}
+use Rattle.check_types.specs.PendingCode.{types_of}
 use Rattle.check_types.specs.RulesCode.{rule_result, step_of, stepped, Ready}
 use Rattle.check_types.specs.declared.pending.Pending.{Pending}
 use Rattle.check_types.proofs.Packed.{types-length}
@@ -106,18 +106,16 @@ module _ (p : List ℕ) (op a : ℕ) (target last : Bool) (q : Pending) where
   all-kept b c d e f g h = rw (sym d ∙ on b e, target-test, f, last-test c g, h)
 
 -- what `step` asks for
-pub two_ready : (p : List ℕ) (long : ℕ) (o : Owner) (op a : ℕ) (q : Pending) (b : Bool) → TwoMethods p long
-    → o ≡ owner_in p 0 → o.method ≡ 0 → b ≡ (op_of op).argument p 0 a → not b ≡ false → q.count ≤ 8 → Held q
-    → Ready p 2 o op a q
-two_ready p long o op a q b h e m d f few held = record {
+pub two_ready : (p : List ℕ) (long : ℕ) (o : Owner) (op a : ℕ) (b : Bool) → TwoMethods p long
+    → o ≡ owner_in p 0 → o.method ≡ 0 → b ≡ (op_of op).argument p 0 a → not b ≡ false
+    → Ready p 2 o op a
+two_ready p long o op a b h e m d f = record {
   sizes = h.sizes;
   rows = h.rows;
   methods-count = sym h.two;
   owner = e ∙ ap (owner_in p) (sym m);
   method = subst (λ k. k < methods p) (sym m) (two-some p long h);
   argument = subst (λ k. T ((op_of op).argument p k a)) (sym m) (passes (sym d ∙ on b f));
-  few = few;
-  held = held;
 }
 
 -- A call of a method with more than 8 parameters
@@ -166,10 +164,10 @@ module _ (p : List ℕ) (a : ℕ) (target last : Bool) (ts : List ℕ) (two : me
       (λ u. subst None (sym (eqb_yes {a = op} {b = 14} u)) fork-none) (or_cases (eqb op 12) (eqb op 14) t)
 
 pub many-none : (own callee : List ℕ) (long : ℕ) (s : Instruction) (q : Pending) → MayCall own callee long s
-    → q.count ≤ 8 → 8 < get_or callee 1 0
+    → 8 < get_or callee 1 0
     → none ≡ judged_at (two_rows own callee long) s.op s.argument s.target s.last (types_of q)
-many-none own callee long s q h few many =
+many-none own callee long s q h many =
     let (call, some-a) = h.many many in
     let params = callee-params own callee long h.own_row.words h.callee-row.words in
     calls-none (two_rows own callee long) s.argument s.target s.last (types_of q)
-    (two-methods own callee long) (omega (arith, types-length q.count q.types, params)) some-a s.op call
+    (two-methods own callee long) (omega (arith, types-length q.count q.types, q.few, params)) some-a s.op call

@@ -3,21 +3,23 @@ use Prim.Native.Nat.{ℕ, zero, suc, ◌+◌, ◌-◌, ◌*◌, ◌≤◌, ◌<�
 use native.Mathlib.Omega.{arith}
 use native.Mathlib.Numerals.{add-one}
 use mathlib.Core.Logic.{⊎_elim}
-use mathlib.Core.Bool.{Bool, true, false, cond, ◌&&◌, ◌||◌, not}
+use mathlib.Core.Bool.{Bool, true, false, cond, ◌&&◌}
 use mathlib.Core.Path.{◌≡◌, refl, sym, ap, ap₂, subst, ◌∙◌}
 use mathlib.Core.List.{List, []}
-use mathlib.Core.Option.{none, some}
+use mathlib.Core.Option.{Option, none, some}
 use lib.ListN.{get_or, length, take, drop}
 use lib.Dec.{T, eqb, leb, ltb}
 use mir.Facts.{and_yes, eqb_yes, leb_yes, ltb_yes}
-use borrow.Author.Tests.{ltb-true, ltb-false, leb-true, leb-false, le-leb}
+use borrow.Author.Tests.{ltb-true, ltb-false, le-leb}
 use Rattle.lists.proofs.Tests.{passes, never, or_cases, cond_both}
+use Rattle.std.specs.Prelude.{Some, None}
+use Rattle.std.specs.Prelude as prelude
+use Rattle.std.specs.Option.{is_some}
 use Rattle.table.specs.Table.{methods}
 use Rattle.table.specs.Ops.{op_of}
 use Rattle.table.proofs.Ops.{ops-opened}
-use Rattle.check_types.specs.PendingCode.{types_of, result_in}
+use Rattle.check_types.specs.PendingCode.{result_in}
 use Rattle.check_types.specs.declared.pending.Pending.{Pending}
-use Rattle.check_types.proofs.Packed.{outcome-few, outcome-fault}
 use Rattle.text_judge.specs.RowsCode.{Subject, IsRow, no_row, two_rows, calls, argument_in, judged_at, op_in, arg_in, is_onto, callee_row, marked_in, judged_on, judged_to, is_kept, judged}
 use Rattle.text_judge.specs.JudgeCode.{instruction_at, InCode, row_at, subject_in, wanted, MayCall}
 use Rattle.text_judge.specs.ResumeCode.{IsMethod, InMethod}
@@ -59,22 +61,6 @@ row-taken rows a = ap (λ k. take k (drop (18 * a) rows)) {x = 18 * a + 18 - 18 
 pub known-call : (op a k : ℕ) (b : Bool) → b ≡ calls op → (b && ltb a k) ≡ true → (calls op ≡ true) × (a < k)
 known-call op a k true e t = (sym e, ltb-true a k t)
 known-call op a k false e t = absurd (never t)
-
--- no reason to stop
-pub goes_on : (k : ℕ) (b : Bool) → (ltb 8 k || b) ≡ false → (k ≤ 8) × (b ≡ false)
-goes_on k b e = by (ltb 8 k) refl e
-  where
-    by : (t : Bool) → ltb 8 k ≡ t → (t || b) ≡ false → (k ≤ 8) × (b ≡ false)
-    by true q e = absurd (never (sym e))
-    by false q e = (ltb-false 8 k q, e)
-
--- a reason to stop, and it is not a fault
-pub halts : (k : ℕ) (b : Bool) → (ltb 8 k || b) ≡ true → k ≤ 8 → b ≡ true
-halts k b e l = by (ltb 8 k) refl e
-  where
-    by : (t : Bool) → ltb 8 k ≡ t → (t || b) ≡ true → b ≡ true
-    by true q e = absurd (omega (arith, ltb-true 8 k q))
-    by false q e = e
 
 wanted-calls : (code : List ℕ) (n : Counts) (i : ℕ) → wanted code n i ≡ true → calls (op_in code i) ≡ true
 unfolding wanted
@@ -209,16 +195,14 @@ module _ (code own targets : List ℕ) (n : Counts) (h : InMethod code own targe
 
 -- From one instruction to the next
 
-pub next-right : (s : Subject) (i : ℕ) (q : Pending) → q.count ≤ 8 → result_in q ≡ judged_to s i
-    → judged_on s i (some (types_of q)) ≡ judged_to s (i + 1)
+pub next-right : (s : Subject) (i : ℕ) (o : Option (List ℕ)) → o ≡ judged_to s i → judged_on s i o ≡ judged_to s (i + 1)
 unfolding judged_to
-next-right s i q few e =
-    rw (add-one i) (ap (judged_on s i) (sym (outcome-few q.count q.types few) ∙ e))
+next-right s i o e = rw (add-one i) (ap (judged_on s i) e)
 
 -- nothing is judged yet
-pub begins-right : (s : Subject) (q : Pending) → result_in q ≡ some [] → result_in q ≡ judged_to s 0
+pub begins-right : (s : Subject) → some [] ≡ judged_to s 0
 unfolding judged_to
-begins-right s q e = e
+begins-right s = refl
 
 -- The answer
 
@@ -230,19 +214,13 @@ fault-stays s i (suc k) e =
     ap (judged_to s) {x = suc k + i} {y = suc (k + i)} (omega arith) ∙ ap (judged_on s (k + i)) (fault-stays s i k e)
 
 -- all is judged, or an instruction is at fault
-pub answer-right : (s : Subject) (i : ℕ) (q : Pending) → i ≤ s.long → (i < s.long → q.count ≤ 8 → ⊥)
-    → result_in q ≡ judged_to s i → leb q.count 8 ≡ judged s
+pub answer-right : (s : Subject) (i : ℕ) (o : prelude.Option Pending) → i ≤ s.long → (i < s.long → is_some o ≡ true → ⊥)
+    → result_in o ≡ judged_to s i → is_some o ≡ judged s
 unfolding judged
-answer-right s i q l end e = by (leb q.count 8) refl
-  where
-    by : (b : Bool) → leb q.count 8 ≡ b → b ≡ is_kept (judged_to s s.long)
-    by true t =
-        let few = leb-true q.count 8 t in
-        let last : ¬ (i < s.long) = λ k. end k few in
-        let all : i ≡ s.long = omega arith in
-        sym (ap is_kept (ap (judged_to s) (sym all) ∙ sym e ∙ outcome-few q.count q.types few))
-    by false t =
-        let many = leb-false q.count 8 t in
-        let back : s.long - i + i ≡ s.long = omega arith in
-        let stays = fault-stays s i (s.long - i) (sym e ∙ outcome-fault q.count q.types many) in
-        sym (ap is_kept (ap (judged_to s) (sym back) ∙ stays))
+answer-right s i None l end e =
+    let back : s.long - i + i ≡ s.long = omega arith in
+    sym (ap is_kept (ap (judged_to s) (sym back) ∙ fault-stays s i (s.long - i) (sym e)))
+answer-right s i (Some q) l end e =
+    let last : ¬ (i < s.long) = λ k. end k refl in
+    let all : i ≡ s.long = omega arith in
+    sym (ap is_kept (ap (judged_to s) (sym all) ∙ sym e))

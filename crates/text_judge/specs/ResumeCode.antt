@@ -1,6 +1,7 @@
 -- What is known of a method that is judged as far as the rows at hand allow. These definitions follow the code.
 use Rattle.std.specs.Prelude.{ℕ, ◌*◌, ◌≤◌, ◌<◌, true, ◌≡◌, List, get_or, length, ltb}
-use Rattle.check_types.specs.PendingCode.{Held, result_in}
+use Rattle.std.specs.Option.{is_some}
+use Rattle.check_types.specs.PendingCode.{result_in}
 use Rattle.text_judge.specs.RowsCode.{Subject, IsRow, is_onto, judged_to}
 use Rattle.text_judge.specs.JudgeCode.{row_at, subject_in, Knows, wanted}
 use Rattle.text_judge.specs.declared.instruction.Counts.{Counts}
@@ -35,7 +36,6 @@ Right s j = result_in j.pending ≡ judged_to s j.at
 pub record Onward (code own rows : List ℕ) (n : Counts) (from to : Judgement) : Type 0 where
   pub later : from.at ≤ to.at
   pub within : to.at ≤ n.long
-  pub held : Held to.pending
-  pub stops : to.at < n.long → to.pending.count ≤ 8 → wanted code n to.at ≡ true
+  pub stops : to.at < n.long → is_some to.pending ≡ true → wanted code n to.at ≡ true
   pub right : (f : ℕ → List ℕ) → Knows f rows n → Right (subject_in code own n f) from
       → Right (subject_in code own n f) to

@@ -1,6 +1,6 @@
 // One instruction judged.
 ghost use Rattle.std.specs.Prelude.{◌≡◌, ◌≤◌, ◌<◌};
-ghost use Rattle.check_types.specs.PendingCode.{Held, result_in, types_of};
+ghost use Rattle.check_types.specs.PendingCode.{result_in, types_of};
 ghost use Rattle.text_judge.specs.RowsCode.{IsRow, calls, argument_in, two_rows, judged_at};
 ghost use Rattle.text_judge.specs.JudgeCode.{instruction_at, InCode, TwoMethods, MayCall};
 
@@ -57,7 +57,7 @@ pub fn instruction_at(code: &[u16], targets: &[u8], n: Counts, i: usize) -> Inst
     let op = code[2 * i] as usize;
     let a = code[2 * i + 1] as usize;
     Instruction {
-        op: op,
+        op,
         argument: argument_in(n.methods, op, a),
         target: 0 < targets[i],
         last: i + 1 == n.long,
@@ -65,10 +65,10 @@ pub fn instruction_at(code: &[u16], targets: &[u8], n: Counts, i: usize) -> Inst
 }
 
 // The pending types after an instruction of method 0, which has so many, or a fault.
-fn judge_in(table: &[u16], long: usize, s: Instruction, q: Pending) -> Pending
-    requires { TwoMethods table.now long × (s.argument < 65536) × (q.count ≤ 8) × Held q }
-    ensures { (result_in result
-        ≡ judged_at table.now s.op s.argument s.target s.last (types_of q)) × Held result }
+fn judge_in(table: &[u16], long: usize, s: Instruction, q: Pending) -> Option<Pending>
+    requires { TwoMethods table.now long × (s.argument < 65536) }
+    ensures { result_in result
+        ≡ judged_at table.now s.op s.argument s.target s.last (types_of q) }
 {
     let o = Owner {
         method: 0,
@@ -78,26 +78,32 @@ fn judge_in(table: &[u16], long: usize, s: Instruction, q: Pending) -> Pending
     };
     let limits = limits_for(2);
     if !argument_kept(table, &limits, o, s.op, s.argument) {
-        return Pending::fault();
+        return None;
     }
     if s.target & (q.count != 0) {
-        return Pending::fault();
+        return None;
     }
     if s.last & !closes(s.op) {
-        return Pending::fault();
+        return None;
     }
     step(table, 2, o, s.op, s.argument, q)
 }
 
 // By the own row and that of the method that is called. More parameters than 8 are more than can be pending.
-pub fn judge_by(own: &[u16], callee: &[u16], long: usize, s: Instruction, q: Pending) -> Pending
-    requires { MayCall own.now callee.now long s × (q.count ≤ 8) × Held q }
-    ensures { (result_in result
+pub fn judge_by(
+    own: &[u16],
+    callee: &[u16],
+    long: usize,
+    s: Instruction,
+    q: Pending,
+) -> Option<Pending>
+    requires { MayCall own.now callee.now long s }
+    ensures { result_in result
         ≡ judged_at (two_rows own.now callee.now long) s.op s.argument s.target s.last
-        (types_of q)) × Held result }
+        (types_of q) }
 {
     if 8 < callee[1] {
-        return Pending::fault();
+        return None;
     }
     let table = two_rows(own, callee, long);
     judge_in(&table, long, s, q)

@@ -5,5 +5,6 @@
 
 pub mod code;
 pub mod instruction;
+pub mod marked;
 pub mod rows;
 pub mod targets;

@@ -7,11 +7,7 @@ pub fn put_row(words: &mut [u16], at: usize, row: &[u16])
     requires { (length row.now ≡ 18) × (at + 18 ≤ length words.old) }
     ensures { words.new ≡ copied words.old at row.now 18 }
 {
-    let mut i = 0;
-    while i < 18 {
-        words[at + i] = row[i];
-        i += 1;
-    }
+    words[at..at + 18].copy_from_slice(row);
 }
 
 // Method 0 has the own row and so many instructions, method 1 the row of the one that is called.

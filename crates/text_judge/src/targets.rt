@@ -17,9 +17,7 @@ pub fn mark_targets(code: &[u16], long: usize, targets: &mut [u8])
     requires { (length code.now ≡ 2 * long) × (long ≤ 4096) }
     ensures { targets.new ≡ marked_in code.now long targets.old }
 {
-    let mut i = 0;
-    while i < long {
+    for i in 0..long {
         mark_jump(targets, code[2 * i] as usize, code[2 * i + 1] as usize);
-        i += 1;
     }
 }

@@ -1,19 +1,19 @@
 -- In a text without a fault of names every method that is called is there, and its name stands at its place.
 use Prim.Native.Nat.{ℕ}
-use mathlib.Core.Path.{◌≡◌, refl, sym, ap, subst, ◌∙◌}
-use mathlib.Core.Bool.{Bool, true, false, cond, not}
+use mathlib.Core.Path.{◌≡◌, refl, subst, ◌∙◌}
+use mathlib.Core.Bool.{not}
 use mathlib.Core.List.{List, [], ◌∷◌, ◌++◌}
 use mathlib.Core.Option.{Option, none, some, some-ne-none}
 use lib.ListN.{length}
 use lib.Dec.{T}
 use Rattle.lists.specs.Lists.{All}
 use Rattle.lists.proofs.Laws.{append-nil-right}
-use Rattle.text.specs.Tree.{Name, Method, Program, main_first, method_of, method_at, number_of}
+use Rattle.text.specs.Tree.{Name, Method, Program, main_first, method_of, method_at}
 use Rattle.text.specs.Names.{unless, declared_among, use_fault, twice_faults, method_names, methods_faults, main_fault, name_faults, lowest, name_refusal}
 use Rattle.text.proofs.Apart.{Apart, append-nil-left, unless-nil, names_apart}
 use Rattle.text_parse.specs.Tokens.{Token, tokens_of}
 use Rattle.text_parse.specs.Grammar.{read, program_of}
-use Rattle.text_scan.specs.Events.{Event, method_named, declared, used, called, invoked, opened, closed, ended, program_events}
+use Rattle.text_scan.specs.Events.{Event, method_named, declared, used, called, invoked, opened, closed, ended}
 use Rattle.text_scan.specs.ScanCode.{events_from}
 use Rattle.text_scan.specs.FaultsCode.{Entry, Blocks, count_of, callable, invocable, entries_of, innermost, with_name, without_block, names_in, faults_of, method_faults_of, main_fault_of, faults_from}
 use Rattle.text_scan.proofs.Methods.{parameter_count}

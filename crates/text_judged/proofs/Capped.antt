@@ -1,17 +1,15 @@
 -- An argument above 65,534 is out of every op's range, or does not count: so 65,535 may stand for it.
-use Prim.Native.Nat.{ℕ, ◌+◌, ◌≤◌, ◌<◌}
+use Prim.Native.Nat.{ℕ, ◌≤◌, ◌<◌}
 use native.Mathlib.Omega.{arith}
-use mathlib.Core.Path.{◌≡◌, refl, sym, ap, ap₂, ◌∙◌}
-use mathlib.Core.Bool.{Bool, true, false, cond, ◌&&◌, ◌||◌, not}
+use mathlib.Core.Path.{◌≡◌, refl, sym, ◌∙◌}
+use mathlib.Core.Bool.{Bool, true, false, cond, ◌&&◌, not}
 use mathlib.Core.List.{List}
-use mathlib.Core.Option.{Option, none, some}
+use mathlib.Core.Option.{Option, none}
 use lib.Dec.{eqb, leb, ltb}
 use borrow.Author.Tests.{ne_eqb, ltb-false, le-ltb, lt-leb}
 use Rattle.lists.proofs.Tests.{never}
 use Rattle.lists.proofs.Numbers.{by_number, ◌▹◌}
 use Rattle.table.specs.Table.{length_of, slot_type, is_carried}
-use Rattle.table.specs.Ops.{op_of}
-use Rattle.table.specs.Reading.{is_nil}
 use Rattle.table.proofs.Ops.{ops-opened}
 use Rattle.check_types.specs.RulesCode.{stepped}
 use Rattle.text_judge.specs.RowsCode.{calls, judged_at}

@@ -6,7 +6,7 @@ use mathlib.Core.Path.{◌≡◌, refl, sym, ap, ap₂, subst, ◌∙◌}
 use mathlib.Core.Bool.{Bool, true, false, cond, ◌&&◌, ◌||◌, not}
 use mathlib.Core.List.{List, [], ◌∷◌, ◌++◌, map, reverse}
 use mathlib.Core.Option.{Option, none, some}
-use lib.ListN.{get_or, length, take, drop, replicate, length-append, length-take, length-map, length-replicate, length-reverse, get_or-eq_default}
+use lib.ListN.{get_or, length, take, drop, replicate, length-append, length-take, length-map, length-reverse, get_or-eq_default}
 use lib.Seq.{get_or-take, ext_get_or}
 use lib.Dec.{T, eqb, leb, ltb}
 use mir.Facts.{eqb_yes, eqb_no}
@@ -15,12 +15,12 @@ use Rattle.lists.specs.Lists.{same}
 use Rattle.lists.proofs.Laws.{same-equal}
 use Rattle.lists.proofs.Tests.{decide, failed, or_cases, passes}
 use Rattle.table.specs.Table.{methods, return_of, params_of, slot_types, param_types, is_type}
-use Rattle.table.specs.Ops.{op_of, returned}
+use Rattle.table.specs.Ops.{returned}
 use Rattle.table.specs.Reading.{is_nil}
 use Rattle.table.proofs.Ops.{ops-opened}
 use Rattle.check_types.specs.RulesCode.{rule_result, step_of, stepped}
 use Rattle.text.specs.Tree.{Method, Parameter, Declared, parameter_of, declared_by, body_variables}
-use Rattle.text.specs.Translation.{code_of_type, return_code, row_words, slot_codes, variables_of, hole_type, all_within}
+use Rattle.text.specs.Translation.{code_of_type, row_words, slot_codes, variables_of, hole_type, all_within}
 use Rattle.text.proofs.Elements.{get_d-filled}
 use Rattle.text.proofs.Rows.{return-code, slot-type, parameter-type}
 use Rattle.text.proofs.Words.{row_words-length}

@@ -6,27 +6,25 @@ use mathlib.Core.Logic.{⊎_elim}
 use mathlib.Core.Path.{◌≡◌, refl, sym, ap, ap₂, subst, ◌∙◌}
 use mathlib.Core.Bool.{Bool, true, false, cond, ◌&&◌, ◌||◌, not}
 use mathlib.Core.List.{List, [], ◌∷◌}
-use mathlib.Core.Option.{Option, none, some, none-ne-some, some-injective}
+use mathlib.Core.Option.{some, none-ne-some, some-injective}
 use lib.ListN.{get_or, length}
 use lib.Dec.{T, eqb, ltb, eqb_refl}
 use mir.Facts.{eqb_yes, T_not, yes_and}
 use borrow.Author.Tests.{ltb-true, ltb-false, ne_eqb}
-use Rattle.lists.specs.Lists.{All, same}
+use Rattle.lists.specs.Lists.{same}
 use Rattle.lists.proofs.Tests.{never, passed, failed, or_cases, passes}
 use Rattle.text.specs.Tree.{Name, spells, Method, Program, main_first, method_at, method_of, number_of}
-use Rattle.text.specs.Translation.{Instruction, instruction, code_words, row_words, method_code, program_table}
-use Rattle.text.specs.Limits.{code_kept}
+use Rattle.text.specs.Translation.{Instruction, code_words, method_code}
 use Rattle.text.proofs.Apart.{Apart, Unlike}
 use Rattle.text.proofs.Order.{all-method}
-use Rattle.text.proofs.Elements.{nth, nth-there}
+use Rattle.text.proofs.Elements.{nth}
 use Rattle.text.proofs.Words.{method-within, row_words-length, code_at}
-use Rattle.text_parse.specs.Tokens.{Token}
 use Rattle.text_scan.proofs.Methods.{first_named, first_of}
-use Rattle.text_judge.specs.RowsCode.{Subject, calls, op_in, arg_in, row_in, judged, subject_of}
+use Rattle.text_judge.specs.RowsCode.{calls, op_in, arg_in, row_in, judged, subject_of}
 use Rattle.text_judge.specs.JudgeCode.{subject_in}
 use Rattle.text_judge.specs.declared.instruction.Counts.{Counts}
 use Rattle.text_judge.proofs.Judgement.{code-judged}
-use Rattle.text_rows.specs.Header.{as_word, header_words}
+use Rattle.text_rows.specs.Header.{as_word}
 use Rattle.text_rows.proofs.NotedLaws.{word_small}
 use Rattle.text_numbering.specs.CodeBy.{place_of}
 use Rattle.text_code.specs.StatementBy.{method_by}

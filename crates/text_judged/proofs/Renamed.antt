@@ -3,16 +3,15 @@ use Prim.Native.Nat.{ℕ, zero, suc, ◌+◌, ◌≤◌, ◌<◌}
 use native.Mathlib.Omega.{arith}
 use mathlib.Core.Logic.{⊎_elim}
 use mathlib.Core.Path.{◌≡◌, refl, sym, ap, ap₂, ◌∙◌}
-use mathlib.Core.Bool.{Bool, true, false, cond, ◌&&◌, ◌||◌, not}
-use mathlib.Core.List.{List, []}
+use mathlib.Core.Bool.{Bool, true, false, ◌&&◌, ◌||◌, not}
+use mathlib.Core.List.{List}
 use mathlib.Core.Option.{Option, none, some}
-use lib.ListN.{get_or, length}
+use lib.ListN.{length}
 use lib.Dec.{eqb, ltb}
 use borrow.Author.Tests.{lt-ltb}
 use mir.Facts.{eqb_yes}
 use Rattle.lists.specs.Lists.{any, below}
 use Rattle.lists.proofs.Tests.{never, or_cases, passes}
-use Rattle.table.specs.Table.{length_of}
 use Rattle.table.specs.Ops.{op_of}
 use Rattle.table.proofs.Ops.{ops-opened}
 use Rattle.check_arguments.proofs.Marks.{any_last}

@@ -1,8 +1,7 @@
 -- Every name of a text stands at its place; so do the names that its events have.
 use Prim.Native.Nat.{ℕ, zero, suc, ◌+◌, ◌≤◌, ◌<◌}
 use native.Mathlib.Omega.{arith}
-use mathlib.Core.Path.{◌≡◌, refl, sym, ap, subst, ◌∙◌}
-use mathlib.Core.Bool.{Bool, true, false, cond}
+use mathlib.Core.Path.{◌≡◌, sym, ap, subst, ◌∙◌}
 use mathlib.Core.List.{List, [], ◌∷◌}
 use lib.ListN.{length, drop}
 use lib.Seq.{drop-drop}
@@ -13,7 +12,7 @@ use Rattle.lists.proofs.Tests.{cond_both, cond-each}
 use Rattle.text.specs.Tree.{Name}
 use Rattle.text_parse.specs.Tokens.{Token, is_white, name_of, tokens_from, tokens_of}
 use Rattle.text_parse.specs.Grammar.{first, rest}
-use Rattle.text_tokens.specs.Places.{tokens_at, token_of, tokens_after}
+use Rattle.text_tokens.specs.Places.{tokens_at, tokens_after}
 use Rattle.text_tokens.specs.PlacesCode.{leading, passed, start_at, end_at}
 use Rattle.text_tokens.specs.KindsCode.{kind_of}
 use Rattle.text_tokens.specs.NextCode.{next_at}

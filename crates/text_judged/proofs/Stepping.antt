@@ -1,19 +1,20 @@
 -- The steps of the code: words copied, a method's row found, and the judgement from one call to the next.
-use Prim.Native.Nat.{ℕ, zero, suc, ◌+◌, ◌-◌, ◌*◌, ◌≤◌, ◌<◌}
+use Prim.Native.Nat.{ℕ, ◌+◌, ◌-◌, ◌*◌, ◌≤◌, ◌<◌}
 use native.Mathlib.Omega.{arith}
 use native.Mathlib.Nat.{eq-or-lt_of_le}
 use mathlib.Core.Logic.{⊎_elim}
 use mathlib.Core.Path.{◌≡◌, refl, sym, ap, ap₂, subst, ◌∙◌}
 use mathlib.Core.Bool.{Bool, true, false, cond, ◌&&◌}
-use mathlib.Core.List.{List, []}
-use mathlib.Core.Option.{none, some, none-ne-some, some-injective}
+use mathlib.Core.List.{List}
+use mathlib.Core.Option.{some, none-ne-some, some-injective}
 use lib.ListN.{get_or, length, set, take, drop, length-set, length-take, length-drop}
 use lib.Seq.{slice, get_or-set_same, get_or-set_other, get_or-take}
 use lib.Dec.{leb, ltb}
-use borrow.Author.Tests.{lt-ltb, le-ltb, ltb-true, leb-true, le-leb}
+use borrow.Author.Tests.{lt-ltb, le-ltb, ltb-true}
+use Rattle.std.specs.Prelude as P
 use Rattle.lists.proofs.Tests.{never}
-use Rattle.check_types.specs.PendingCode.{Held}
-use Rattle.text.specs.Tree.{Name, Method, Program, main_first, method_of}
+use Rattle.std.specs.Option.{is_some}
+use Rattle.text.specs.Tree.{Method, Program, main_first, method_of}
 use Rattle.text.specs.Translation.{row_words}
 use Rattle.text_parse.specs.Tokens.{Token, name_of, tokens_of}
 use Rattle.text_parse.specs.Grammar.{read, first, program_of}
@@ -22,15 +23,16 @@ use Rattle.text_tokens.specs.Places.{tokens_at}
 use Rattle.text_tokens.specs.NextCode.{NextToken}
 use Rattle.text_tokens.specs.declared.next.TokenAt.{TokenAt}
 use Rattle.text_scan.proofs.EventsText.{same-tree}
+use Rattle.text_methods.specs.declared.find.MethodAt.{MethodAt}
 use Rattle.text_methods.specs.MethodSays.{MethodSays, stands, absent, MethodOf}
 use Rattle.text_judge.specs.RowsCode.{Subject, IsRow, calls, op_in, arg_in}
 use Rattle.text_judge.specs.JudgeCode.{subject_in, Knows, wanted}
-use Rattle.text_judge.specs.ResumeCode.{IsMethod, InMethod, AtHand, Right, Onward}
+use Rattle.text_judge.specs.ResumeCode.{IsMethod, AtHand, Right, Onward}
 use Rattle.text_judge.specs.declared.instruction.Counts.{Counts}
 use Rattle.text_judge.specs.declared.code.Judgement.{Judgement}
 use Rattle.text_judge.proofs.Judgement.{row-words}
 use Rattle.text_rows.specs.Header.{as_word, header_words}
-use Rattle.text_judged.specs.JudgedCode.{MethodHere, name_at, header_in, called_row, HeaderAt, Numbered, There, CallsIn, Prepared, UpTo}
+use Rattle.text_judged.specs.JudgedCode.{MethodHere, name_at, header_in, called_row, HeaderAt, Numbered, There, Prepared, UpTo}
 use Rattle.text_judged.proofs.Headers.{header_row}
 use Rattle.text_judged.proofs.Kept.{call-there}
 
@@ -105,24 +107,33 @@ method-words text code own words n h e = record {
 
 -- The row of a method that is called
 
-pub header_at : (text : List ℕ) (place : ℕ) (t : TokenAt) → NextToken text place t → (found : Bool) (index at params :
-    ℕ)
-    → MethodOf text (slice t.start t.end text) found index at params → (row : List ℕ)
-    → ((m : Method) (us : List Token) → method_from (tokens_at text at) ≡ read m us → row ≡ header_words m)
+pub header_at : (text : List ℕ) (place : ℕ) (t : TokenAt) → NextToken text place t → (a : MethodAt)
+    → MethodOf text (slice t.start t.end text) (P.Some a) → (row : List ℕ)
+    → ((m : Method) (us : List Token) → method_from (tokens_at text a.at) ≡ read m us → row ≡ header_words m)
     → HeaderAt text place row
 unfolding name_at
-header_at text place t h found index at params says row reads ns us m e f = by (says ns us t.start e)
+header_at text place t h a says row reads ns us m e f = by (says ns us t.start e)
   where
     named : name_of (first (tokens_at text place)) ≡ record { spelling = slice t.start t.end text; at = t.start }
     named = ap (λ ts. name_of (first ts)) h.reads
 
-    by : MethodSays text ns (record { spelling = slice t.start t.end text; at = t.start }) found index at params
+    by : MethodSays text ns (record { spelling = slice t.start t.end text; at = t.start }) (P.Some a)
         → row ≡ header_words m
-    by (stands k vs g q r p i) =
+    by (stands k vs q r p i) =
         reads k vs r
         ∙ ap header_words (some-injective k m (sym q ∙ ap (method_of (main_first ns)) (sym named) ∙ f))
-    by (absent g q i) =
-        absurd (none-ne-some m (sym q ∙ ap (method_of (main_first ns)) (sym named) ∙ f))
+
+-- no method has the name, and nothing is asked
+pub no-header : (text : List ℕ) (place : ℕ) (t : TokenAt) → NextToken text place t
+    → MethodOf text (slice t.start t.end text) P.None → (row : List ℕ) → HeaderAt text place row
+unfolding name_at
+no-header text place t h says row ns us m e f = by (says ns us t.start e)
+  where
+    named : name_of (first (tokens_at text place)) ≡ record { spelling = slice t.start t.end text; at = t.start }
+    named = ap (λ ts. name_of (first ts)) h.reads
+
+    by : MethodSays text ns (record { spelling = slice t.start t.end text; at = t.start }) P.None → row ≡ header_words m
+    by (absent q) = absurd (none-ne-some m (sym q ∙ ap (method_of (main_first ns)) (sym named) ∙ f))
 
 -- From call to call
 
@@ -140,19 +151,18 @@ wanted-calls words n i e = by (calls (op_in words i)) e
     by true q = refl
     by false q = never q
 
-module _ (text code words own targets : List ℕ) (n : Counts) (p : Prepared text code words own targets n) where
+module _ (text code words own : List ℕ) (n : Counts) (p : Prepared text code words n) where
   pub up-to-call : (rows : List ℕ) (b r : Judgement) → ((s : Subject) → Right s b) → Onward words own rows n b r
       → UpTo text code words own n r
   up-to-call rows b r begins on = record {
     within = on.within;
-    held = on.held;
     stops = on.stops;
     right = λ ns us e. on.right _ (knows _ rows n p.known) (begins _);
   }
 
-  module _ (j : Judgement) (u : UpTo text code words own n j) (l : j.at < n.long) (few : j.pending.count ≤ 8) where
+  module _ (j : Judgement) (u : UpTo text code words own n j) (l : j.at < n.long) (going : is_some j.pending ≡ true) where
     here : calls (op_in code j.at) ≡ true
-    here = call-there code words n.long j.at p.numbered l (wanted-calls words n j.at (u.stops l few))
+    here = call-there code words n.long j.at p.numbered l (wanted-calls words n j.at (u.stops l going))
 
     pub call-place : get_or code (2 * j.at + 1) 0 ≤ length text
     unfolding arg_in
@@ -190,7 +200,6 @@ module _ (text code words own targets : List ℕ) (n : Counts) (p : Prepared tex
     past_one row rows h c r next on_call on = (
       record {
         within = on.within;
-        held = on.held;
         stops = on.stops;
         right = λ ns us e. on.right _ (knows _ rows n p.known)
             (on_call _ (row_here row h ns us e) (u.right ns us e));
@@ -199,13 +208,12 @@ module _ (text code words own targets : List ℕ) (n : Counts) (p : Prepared tex
     )
 
 -- the test of the loop
-pub both-tests : (a m c : ℕ) → (ltb a m && leb c 8) ≡ true → (a < m) × (c ≤ 8)
-both-tests a m c e = by (ltb a m) (leb c 8) refl refl e
+pub both-tests : (a m : ℕ) (b : Bool) → (ltb a m && b) ≡ true → (a < m) × (b ≡ true)
+both-tests a m b e = by (ltb a m) refl e
   where
-    by : (x y : Bool) → ltb a m ≡ x → leb c 8 ≡ y → (x && y) ≡ true → (a < m) × (c ≤ 8)
-    by true true p q t = (ltb-true a m p, leb-true c 8 q)
-    by true false p q t = never t
-    by false y p q t = never t
+    by : (x : Bool) → ltb a m ≡ x → (x && b) ≡ true → (a < m) × (b ≡ true)
+    by true p t = (ltb-true a m p, t)
+    by false p t = never t
 
-pub not-both : (a m c : ℕ) → (ltb a m && leb c 8) ≡ false → a < m → c ≤ 8 → ⊥
-not-both a m c e l k = never (sym e ∙ ap₂ (λ x y. x && y) (lt-ltb a m l) (le-leb c 8 k))
+pub not-both : (a m : ℕ) (b : Bool) → (ltb a m && b) ≡ false → a < m → b ≡ true → ⊥
+not-both a m b e l k = never (sym e ∙ ap₂ (λ x y. x && y) (lt-ltb a m l) k)

@@ -2,7 +2,7 @@
 -- of its instruction. These definitions follow the code.
 use Rattle.std.specs.Prelude.{ℕ, ◌*◌, ◌≤◌, ◌<◌, ◌≡◌, Bool, true, cond, ◌&&◌, not, List, ltb, get_or, length}
 use Rattle.std.proofs.Math.Option.{Option, none, some}
-use Rattle.check_types.specs.PendingCode.{Held}
+use Rattle.std.specs.Option.{is_some}
 use Rattle.text.specs.Tree.{Name, Method, Program, main_first, method_at, method_of, number_of}
 use Rattle.text.specs.Translation.{code_words, row_words, program_table}
 use Rattle.text.specs.Names.{name_refusal}
@@ -12,7 +12,7 @@ use Rattle.text_parse.specs.Grammar.{first, read, program_of}
 use Rattle.text_tokens.specs.Places.{tokens_at}
 use Rattle.text_judge.specs.RowsCode.{calls, op_in, arg_in, no_row}
 use Rattle.text_judge.specs.JudgeCode.{subject_in, wanted}
-use Rattle.text_judge.specs.ResumeCode.{InMethod, Right}
+use Rattle.text_judge.specs.ResumeCode.{Right}
 use Rattle.text_judge.specs.declared.instruction.Counts.{Counts}
 use Rattle.text_judge.specs.declared.code.Judgement.{Judgement}
 use Rattle.text_rows.specs.Header.{as_word, header_words}
@@ -92,9 +92,8 @@ pub record Unmarked (targets : List ℕ) (long : ℕ) : Type 0 where
   pub enough : long ≤ length targets
   pub zeros : (i : ℕ) → i < long → get_or targets i 0 ≡ 0
 
--- all that a method is judged by
-pub record Prepared (text code words own targets : List ℕ) (n : Counts) : Type 0 where
-  pub method : InMethod words own targets n
+-- all that the calls in a method are judged by
+pub record Prepared (text code words : List ℕ) (n : Counts) : Type 0 where
   pub called : CallsIn text code n.long
   pub numbered : Numbered code words n.long
   pub enough : 2 * n.long ≤ length code
@@ -104,7 +103,6 @@ pub record Prepared (text code words own targets : List ℕ) (n : Counts) : Type
 -- judged up to a call, a fault or the end
 pub record UpTo (text code words own : List ℕ) (n : Counts) (j : Judgement) : Type 0 where
   pub within : j.at ≤ n.long
-  pub held : Held j.pending
-  pub stops : j.at < n.long → j.pending.count ≤ 8 → wanted words n j.at ≡ true
+  pub stops : j.at < n.long → is_some j.pending ≡ true → wanted words n j.at ≡ true
   pub right : (ns : Program) (us : List Token) → program_of (tokens_of text) ≡ read ns us
       → Right (subject_in words own n (called_row text (main_first ns) code)) j

@@ -3,7 +3,7 @@ ghost use Rattle.std.specs.Prelude.{◌≤◌, length};
 ghost use Rattle.text_methods.specs.IndexCode.{Indexed};
 ghost use Rattle.text_judged.specs.JudgedCode.{HeaderAt};
 
-use text_methods::index::method_indexed;
+use text_methods::methods::Methods;
 use text_rows::header::header_row;
 use text_tokens::next::next_token;
 
@@ -12,6 +12,12 @@ pub fn callee_row(text: &[u8], methods: &[usize], place: usize) -> [u16; 18]
     ensures { HeaderAt text.now place result }
 {
     let t = next_token(text, place);
-    let m = method_indexed(text, methods, t.start, t.end);
-    header_row(text, m.at)
+    let methods = Methods {
+        text,
+        index: methods,
+    };
+    match methods.method_indexed(t.start, t.end) {
+        Some(m) => header_row(text, m.at),
+        None => [0; 18],
+    }
 }

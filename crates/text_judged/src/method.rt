@@ -1,80 +1,56 @@
 // The code of one method judged.
-ghost use Rattle.std.specs.Prelude.{◌≡◌, List, ◌*◌, ◌≤◌, ◌<◌, length};
+ghost use Rattle.std.specs.Prelude.{◌≡◌, true, List, ◌*◌, ◌≤◌, ◌<◌, length};
+ghost use Rattle.std.specs.Option.{is_some};
 ghost use Rattle.text.specs.Tree.{Program, main_first};
 ghost use Rattle.text_parse.specs.Tokens.{Token, tokens_of};
 ghost use Rattle.text_parse.specs.Grammar.{read, program_of};
 ghost use Rattle.text_methods.specs.IndexCode.{Indexed};
 ghost use Rattle.text_judge.specs.RowsCode.{judged};
 ghost use Rattle.text_judge.specs.JudgeCode.{subject_in};
-ghost use Rattle.text_judge.specs.ResumeCode.{IsMethod, InMethod};
+ghost use Rattle.text_judge.specs.ResumeCode.{IsMethod};
 ghost use Rattle.text_judged.specs.JudgedCode.{MethodHere, kept_here, called_row, Numbered, CallsIn, Unmarked, Prepared, UpTo};
 
 use crate::callee::callee_row;
 use crate::words::number_calls;
-use text_judge::code::{Judgement, begin, judge, judge_call};
+use text_judge::code::{Judgement, begin};
 use text_judge::instruction::Counts;
+use text_judge::marked::Marked;
 use text_judge::targets::mark_targets;
 
 // Up to the first call.
-fn to_call(
-    text: &[u8],
-    code: &[usize],
-    words: &[u16],
-    own: &[u16],
-    targets: &[u8],
-    n: Counts,
-) -> Judgement
-    requires { Prepared text.now code.now words.now own.now targets.now n }
-    ensures { UpTo text.now code.now words.now own.now n result }
+fn to_call(text: &[u8], code: &[usize], m: &Marked) -> Judgement
+    requires { Prepared text.now code.now m.now.code.now m.now.n }
+    ensures { UpTo text.now code.now m.now.code.now m.now.own.now m.now.n result }
 {
     let none = [0u16; 18];
-    judge(words, own, &none, targets, n, begin())
+    m.judge(&none, begin())
 }
 
 // A call, and on to the next one.
-fn past_call(
-    text: &[u8],
-    methods: &[usize],
-    code: &[usize],
-    words: &[u16],
-    own: &[u16],
-    targets: &[u8],
-    n: Counts,
-    j: Judgement,
-) -> Judgement
-    requires { Prepared text.now code.now words.now own.now targets.now n
-        × UpTo text.now code.now words.now own.now n j × (j.at < n.long) × (j.pending.count ≤ 8)
-        × Indexed text.now methods.now }
-    ensures { UpTo text.now code.now words.now own.now n result × (j.at < result.at) }
+fn past_call(text: &[u8], methods: &[usize], code: &[usize], m: &Marked, j: Judgement) -> Judgement
+    requires { Prepared text.now code.now m.now.code.now m.now.n
+        × UpTo text.now code.now m.now.code.now m.now.own.now m.now.n j × (j.at < m.now.n.long)
+        × (is_some j.pending ≡ true) × Indexed text.now methods.now }
+    ensures { UpTo text.now code.now m.now.code.now m.now.own.now m.now.n result × (j.at < result.at) }
 {
     let row = callee_row(text, methods, code[2 * j.at + 1]);
-    let next = judge_call(words, own, &row, targets, n, j);
+    let next = m.judge_call(&row, j);
     let none = [0u16; 18];
-    judge(words, own, &none, targets, n, next)
+    m.judge(&none, next)
 }
 
 // All of it.
-fn judge_all(
-    text: &[u8],
-    methods: &[usize],
-    code: &[usize],
-    words: &[u16],
-    own: &[u16],
-    targets: &[u8],
-    n: Counts,
-) -> bool
-    requires { Prepared text.now code.now words.now own.now targets.now n
-        × Indexed text.now methods.now }
+fn judge_all(text: &[u8], methods: &[usize], code: &[usize], m: &Marked) -> bool
+    requires { Prepared text.now code.now m.now.code.now m.now.n × Indexed text.now methods.now }
     ensures { (ns : Program) (us : List Token) → program_of (tokens_of text.now) ≡ read ns us
-        → result ≡ judged (subject_in words.now own.now n
+        → result ≡ judged (subject_in m.now.code.now m.now.own.now m.now.n
         (called_row text.now (main_first ns) code.now)) }
 {
-    let mut j = to_call(text, code, words, own, targets, n);
-    while (j.at < n.long) & (j.pending.count <= 8) {
-        let next = past_call(text, methods, code, words, own, targets, n, j);
-        j = next;
+    let mut j = to_call(text, code, m);
+    while (j.at < m.n.long) & j.pending.is_some() {
+        j = past_call(text, methods, code, m, j);
     }
-    j.pending.count <= 8
+    j.pending.is_some()
 }
 
 // With the targets of its jumps.
@@ -95,7 +71,13 @@ fn judge_words(
         (called_row text.now (main_first ns) code.now)) }
 {
     mark_targets(words, n.long, targets);
-    judge_all(text, methods, code, words, own, targets, n)
+    let m = Marked {
+        code: words,
+        own,
+        targets,
+        n,
+    };
+    judge_all(text, methods, code, &m)
 }
 
 // With lent room for the code as words and for the marks.
@@ -114,7 +96,7 @@ fn kept_with(
         → result ≡ kept_here h }
 {
     let n = Counts {
-        long: long,
+        long,
         methods: 4096,
         known: 0,
     };

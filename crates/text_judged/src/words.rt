@@ -30,10 +30,8 @@ pub fn number_calls(code: &[usize], long: usize, words: &mut [u16])
     requires { (2 * long ≤ length code.now) × (2 * long ≤ length words.old) × (long ≤ 4096) }
     ensures { Numbered code.now words.new long }
 {
-    let mut i = 0;
-    while i < long {
+    for i in 0..long {
         words[2 * i] = as_word(code[2 * i]);
         words[2 * i + 1] = argument_word(code[2 * i], code[2 * i + 1], i);
-        i += 1;
     }
 }

@@ -26,7 +26,7 @@ use Rattle.text_code.proofs.Numbered.{method-numbered}
 use Rattle.text_judged.proofs.Alike.{length-alike}
 use Rattle.text_judged.proofs.Callees.{Callee, text-alike}
 use Rattle.text_emit_method.specs.MethodCode.{NameAt, TooLarge, MethodWritten, MethodEmits, emitted, too_large}
-use Rattle.text_limits.specs.LimitsCode.{MethodThere, is_within, Emitted, Answered}
+use Rattle.text_limits.specs.LimitsCode.{MethodThere, is_within, Emitted, Within, Over}
 use Rattle.text_limits.proofs.Within.{and-off, off-and}
 
 -- the words that are put from the first on
@@ -108,31 +108,35 @@ module _ (text : List ℕ) (at index : ℕ) (h : MethodThere text at index) (ok 
 
   -- where emission stops
   pub refused : Emits (method_from (tokens_at text at)) → ok ≡ false
-      → Answered text at index h before total false next start long row
+      → Over text at index h before total start
   refused e f = by (subst Emits h.here e)
     where
-      by : Emits (read m h.after) → Answered text at index h before total false next start long row
+      by : Emits (read m h.after) → Over text at index h before total start
       by (emitted n o w) = never (sym f ∙ o)
-      by (too_large n o w) = record {
-        place = n.place;
-        answer = sym (large w);
-        after = λ t. never t;
-        own_row = λ t. never t;
-        counted = λ t. never t;
-      }
+      by (too_large n o w) = record { place = n.place; answer = sym (large w) }
 
   -- where it goes on
-  pub answered : Emits (method_from (tokens_at text at)) → ok ≡ true → (r : Bool)
+  pub goes-on : Emits (method_from (tokens_at text at)) → ok ≡ true
       → ((x : Emitted text code' row start end long)
-      → r ≡ is_within before total (main_first x.named.program) x.method)
-      → Answered text at index h before total r next start long row
+      → true ≡ is_within before total (main_first x.named.program) x.method)
+      → Within text at index h before total next long row
   unfolding is-emitted
-  answered e t r q =
+  goes-on e t q =
       let (n, w) = written e t in
       record {
-        place = (written e t).0.place;
         answer = q (is-emitted e t);
-        after = λ u. w.left;
-        own_row = λ u. w.own;
-        counted = λ u. w.counted ∙ same-long;
+        after = w.left;
+        own_row = w.own;
+        counted = w.counted ∙ same-long;
       }
+
+  -- the place of the name
+  pub named-at : Emits (method_from (tokens_at text at)) → ok ≡ true → start ≡ h.method.name.at
+  named-at e t = (written e t).0.place
+
+  pub stops : Emits (method_from (tokens_at text at)) → ok ≡ true
+      → ((x : Emitted text code' row start end long)
+      → false ≡ is_within before total (main_first x.named.program) x.method)
+      → Over text at index h before total start
+  unfolding is-emitted
+  stops e t q = record { place = (written e t).0.place; answer = q (is-emitted e t) }

@@ -12,6 +12,7 @@ use lib.ListN.{get_or, length, set, take, drop}
 use lib.Seq.{slice, length-take-le, take_all, take-take, take_at, drop_at, take-paste}
 use lib.Seq.{get_or-drop, get_or-set_same, get_or-set_other}
 use borrow.Author.Tests.{leb-true}
+use Rattle.std.specs.Prelude.{Ok, Err}
 use Rattle.lists.proofs.Tests.{never}
 use Rattle.text.specs.Tree.{Method, Program, main_first, method_at}
 use Rattle.text.specs.Translation.{method_code, row_words}
@@ -20,7 +21,8 @@ use Rattle.text.proofs.Words.{row_words-length, method-within}
 use Rattle.text_judge.specs.RowsCode.{copied}
 use Rattle.text_put.specs.TableCode.{row_in}
 use Rattle.text_code.specs.KeptCode.{CodeOf, offset_in, CodeKept}
-use Rattle.text_limits.specs.LimitsCode.{WellNamed, MethodThere, Answered}
+use Rattle.text_limits.specs.LimitsCode.{WellNamed, MethodThere, Within, Over}
+use Rattle.text_limits.specs.declared.method.LimitPassed.{LimitPassed}
 use Rattle.text_limits.specs.MeasuresCode.{Judgement, Progress, LimitsSay, within, passed}
 use Rattle.text_limits.proofs.Onward.{begins, all-within, next-there, goes_on, passed-there}
 use Rattle.text_limits.proofs.Keeping.{word-before, word-here, offset-on, codes-on}
@@ -62,8 +64,8 @@ at_first text w lengths rows kept = record {
 }
 
 -- With the method that stands there no limit is passed
-module _ (text : List ℕ) (at k total : ℕ) (h : MethodThere text at k) (ok : Bool) (next start long : ℕ) (row : List ℕ)
-    (a : Answered text at k h k total ok next start long row) (t : ok ≡ true) where
+module _ {text : List ℕ} {at k total : ℕ} {h : MethodThere text at k} {next long : ℕ} {row : List ℕ}
+    (a : Within text at k h k total next long row) where
   abbrev fits : Bool
   fits = leb (total + length (method_code (main_first h.named.program) h.method)) 4096
 
@@ -73,37 +75,25 @@ module _ (text : List ℕ) (at k total : ℕ) (h : MethodThere text at k) (ok : 
   -- it is one of the first 32, and its instructions are among the first 4,096
   pub few : (k < 32) × (total + long ≤ 4096)
   few =
-      let all = sym t ∙ a.answer in
-      let count = leb-true (suc k) 32 (both_left (leb (suc k) 32) (fits && keeps) all) in
+      let count = leb-true (suc k) 32 (both_left (leb (suc k) 32) (fits && keeps) a.answer) in
       let sum = leb-true (total + length (method_code (main_first h.named.program) h.method)) 4096
-      (both_left fits keeps (both_right (leb (suc k) 32) (fits && keeps) all)) in
-      (omega (arith, count), omega (arith, sum, a.counted t))
+      (both_left fits keeps (both_right (leb (suc k) 32) (fits && keeps) a.answer)) in
+      (omega (arith, count), omega (arith, sum, a.counted))
 
   pub row-long : length row ≡ 18
-  row-long = ap length (a.own_row t) ∙ row_words-length h.method
+  row-long = ap length a.own_row ∙ row_words-length h.method
 
--- What is answered of a method, with what is kept of it
-module _ (text : List ℕ) (at k total : ℕ) (h : MethodThere text at k) (ok : Bool) (next start long : ℕ)
-    (row lengths rows kept ls rs ks : List ℕ) (a : Answered text at k h k total ok next start long row) where
-  pub none_kept : ok ≡ false → ks ≡ kept
-      → Judgement text at k h total ok next start long lengths rows kept ls rs ks
-  none_kept f e = record {
-    own = row;
-    answered = a;
-    measured = λ t. never (sym f ∙ t);
-    codes = λ t. never (sym f ∙ t);
-    earlier = λ j q. ap (λ xs. get_or xs j 0) e;
-  }
-
-  pub all-kept : (code : List ℕ) → CodeOf (main_first h.named.program) h.method code long
+  -- what is kept of it
+  pub all-kept : {lengths rows kept ls rs ks : List ℕ} (code : List ℕ)
+      → CodeOf (main_first h.named.program) h.method code long
       → 2 * total + 2 * long ≤ length kept → 2 * long ≤ length code → ls ≡ set lengths k long
       → rs ≡ copied rows (18 * k) row 18 → ks ≡ copied kept (2 * total) code (2 * long)
-      → Judgement text at k h total ok next start long lengths rows kept ls rs ks
-  all-kept code c x y e f g = record {
+      → Judgement text at k h total next long lengths rows kept ls rs ks
+  all-kept {kept = kept} {ks = ks} code c x y e f g = record {
     own = row;
-    answered = a;
-    measured = λ t. (e, f);
-    codes = λ t j q. get_or-drop (2 * total) ks j 0 ∙ ap (λ xs. get_or xs (2 * total + j) 0) g
+    within = a;
+    measured = (e, f);
+    codes = λ j q. get_or-drop (2 * total) ks j 0 ∙ ap (λ xs. get_or xs (2 * total + j) 0) g
         ∙ word-here kept (2 * total) code (2 * long) x y j q ∙ c j q;
     earlier = λ j q. ap (λ xs. get_or xs j 0) g ∙ word-before kept (2 * total) code (2 * long) x y j q;
   }
@@ -121,39 +111,38 @@ module _ (text : List ℕ) (w : WellNamed text) (at k total : ℕ) (lengths rows
   here = next-there text w at k total p.reached l
 
   -- no limit is passed with it
-  pub onward : (ok : Bool) (next start long : ℕ) (ls rs ks : List ℕ)
-      → Judgement text at k here total ok next start long lengths rows kept ls rs ks → ok ≡ true → 32 ≤ length lengths
+  pub onward : (next long : ℕ) (ls rs ks : List ℕ)
+      → Judgement text at k here total next long lengths rows kept ls rs ks → 32 ≤ length lengths
       → 576 ≤ length rows → Progress text ns next (k + 1) (total + long) ls rs ks
   unfolding here next-there
-  onward ok next start long ls rs ks j t x y = record {
-    reached = goes_on text at k total here next start long row p.reached
-        (subst (λ b. Answered text at k here k total b next start long row) t a) l;
+  onward next long ls rs ks j x y = record {
+    reached = goes_on text at k total here p.reached a l;
     offset = offset-on ns k total long lengths kept ks p.codes p.offset wide_enough j.earlier
-        ∙ ap (λ xs. offset_in xs (k + 1)) (sym (j.measured t).0);
-    codes = subst (λ xs. CodeKept ns (k + 1) xs ks) (sym (j.measured t).0) (
+        ∙ ap (λ xs. offset_in xs (k + 1)) (sym j.measured.0);
+    codes = subst (λ xs. CodeKept ns (k + 1) xs ks) (sym j.measured.0) (
         codes-on ns k total long lengths kept ks p.codes p.offset wide_enough j.earlier
-        (λ m e. subst (λ n. CodeOf ms n (drop (2 * total) ks) long) (own m e) (j.codes t)));
-    long = λ i m q e. ap (λ xs. get_or xs i 0) (j.measured t).0 ∙ longs i m (before i q) e;
-    row = λ i m q e. ap (λ xs. row_in xs i) (j.measured t).1 ∙ its-rows i m (before i q) e;
+        (λ m e. subst (λ n. CodeOf ms n (drop (2 * total) ks) long) (own m e) j.codes));
+    long = λ i m q e. ap (λ xs. get_or xs i 0) j.measured.0 ∙ longs i m (before i q) e;
+    row = λ i m q e. ap (λ xs. row_in xs i) j.measured.1 ∙ its-rows i m (before i q) e;
   }
     where
       row : List ℕ
       row = j.own
 
-      a : Answered text at k here k total ok next start long row
-      a = j.answered
+      a : Within text at k here k total next long row
+      a = j.within
 
       before : (i : ℕ) → i < k + 1 → (i ≡ k) ⊎ (i < k)
       before i q = eq-or-lt_of_le (omega arith)
 
       small : k < 32
-      small = (few text at k total here ok next start long row a t).0
+      small = (few a).0
 
       wide_enough : k < length lengths
       wide_enough = omega (arith, small, x)
 
       wide : length row ≡ 18
-      wide = row-long text at k total here ok next start long row a t
+      wide = row-long a
 
       own : (m : Method) → method_at ns k ≡ some m → here.method ≡ m
       own m e = some-injective here.method m (sym here.there ∙ e)
@@ -163,7 +152,7 @@ module _ (text : List ℕ) (w : WellNamed text) (at k total : ℕ) (lengths rows
       longs i m (inr q) e = get_or-set_other lengths k i long 0 (λ o. absurd (omega (arith, o))) ∙ p.long i m q e
       longs i m (inl q) e =
           ap (λ n. get_or (set lengths k long) n 0) q ∙ get_or-set_same lengths k long 0 (omega (arith, small))
-          ∙ a.counted t ∙ ap (λ n. length (method_code ms n)) (own m (ap (method_at ns) (sym q) ∙ e))
+          ∙ a.counted ∙ ap (λ n. length (method_code ms n)) (own m (ap (method_at ns) (sym q) ∙ e))
 
       its-rows : (i : ℕ) (m : Method) → (i ≡ k) ⊎ (i < k) → method_at ns i ≡ some m
           → row_in (copied rows (18 * k) row 18) i ≡ row_words m
@@ -172,29 +161,20 @@ module _ (text : List ℕ) (w : WellNamed text) (at k total : ℕ) (lengths rows
           ∙ p.row i m q e
       its-rows i m (inl q) e =
           ap (row_in (copied rows (18 * k) row 18)) q ∙ row_here rows (18 * k) row (omega (arith, small)) wide
-          ∙ a.own_row t ∙ ap row_words (own m (ap (method_at ns) (sym q) ∙ e))
-
-  pub bounded : (ok : Bool) (next start long : ℕ) (ls rs ks : List ℕ)
-      → Judgement text at k here total ok next start long lengths rows kept ls rs ks → ok ≡ true
-      → (k < 32) × (total + long ≤ 4096)
-  bounded ok next start long ls rs ks j t = few text at k total here ok next start long j.own j.answered t
+          ∙ a.own_row ∙ ap row_words (own m (ap (method_at ns) (sym q) ∙ e))
 
   -- a limit is passed with it
-  pub stops : (ok : Bool) (next start long : ℕ) (ls rs ks : List ℕ)
-      → Judgement text at k here total ok next start long lengths rows kept ls rs ks → ok ≡ false
-      → (methods instructions : ℕ) → LimitsSay ns false start methods instructions ls rs ks
+  pub stops : {e : LimitPassed} {ls rs ks : List ℕ} → Over text at k here k total e.at → LimitsSay ns (Err e) ls rs ks
   unfolding here next-there
-  stops ok next start long ls rs ks j f methods instructions =
-      passed refl (passed-there text at k total here next start long j.own p.reached
-      (subst (λ b. Answered text at k here k total b next start long j.own) f j.answered) l)
+  stops o = passed (passed-there text at k total here p.reached o l)
 
 -- all methods are judged
 pub at_last : (text : List ℕ) (ns : Program) (at k total : ℕ) (lengths rows kept : List ℕ)
     → Progress text ns at k total lengths rows kept → length ns ≤ k → k ≤ 32 → total ≤ 4096
-    → LimitsSay ns true at k total lengths rows kept
+    → LimitsSay ns (Ok (record { methods = k; instructions = total })) lengths rows kept
 at_last text ns at k total lengths rows kept p l x y =
     let (none_over, count, sum) = all-within text ns at k total p.reached l in
-    within refl none_over x y (record {
+    within none_over x y (record {
       count = count;
       total = sum;
       long = λ i m e. p.long i m (omega (arith, method-within ns i m e)) e;

@@ -16,7 +16,7 @@ use Rattle.text_tokens.specs.Places.{tokens_at}
 use Rattle.text_tokens.proofs.Tokenwise.{tokens-at-start}
 use Rattle.text_scan.specs.Standing.{Stand, stand}
 use Rattle.text_scan.proofs.EventsText.{text-events, same-tree, same_left}
-use Rattle.text_limits.specs.LimitsCode.{WellNamed, MethodThere, is_within, Answered, LimitsUpTo}
+use Rattle.text_limits.specs.LimitsCode.{WellNamed, MethodThere, is_within, Within, Over, LimitsUpTo}
 
 pub begins : (text : List ℕ) (ns : Program) (us : List Token) → program_of (tokens_of text) ≡ read ns us
     → LimitsUpTo text ns 0 0 0
@@ -64,7 +64,7 @@ next-there text w at k total r l =
         (m, us, e, ap (method_at w.program) {x = k} {y = k + 0} (omega arith) ∙ f)
 
 -- The method that stands there is judged
-module _ (text : List ℕ) (at k total : ℕ) (h : MethodThere text at k) (next start long : ℕ) (row : List ℕ)
+module _ (text : List ℕ) (at k total : ℕ) (h : MethodThere text at k)
     (r : LimitsUpTo text h.named.program at k total) where
   abbrev ns : Program
   ns = h.named.program
@@ -80,10 +80,10 @@ module _ (text : List ℕ) (at k total : ℕ) (h : MethodThere text at k) (next 
       ap (λ c. cond c (first_over ms (suc k) (total + length (method_code ms m)) rest) (some m.name)) e
 
   -- no limit is passed with it
-  pub goes_on : Answered text at k h k total true next start long row → k < length ns
+  pub goes_on : {next long : ℕ} {row : List ℕ} → Within text at k h k total next long row → k < length ns
       → LimitsUpTo text ns next (k + 1) (total + long)
   unfolding method_at program_code
-  goes_on a l = by r.rest r.ends r.stands r.further r.counted r.same r.sum
+  goes_on {next} {long} a l = by r.rest r.ends r.stands r.further r.counted r.same r.sum
     where
       by : (rest : Program) (ends : List (List Token)) → Stand (tokens_at text at) rest ends
           → ((i : ℕ) → method_at ns (k + i) ≡ method_at rest i) → k + length rest ≡ length ns
@@ -96,11 +96,11 @@ module _ (text : List ℕ) (at k total : ℕ) (h : MethodThere text at k) (next 
           let same : m ≡ h.method = same-tree m h.method us h.after (sym e ∙ h.here) in
           let left : us ≡ h.after = same_left m h.method us h.after (sym e ∙ h.here) in
           let counted : long ≡ length (method_code ms m) =
-          a.counted refl ∙ ap (λ n. length (method_code ms n)) (sym same) in
+          a.counted ∙ ap (λ n. length (method_code ms n)) (sym same) in
           record {
             rest = rest;
             ends = ends;
-            stands = subst (λ ts. Stand ts rest ends) (left ∙ a.after refl) s;
+            stands = subst (λ ts. Stand ts rest ends) (left ∙ a.after) s;
             further = λ i. ap (method_at ns) {x = k + 1 + i} {y = k + suc i} (omega arith) ∙ f (suc i);
             counted = omega (arith, c);
             same = q ∙ over-cases m rest true (ap (is_within k total ms) same ∙ sym a.answer)
@@ -110,14 +110,14 @@ module _ (text : List ℕ) (at k total : ℕ) (h : MethodThere text at k) (next 
           }
 
   -- a limit is passed with it, and with none before
-  pub passed-there : Answered text at k h k total false next start long row → k < length ns
-      → limit_refusal ns ≡ some start
+  pub passed-there : {place : ℕ} → Over text at k h k total place → k < length ns
+      → limit_refusal ns ≡ some place
   unfolding limit_refusal
-  passed-there a l = by r.rest r.ends r.stands r.counted r.same
+  passed-there {place} a l = by r.rest r.ends r.stands r.counted r.same
     where
       by : (rest : Program) (ends : List (List Token)) → Stand (tokens_at text at) rest ends
           → k + length rest ≡ length ns → first_over ms 0 0 ns ≡ first_over ms k total rest
-          → place_of (first_over ms 0 0 ns) ≡ some start
+          → place_of (first_over ms 0 0 ns) ≡ some place
       by [] ends s c q = absurd (omega (arith, c))
       by (m ∷ rest) [] s c q = elim s [ ]
       by (m ∷ rest) (us ∷ ends) (stand e s) c q =

@@ -1,6 +1,6 @@
 -- What is known of a text's methods while their limits are judged, one after the other. These definitions follow the
 -- code.
-use Rattle.std.specs.Prelude.{ℕ, suc, ◌+◌, ◌*◌, ◌≤◌, ◌<◌, ◌≡◌, Bool, true, ◌&&◌, List, leb, get_or, length}
+use Rattle.std.specs.Prelude.{ℕ, suc, ◌+◌, ◌*◌, ◌≤◌, ◌<◌, ◌≡◌, Bool, true, false, ◌&&◌, List, leb, get_or, length}
 use Rattle.std.proofs.Math.Option.{none, some}
 use Rattle.lists.specs.Lists.{every}
 use Rattle.text.specs.Tree.{Method, Program, main_first, method_at}
@@ -52,14 +52,18 @@ pub record Emitted (text code row : List ℕ) (start end long : ℕ) : Type 0 wh
   pub words : (i : ℕ) → i < 2 * long
       → get_or code i 0 ≡ get_or (code_words (method_by place_of (main_first named.program) method)) i 0
 
--- what is answered of it
-pub record Answered (text : List ℕ) (at index : ℕ) (h : MethodThere text at index) (before total : ℕ) (ok : Bool)
-    (next start long : ℕ) (row : List ℕ) : Type 0 where
+-- no limit is passed with it: its instructions are counted, its row is written, and the others stand after it
+pub record Within (text : List ℕ) (at index : ℕ) (h : MethodThere text at index) (before total next long : ℕ)
+    (row : List ℕ) : Type 0 where
+  pub answer : true ≡ is_within before total (main_first h.named.program) h.method
+  pub after : h.after ≡ tokens_at text next
+  pub own_row : row ≡ row_words h.method
+  pub counted : long ≡ length (method_code (main_first h.named.program) h.method)
+
+-- one is passed with it, and this is the place of its name
+pub record Over (text : List ℕ) (at index : ℕ) (h : MethodThere text at index) (before total start : ℕ) : Type 0 where
+  pub answer : false ≡ is_within before total (main_first h.named.program) h.method
   pub place : start ≡ h.method.name.at
-  pub answer : ok ≡ is_within before total (main_first h.named.program) h.method
-  pub after : ok ≡ true → h.after ≡ tokens_at text next
-  pub own_row : ok ≡ true → row ≡ row_words h.method
-  pub counted : ok ≡ true → long ≡ length (method_code (main_first h.named.program) h.method)
 
 -- k methods are judged, which have so many instructions; the others stand from a place on
 pub record LimitsUpTo (text : List ℕ) (ns : Program) (at k total : ℕ) : Type 0 where

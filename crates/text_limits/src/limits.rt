@@ -1,13 +1,12 @@
 // The limits of all methods of a text, one after the other.
-ghost use Rattle.std.specs.Prelude.{◌≡◌, ◌+◌, ◌*◌, ◌<◌, ◌≤◌, length, set};
-ghost use Rattle.text_methods.specs.IndexCode.{Indexed};
+ghost use Rattle.std.specs.Prelude.{◌≡◌, ◌+◌, ◌*◌, ◌<◌, ◌≤◌, length, set, MatchResult};
 ghost use Rattle.text_judge.specs.RowsCode.{copied};
-ghost use Rattle.text_limits.specs.LimitsCode.{WellNamed, MethodThere};
+ghost use Rattle.text_limits.specs.LimitsCode.{WellNamed, MethodThere, Over};
 ghost use Rattle.text_limits.specs.MeasuresCode.{Judgement, LimitsSay};
 
-use crate::method::{Verdict, judge_method};
+use crate::method::{Judged, LimitPassed, judge_method};
 use text_judge::rows::put_row;
-use text_methods::index::method_count;
+use text_methods::methods::Methods;
 
 // The length and the row of method k, kept for when the table is written.
 fn keep(lengths: &mut [u16], rows: &mut [u16], k: usize, long: usize, row: &[u16])
@@ -25,17 +24,12 @@ fn keep_code(kept: &mut [usize], at: usize, code: &[usize], n: usize)
     requires { (at + n ≤ length kept.old) × (n ≤ length code.now) }
     ensures { kept.new ≡ copied kept.old at code.now n }
 {
-    let mut i = 0;
-    while i < n {
-        kept[at + i] = code[i];
-        i += 1;
-    }
+    kept[at..at + n].copy_from_slice(&code[..n]);
 }
 
 // The next method: where no limit is passed with it, its length, its row and its code are kept.
 fn judge_next(
-    text: &[u8],
-    methods: &[usize],
+    methods: &Methods<'_>,
     at: usize,
     k: usize,
     total: usize,
@@ -44,78 +38,56 @@ fn judge_next(
     lengths: &mut [u16],
     rows: &mut [u16],
     kept: &mut [usize],
-) -> Verdict
-    requires { MethodThere text.now at k × (k ≤ 32) × (total ≤ 4096) × (12288 ≤ length pending.old)
-        × (8192 ≤ length code.old) × (32 ≤ length lengths.old) × (576 ≤ length rows.old)
-        × (8192 ≤ length kept.old) × Indexed text.now methods.now }
-    ensures { (h : MethodThere text.now at k)
-        → Judgement text.now at k h total result.ok result.at result.start result.long lengths.old
-        rows.old kept.old lengths.new rows.new kept.new }
+) -> Result<Judged, LimitPassed>
+    requires { MethodThere methods.now.text.now at k × (k ≤ 32) × (total ≤ 4096)
+        × (12288 ≤ length pending.old) × (8192 ≤ length code.old) × (32 ≤ length lengths.old)
+        × (576 ≤ length rows.old) × (8192 ≤ length kept.old) }
+    ensures { (h : MethodThere methods.now.text.now at k)
+        → MatchResult result
+        (λ j. Judgement methods.now.text.now at k h total j.at j.long lengths.old
+        rows.old kept.old lengths.new rows.new kept.new)
+        (λ e. Over methods.now.text.now at k h k total e.at) }
 {
     let mut row = [0u16; 18];
     let mut scope = [0usize; 64];
-    let v = judge_method(
-        text, methods, at, k, total, &mut row, &mut scope, pending, code,
-    );
-    if !v.ok {
-        return v;
-    }
-    keep(lengths, rows, k, v.long, &row);
-    keep_code(kept, 2 * total, code, 2 * v.long);
-    v
+    let judged = judge_method(methods, at, k, total, &mut row, &mut scope, pending, code)?;
+    keep(lengths, rows, k, judged.long, &row);
+    keep_code(kept, 2 * total, code, 2 * judged.long);
+    Ok(judged)
 }
 
-// Whether no limit is passed, and how many methods and instructions there are; else the place of the name of the first
-// method with which one is passed.
-#[derive(Drop)]
-pub struct LimitsAt {
-    pub ok: bool,
-    pub at: usize,
+// How many methods and instructions a text has.
+#[derive(Clone, Copy)]
+pub struct TableSize {
     pub methods: usize,
     pub instructions: usize,
 }
 
-// The methods are judged in text order; `methods` is the index by which the called ones are found.
+// The methods are judged in text order: where no limit is passed with any of them, their lengths, their rows and their
+// code are kept; else the first with which one is passed is answered.
 pub fn limits(
-    text: &[u8],
-    methods: &[usize],
+    methods: &Methods<'_>,
     pending: &mut [usize],
     code: &mut [usize],
     lengths: &mut [u16],
     rows: &mut [u16],
     kept: &mut [usize],
-) -> LimitsAt
-    requires { WellNamed text.now × (12288 ≤ length pending.old) × (8192 ≤ length code.old)
-        × (32 ≤ length lengths.old) × (576 ≤ length rows.old) × (8192 ≤ length kept.old)
-        × Indexed text.now methods.now }
-    ensures { (w : WellNamed text.now)
-        → LimitsSay w.program result.ok result.at result.methods result.instructions lengths.new
-        rows.new kept.new }
+) -> Result<TableSize, LimitPassed>
+    requires { WellNamed methods.now.text.now × (12288 ≤ length pending.old) × (8192 ≤ length code.old)
+        × (32 ≤ length lengths.old) × (576 ≤ length rows.old) × (8192 ≤ length kept.old) }
+    ensures { (w : WellNamed methods.now.text.now)
+        → LimitsSay w.program result lengths.new rows.new kept.new }
 {
-    let n = method_count(text, methods);
+    let count = methods.method_count();
     let mut at = 0;
-    let mut k = 0;
     let mut total = 0;
-    while k < n {
-        let v = judge_next(
-            text, methods, at, k, total, pending, code, lengths, rows, kept,
-        );
-        if !v.ok {
-            return LimitsAt {
-                ok: false,
-                at: v.start,
-                methods: k,
-                instructions: total,
-            };
-        }
-        at = v.at;
-        total += v.long;
-        k += 1;
+    for k in 0..count {
+        let judged = judge_next(methods, at, k, total, pending, code, lengths, rows, kept)?;
+        at = judged.at;
+        total += judged.long;
     }
-    LimitsAt {
-        ok: true,
-        at: at,
-        methods: k,
+    Ok(TableSize {
+        methods: count,
         instructions: total,
-    }
+    })
 }

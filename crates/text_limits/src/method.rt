@@ -1,14 +1,14 @@
 // The limits of one method.
-ghost use Rattle.std.specs.Prelude.{◌≡◌, true, ◌&&◌, ◌||◌, not, ◌≤◌, eqb, get_or, length};
+ghost use Rattle.std.specs.Prelude.{◌≡◌, ◌&&◌, ◌||◌, not, ◌≤◌, eqb, get_or, length, MatchResult};
 ghost use Rattle.std.proofs.Math.Seq.{slice};
 ghost use Rattle.lists.specs.Lists.{same};
 ghost use Rattle.text.specs.Tree.{ascii, main_first};
-ghost use Rattle.text_methods.specs.IndexCode.{Indexed};
 ghost use Rattle.text_code.specs.KeptCode.{CodeOf};
-ghost use Rattle.text_limits.specs.LimitsCode.{MethodThere, is_within, Emitted, Answered};
+ghost use Rattle.text_limits.specs.LimitsCode.{MethodThere, is_within, Emitted, Within, Over};
 
 use text_emit_method::method::{MethodAt, emit_method};
 use text_judged::method::method_kept;
+use text_methods::methods::Methods;
 use text_tokens::bytes::is_word;
 
 // Main has no parameter and no return type.
@@ -23,18 +23,17 @@ fn main_kept(text: &[u8], start: usize, end: usize, row: &[u16]) -> bool
 
 // No limit is passed with the method whose code and row are written.
 fn within_limits(
-    text: &[u8],
-    methods: &[usize],
+    methods: &Methods<'_>,
     code: &[usize],
     row: &[u16],
-    m: MethodAt,
+    m: &MethodAt,
     before: usize,
     total: usize,
 ) -> bool
-    requires { Emitted text.now code.now row.now m.start m.end m.long × (before ≤ 32)
-        × (total ≤ 4096) × Indexed text.now methods.now }
-    ensures { (h : Emitted text.now code.now row.now m.start m.end
-        m.long) → result ≡ is_within before total (main_first h.named.program) h.method }
+    requires { Emitted methods.now.text.now code.now row.now m.now.start m.now.end m.now.long
+        × (before ≤ 32) × (total ≤ 4096) }
+    ensures { (h : Emitted methods.now.text.now code.now row.now m.now.start m.now.end
+        m.now.long) → result ≡ is_within before total (main_first h.named.program) h.method }
 {
     if 32 <= before {
         return false;
@@ -45,26 +44,29 @@ fn within_limits(
     if 8 < row[1] {
         return false;
     }
-    if !main_kept(text, m.start, m.end, row) {
+    if !main_kept(methods.text, m.start, m.end, row) {
         return false;
     }
-    method_kept(text, methods, code, m.long, row)
+    method_kept(methods.text, methods.index, code, m.long, row)
 }
 
-// How a method is judged: whether no limit is passed with it, the place after it, where its name stands, and how many
-// instructions it has.
-#[derive(Drop)]
-pub struct Verdict {
-    pub ok: bool,
+// A limit is passed with the method whose name stands at this place.
+#[derive(Clone, Copy, Debug, PartialEq, Eq)]
+pub struct LimitPassed {
     pub at: usize,
+}
+
+// With a method no limit is passed: the place of its name, the place after it, and how many instructions it has.
+#[derive(Clone, Copy)]
+pub struct Judged {
     pub start: usize,
+    pub at: usize,
     pub long: usize,
 }
 
 // The method that begins at a place, with so many methods and instructions before it.
 pub fn judge_method(
-    text: &[u8],
-    methods: &[usize],
+    methods: &Methods<'_>,
     at: usize,
     before: usize,
     total: usize,
@@ -72,32 +74,28 @@ pub fn judge_method(
     scope: &mut [usize; 64],
     pending: &mut [usize],
     code: &mut [usize],
-) -> Verdict
-    requires { MethodThere text.now at before × (before ≤ 32) × (total ≤ 4096) × (12288 ≤ length pending.old)
-        × (8192 ≤ length code.old) × (length scope.old ≡ 64) × (length row.old ≡ 18)
-        × Indexed text.now methods.now }
-    ensures { (h : MethodThere text.now at before)
-        → Answered text.now at before h before total result.ok result.at result.start result.long
-        row.new
-        × (result.ok ≡ true → CodeOf (main_first h.named.program) h.method code.new result.long) }
+) -> Result<Judged, LimitPassed>
+    requires { MethodThere methods.now.text.now at before × (before ≤ 32) × (total ≤ 4096)
+        × (12288 ≤ length pending.old) × (8192 ≤ length code.old) × (length scope.old ≡ 64)
+        × (length row.old ≡ 18) }
+    ensures { (h : MethodThere methods.now.text.now at before)
+        → MatchResult result
+        (λ j. Within methods.now.text.now at before h before total j.at j.long row.new
+        × CodeOf (main_first h.named.program) h.method code.new j.long
+        × (j.start ≡ h.method.name.at))
+        (λ e. Over methods.now.text.now at before h before total e.at) }
 {
-    let m = emit_method(text, methods, at, row, scope, pending, code);
+    let m = emit_method(methods.text, methods.index, at, row, scope, pending, code);
     if !m.ok {
-        return Verdict {
-            ok: false,
-            at: m.at,
-            start: m.start,
-            long: m.long,
-        };
+        return Err(LimitPassed { at: m.start });
     }
-    let at_end = m.at;
-    let start = m.start;
-    let long = m.long;
-    let ok = within_limits(text, methods, code, row, m, before, total);
-    Verdict {
-        ok: ok,
-        at: at_end,
-        start: start,
-        long: long,
+    if within_limits(methods, code, row, &m, before, total) {
+        Ok(Judged {
+            start: m.start,
+            at: m.at,
+            long: m.long,
+        })
+    } else {
+        Err(LimitPassed { at: m.start })
     }
 }

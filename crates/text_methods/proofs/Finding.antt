@@ -4,8 +4,9 @@ use native.Mathlib.Omega.{arith}
 use mathlib.Core.Path.{◌≡◌, refl, sym, ap, ◌∙◌, subst}
 use mathlib.Core.Bool.{Bool, true, false, cond, ◌&&◌}
 use mathlib.Core.List.{List, [], ◌∷◌}
-use mathlib.Core.Option.{none, some}
+use mathlib.Core.Option.{some}
 use lib.Dec.{eqb, eqb→eq}
+use Rattle.std.specs.Prelude as P
 use lib.Seq.{slice}
 use Rattle.lists.specs.Lists.{same}
 use Rattle.lists.proofs.Tests.{passes, passed, and_left, and_right}
@@ -18,7 +19,7 @@ use Rattle.text_types.specs.SaysCode.{next_kind, Passed}
 use Rattle.text_types.proofs.Answers.{kind-next}
 use Rattle.text_scan.specs.ScanCode.{kind_at, less_one, braces_after, argument_count}
 use Rattle.text_scan.proofs.Methods.{same-comm}
-use Rattle.text_methods.specs.RowsCode.{Row, names_method, ends_method, rows_from, rows_of, row_of, row_index, Agrees, agrees}
+use Rattle.text_methods.specs.RowsCode.{Row, names_method, ends_method, rows_from, rows_of, row_of, row_index, Agrees, agrees, no-row, FirstNamed}
 use Rattle.text_methods.proofs.Ending.{end-alone, passes-token}
 
 pub braces-most : (b k : ℕ) → braces_after b k ≤ b + 1
@@ -185,14 +186,13 @@ module _ (text x : List ℕ) where
   }
 
   module _ (at h b i k : ℕ) (s : SearchSoFar text x at h b i k) where
-    pub search-ends : k ≡ 32 → (row_of x (rows_of text) ≡ none) × (i ≡ row_index x (rows_of text))
-    unfolding row_of row_index
+    pub search-ends : k ≡ 32 → FirstNamed text x P.None
+    unfolding row_of
     search-ends e =
         let last : next_kind text at ≡ 32 = sym s.kind-is ∙ e in
         let over : rows_at text h b at ≡ [] =
         rows_end (tokens_at text h) b (tokens_at text at) last (end-alone text at last) in
-        let index : row_index x (rows_of text) ≡ i + 0 = s.index_is ∙ ap (λ rs. i + row_index x rs) over in
-        (s.row_is ∙ ap (row_of x) over, omega arith)
+        subst (λ o. Agrees text (row_index x (rows_of text)) o P.None) (sym (s.row_is ∙ ap (row_of x) over)) no-row
 
     module _ (f : k ≡ 32 → ⊥) (t u : TokenAt) (n : NextToken text at t) (m : NextToken text t.end u) where
       further : next_kind text at ≡ 32 → ⊥
@@ -213,7 +213,7 @@ module _ (text x : List ℕ) where
         names = sym (e ∙ ap (λ (j : ℕ). names_method b j u.kind) same_kind)
 
         pub search-found : (named && is) ≡ true → (params : ℕ) → params ≡ argument_count (tokens_at text u.end)
-            → (i ≡ row_index x (rows_of text)) × Agrees text (row_of x (rows_of text)) true h params
+            → FirstNamed text x (P.Some (record { index = i; at = h; params = params }))
         unfolding row_of row_index row
         search-found q params p =
             let yes : named ≡ true = passed named (and_left named is (passes q)) in
@@ -224,11 +224,9 @@ module _ (text x : List ℕ) where
             let index : row_index x (rows_at text h b at) ≡ 0 = ap (row_index x) here ∙ rw spelled refl in
             let at_row : row_of x (rows_of text) ≡ some (row text at h b t u n m further) =
             s.row_is ∙ ap (row_of x) here ∙ rw spelled refl in
-            let total : row_index x (rows_of text) ≡ i + row_index x (rows_at text h b at) = s.index_is in (
-              omega arith,
-              subst (λ o. Agrees text o true h params) (sym at_row)
-                  (subst (Agrees text (some (row text at h b t u n m further)) true h) (sym p) (agrees refl)),
-            )
+            let total : row_index x (rows_of text) ≡ i + row_index x (rows_at text h b at) = s.index_is in
+            subst (λ o. Agrees text (row_index x (rows_of text)) o
+            (P.Some (record { index = i; at = h; params = params }))) (sym at_row) (agrees (omega arith) refl p)
 
         pub search-goes : (named && is) ≡ false → (i' h' b' : ℕ) → i' ≡ cond named (suc i) i
             → h' ≡ cond (ends_method b k) t.end h → b' ≡ braces_after b k

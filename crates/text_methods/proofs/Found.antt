@@ -3,18 +3,18 @@ use Prim.Native.Nat.{ℕ, zero, suc}
 use native.Mathlib.Omega.{arith}
 use mathlib.Core.Path.{◌≡◌, refl, sym, ap, ◌∙◌, subst}
 use mathlib.Core.Bool.{Bool, true, false, cond, ◌&&◌}
-use mathlib.Core.List.{List, [], ◌∷◌, map}
-use mathlib.Core.Option.{Option, none, some, none-ne-some}
+use mathlib.Core.List.{List, [], ◌∷◌}
+use mathlib.Core.Option.{Option, none, some}
 use lib.Dec.{eqb, eqb→eq}
+use Rattle.std.specs.Prelude as P
 use lib.ListN.{length}
 use borrow.Author.Tests.{ne_eqb}
 use Rattle.lists.specs.Lists.{same}
-use Rattle.lists.proofs.Tests.{passes, passed, clash, and_left, and_right}
-use Rattle.text.specs.Tree.{Name, spells, Method, Program, number_of, index_of, method_name}
+use Rattle.lists.proofs.Tests.{passes}
+use Rattle.text.specs.Tree.{Name, spells, Method, Program, number_of, index_of}
 use Rattle.text_parse.specs.Tokens.{Token, name_of, tokens_of}
 use Rattle.text_parse.specs.Grammar.{read, rest, program_of}
 use Rattle.text_parse.specs.Equations.{method_from}
-use Rattle.text_tokens.specs.Places.{tokens_at}
 use Rattle.text_tokens.specs.KindsCode.{kind_of}
 use Rattle.text_tokens.proofs.Tokenwise.{tokens-at-start}
 use Rattle.text_scan.specs.Events.{Event, program_events}
@@ -23,7 +23,8 @@ use Rattle.text_scan.specs.FaultsCode.{each_method}
 use Rattle.text_scan.specs.Standing.{Stand, none-stand, stand}
 use Rattle.text_scan.proofs.Methods.{each-method, first_named, first_of}
 use Rattle.text_scan.proofs.EventsText.{text-events}
-use Rattle.text_methods.specs.RowsCode.{Row, names_method, ends_method, rows_from, rows_of, row_of, row_index, Agrees, agrees, no-row}
+use Rattle.text_methods.specs.RowsCode.{Row, ends_method, rows_from, rows_of, row_of, row_index, Agrees, agrees, no-row, FirstNamed}
+use Rattle.text_methods.specs.declared.find.MethodAt.{MethodAt}
 use Rattle.text_methods.specs.MethodSays.{MethodSays, stands, absent}
 
 abbrev pub row_for : List Token → Name → ℕ → Row
@@ -189,35 +190,23 @@ module _ (text : List ℕ) (x : Name) where
       ap (λ (y : Name). cond (same x.spelling y.spelling) 0 (suc (row_index x.spelling rs))) e
       ∙ ap (λ (n : ℕ). cond (spells x m.name) 0 (suc n)) (index_same ms rs l)
 
-  -- where there is none, its number is that of the methods
-  none-index : (ms : Program) → first_named x ms ≡ none → number_of ms x ≡ length ms
-  unfolding first_named number_of index_of
-  none-index [] e = refl
-  none-index (m ∷ ms) e = by (spells x m.name) e (none-index ms)
-    where
-      by : (b : Bool) → cond b (some m) (first_named x ms) ≡ none
-          → (first_named x ms ≡ none → index_of x (map method_name ms) ≡ length ms)
-          → cond b 0 (suc (index_of x (map method_name ms))) ≡ suc (length ms)
-      by true q later = absurd (none-ne-some m (sym q))
-      by false q later = ap suc (later q)
-
-  answers : (ms : Program) (f : Option Method) (o : Option Row) (found : Bool) (index at params : ℕ)
-      → Same f o → Agrees text o found at params → first_named x ms ≡ f → index ≡ number_of ms x
-      → MethodSays text ms x found index at params
-  answers ms none (some r) found index at params h _ e i = elim h [ ]
-  answers ms (some m) none found index at params h _ e i = elim h [ ]
-  answers ms none none found index at params neither no-row e i =
-      absent refl (first_of ms x ∙ e) (i ∙ none-index ms e)
-  answers ms (some m) (some r) found index at params (both us c f) (agrees t) e i =
-      stands m us refl (first_of ms x ∙ e) (ap method_from t ∙ f) c i
+  answers : (ms : Program) (f : Option Method) (o : Option Row) (found : P.Option MethodAt) → Same f o
+      → Agrees text (row_index x.spelling (rows_of text)) o found → first_named x ms ≡ f
+      → row_index x.spelling (rows_of text) ≡ number_of ms x → MethodSays text ms x found
+  answers ms none (some r) found h _ e i = elim h [ ]
+  answers ms (some m) none found h _ e i = elim h [ ]
+  answers ms none none (P.Some a) neither h e i = elim h [ ]
+  answers ms none none P.None neither no-row e i = absent (first_of ms x ∙ e)
+  answers ms (some m) (some r) P.None (both us c f) h e i = elim h [ ]
+  answers ms (some m) (some r) (P.Some a) (both us c f) (agrees k t n) e i =
+      stands m us (first_of ms x ∙ e) (ap method_from t ∙ f) (n ∙ c) (k ∙ i)
 
   pub method-says : (ms : Program) (us : List Token) → program_of (tokens_of text) ≡ read ms us
-      → (found : Bool) (index at params : ℕ) → index ≡ row_index x.spelling (rows_of text)
-      → Agrees text (row_of x.spelling (rows_of text)) found at params → MethodSays text ms x found index at params
-  method-says ms us e found index at params i a =
+      → {found : P.Option MethodAt} → FirstNamed text x.spelling found → MethodSays text ms x found
+  method-says ms us e {found} a =
       let l = text-rows text ms us e in
-      answers ms (first_named x ms) (row_of x.spelling (rows_of text)) found index at params
-      (first-same ms (rows_of text) l) a refl (i ∙ index_same ms (rows_of text) l)
+      answers ms (first_named x ms) (row_of x.spelling (rows_of text)) found (first-same ms (rows_of text) l) a refl
+      (index_same ms (rows_of text) l)
 
 -- there are as many rows as methods
 rows-counted : (ms : Program) (rs : List Row) → RowsFor ms rs → length rs ≡ length ms

@@ -2,16 +2,17 @@
 use Prim.Native.Nat.{ℕ, zero, suc, ◌+◌, ◌-◌, ◌*◌, ◌≤◌, ◌<◌}
 use native.Mathlib.Omega.{arith}
 use mathlib.Core.Path.{◌≡◌, refl, sym, ap, ◌∙◌, subst}
-use mathlib.Core.Bool.{Bool, true, false, cond, ◌&&◌}
+use mathlib.Core.Bool.{Bool, true, false, cond}
 use mathlib.Core.List.{List, [], ◌∷◌}
-use mathlib.Core.Option.{none, some, none-ne-some, some-injective}
-use borrow.Author.Tests.{eqb-true, eqb-false, ltb-true, ltb-false}
-use lib.Dec.{eqb, ltb}
+use mathlib.Core.Option.{Option, none, some, none-ne-some, some-injective}
+use Rattle.std.specs.Prelude as P
+use borrow.Author.Tests.{eqb-true, eqb-false}
+use lib.Dec.{eqb}
 use lib.ListN.{length, get_or, take, drop, get_elem?}
 use lib.Seq.{slice}
 use Rattle.lists.specs.Lists.{same}
-use Rattle.lists.proofs.Tests.{passes, passed, and_left, and_right}
-use Rattle.text_methods.specs.RowsCode.{Row, rows_of, row_of, row_index, Agrees, agrees, no-row}
+use Rattle.text_methods.specs.RowsCode.{Row, rows_of, row_of, row_index, Agrees, agrees, no-row, FirstNamed}
+use Rattle.text_methods.specs.declared.find.MethodAt.{MethodAt}
 use Rattle.text_methods.specs.IndexCode.{Entry, Indexed, entry_name}
 use Rattle.text_methods.proofs.Slices.{part_slice}
 
@@ -52,74 +53,82 @@ module _ (x : List ℕ) where
       let unlike : same x q.name.spelling ≡ false = u 0 q (omega arith) refl in
       (rw unlike later.0, rw unlike (ap suc later.1))
 
--- what is answered of the first method of the name x
-abbrev pub Answered : List ℕ → List ℕ → Bool → ℕ → ℕ → ℕ → Type 0
-Answered text x found index at params =
-    (index ≡ row_index x (rows_of text)) × Agrees text (row_of x (rows_of text)) found at params
-
--- an entry is looked at while there is one
-abbrev pub more : ℕ → ℕ → Bool
-more i count = ltb i count && ltb i 32
-
-pub more_rows : (i count : ℕ) → more i count ≡ true → i < count
-more_rows i count e = ltb-true i count (passed (ltb i count) (and_left (ltb i count) (ltb i 32) (passes e)))
-
-pub more_room : (i count : ℕ) → more i count ≡ true → i < 32
-more_room i count e = ltb-true i 32 (passed (ltb i 32) (and_right (ltb i count) (ltb i 32) (passes e)))
-
-no_more : (i count : ℕ) → more i count ≡ false → count ≤ 32 → count ≤ i
-no_more i count e l = by (ltb i count) refl
-  where
-    by : (b : Bool) → ltb i count ≡ b → count ≤ i
-    by true q =
-        let full : 32 ≤ i = ltb-false i 32 (sym (ap (λ (b : Bool). b && ltb i 32) q) ∙ e) in
-        omega arith
-    by false q = ltb-false i count q
-
 module _ (text index x : List ℕ) (ix : Indexed text index) where
   pub look-begins : Unlike x (rows_of text) 0
   look-begins j r h = absurd (omega arith)
 
   module _ (i : ℕ) (u : Unlike x (rows_of text) i) where
-    pub look-found : more i (get_or index 0 0) ≡ true → same x (entry_name text index i) ≡ true
-        → Answered text x true i (get_or index (4 * i + 3) 0) (get_or index (4 * i + 4) 0)
-    look-found q s =
-        by (row-there (rows_of text) i (subst (λ (n : ℕ). i < n) ix.count (more_rows i (get_or index 0 0) q)))
+    -- entry i has the name, or another
+    pub look-found : i < get_or index 0 0 → i < 32 → same x (entry_name text index i) ≡ true
+        → FirstNamed text x (P.Some (record {
+          index = i;
+          at = get_or index (4 * i + 3) 0;
+          params = get_or index (4 * i + 4) 0;
+        }))
+    look-found q room s = by (row-there (rows_of text) i (subst (λ (n : ℕ). i < n) ix.count q))
       where
-        by : There (rows_of text) i
-            → Answered text x true i (get_or index (4 * i + 3) 0) (get_or index (4 * i + 4) 0)
-        by (there r e) =
-            let n : Entry text index i r = ix.entries i r (more_room i (get_or index 0 0) q) e in
-            let f = first-there x (rows_of text) i r u e (ap (same x) (sym n.spelled) ∙ s) in (
-              sym f.1,
-              subst (λ o. Agrees text o true (get_or index (4 * i + 3) 0) (get_or index (4 * i + 4) 0)) (sym f.0)
-                  (subst (Agrees text (some r) true (get_or index (4 * i + 3) 0)) (sym n.counted)
-                  (agrees n.stands)),
-            )
+        a : MethodAt
+        a = record { index = i; at = get_or index (4 * i + 3) 0; params = get_or index (4 * i + 4) 0 }
 
-    pub look-on : more i (get_or index 0 0) ≡ true → same x (entry_name text index i) ≡ false
-        → Unlike x (rows_of text) (i + 1)
-    look-on m s j r h e = by (eqb j i) refl
+        by : There (rows_of text) i → FirstNamed text x (P.Some a)
+        by (there r e) =
+            let n : Entry text index i r = ix.entries i r room e in
+            let f = first-there x (rows_of text) i r u e (ap (same x) (sym n.spelled) ∙ s) in
+            subst (λ o. Agrees text (row_index x (rows_of text)) o (P.Some a)) (sym f.0)
+            (agrees (sym f.1) n.stands n.counted)
+
+    pub look-on : i < 32 → same x (entry_name text index i) ≡ false → Unlike x (rows_of text) (i + 1)
+    look-on room s j r h e = by (eqb j i) refl
       where
         by : (b : Bool) → eqb j i ≡ b → same x r.name.spelling ≡ false
         by true q =
             let n : Entry text index i r =
-            ix.entries i r (more_room i (get_or index 0 0) m) (ap (get_elem? (rows_of text)) (sym (eqb-true j i q)) ∙ e) in
+            ix.entries i r room (ap (get_elem? (rows_of text)) (sym (eqb-true j i q)) ∙ e) in
             ap (same x) (sym n.spelled) ∙ s
         by false q =
             let apart : j ≡ i → ⊥ = eqb-false j i q in
             u j r (omega arith) e
 
-    pub look-ends : more i (get_or index 0 0) ≡ false → get_or index 0 0 ≤ 32 → Answered text x false (get_or index 0 0) 0 0
-    look-ends q few =
-        let h : get_or index 0 0 ≤ i = no_more i (get_or index 0 0) q few in
+    pub look-ends : get_or index 0 0 ≤ i → FirstNamed text x P.None
+    look-ends h =
         let size : get_or index 0 0 ≡ length (rows_of text) = ix.count in
         let f = none-there x (rows_of text) (λ j r l e. u j r (omega arith) e) in
-        (ix.count ∙ sym f.1, subst (λ o. Agrees text o false 0 0) (sym f.0) no-row)
+        subst (λ o. Agrees text (row_index x (rows_of text)) o P.None) (sym f.0) no-row
+
+-- where no method has the name, its index is the number of methods
+pub none-index : (text x : List ℕ) → FirstNamed text x P.None → row_index x (rows_of text) ≡ length (rows_of text)
+unfolding row_of row_index
+none-index text x a = by (row_of x (rows_of text)) refl a
+  where
+    rows : (rs : List Row) → row_of x rs ≡ none → row_index x rs ≡ length rs
+    rows [] e = refl
+    rows (r ∷ rs) e = cases (same x r.name.spelling) e (rows rs)
+      where
+        cases : (b : Bool) → cond b (some r) (row_of x rs) ≡ none
+            → (row_of x rs ≡ none → row_index x rs ≡ length rs)
+            → cond b 0 (suc (row_index x rs)) ≡ suc (length rs)
+        cases true q later = absurd (none-ne-some r (sym q))
+        cases false q later = ap suc (later q)
+
+    by : (o : Option Row) → row_of x (rows_of text) ≡ o → Agrees text (row_index x (rows_of text)) o P.None
+        → row_index x (rows_of text) ≡ length (rows_of text)
+    by none e h = rows (rows_of text) e
+    by (some r) e h = elim h [ ]
+
+pub some-index : (text x : List ℕ) (m : MethodAt) → FirstNamed text x (P.Some m) → m.index ≡ row_index x (rows_of text)
+some-index text x m a = by (row_of x (rows_of text)) a
+  where
+    by : (o : Option Row) → Agrees text (row_index x (rows_of text)) o (P.Some m)
+        → m.index ≡ row_index x (rows_of text)
+    by none h = elim h [ ]
+    by (some r) (agrees i t n) = i
 
 -- a part of the text that is lent as a word
-pub lent-word : (text : List ℕ) (s e : ℕ) → s ≤ e → (found : Bool) (index at params : ℕ)
-    → Answered text (take (e - s) (drop s text)) found index at params
-    → Answered text (slice s e text) found index at params
-lent-word text s e h found index at params a =
-    subst (λ x. Answered text x found index at params) (part_slice s e text h) a
+pub lent-word : (text : List ℕ) (s e : ℕ) → s ≤ e → {found : P.Option MethodAt}
+    → FirstNamed text (take (e - s) (drop s text)) found → FirstNamed text (slice s e text) found
+lent-word text s e h {found} a = subst (λ x. FirstNamed text x found) (part_slice s e text h) a
+
+-- what is said of an option that holds nothing
+pub missing : {A : Type 0} (Q : P.Option A → Type 0) (o : P.Option A) → ((x : A) → o ≡ P.Some x → ⊥) → Q o → Q P.None
+missing Q P.None f q = q
+missing Q (P.Some x) f q = absurd (f x refl)

@@ -1,9 +1,10 @@
 -- What the code's tests of numbers say of the definitions.
-use Prim.Native.Nat.{ℕ, zero, suc, ◌+◌, ◌-◌}
+use Prim.Native.Nat.{ℕ, zero, suc, ◌+◌, ◌-◌, ◌≤◌}
 use native.Mathlib.Omega.{arith}
 use mathlib.Core.Path.{◌≡◌, refl, sym, ap, ◌∙◌}
 use mathlib.Core.Bool.{Bool, true, false, cond, ◌&&◌}
 use lib.Dec.{eqb}
+use Rattle.std.specs.Int.{from_bool}
 use borrow.Author.Tests.{eq-eqb, ne_eqb}
 use Rattle.text_scan.specs.ScanCode.{is_none, less_one, braces_after, depth_after, count_after}
 
@@ -12,15 +13,19 @@ unfolding is_none
 none-test zero = refl
 none-test (suc n) = sym (ne_eqb (suc n) 0 (λ e. omega arith))
 
-pub less_none : (n : ℕ) → n ≡ 0 → 0 ≡ less_one n
+pub less-one : (n : ℕ) {r : ℕ} → r ≡ n - 1 → r ≡ less_one n
 unfolding less_one
-less_none zero e = refl
-less_none (suc n) e = absurd (omega arith)
+less-one zero e = omega (arith, e)
+less-one (suc n) e = omega (arith, e)
 
-pub less-some : (n : ℕ) → (n ≡ 0 → ⊥) → n - 1 ≡ less_one n
-unfolding less_one
-less-some zero f = absurd (f refl)
-less-some (suc n) f = omega arith
+-- one more, where it counts
+pub one-if : (b : Bool) (i : ℕ) {n : ℕ} → n ≡ from_bool b → i + n ≡ cond b (suc i) i
+one-if true i e = omega (arith, e)
+one-if false i e = omega (arith, e)
+
+pub one-most : (b : Bool) {n : ℕ} → n ≡ from_bool b → n ≤ 1
+one-most true e = omega (arith, e)
+one-most false e = omega (arith, e)
 
 -- after a token of kind k: the brace or bracket that opens, the one that closes, or another token
 pub braces-open : (b k : ℕ) → k ≡ 21 → b + 1 ≡ braces_after b k

@@ -1,6 +1,7 @@
 -- The methods of a text as the code finds them, in text order: outside any brace a name before ( is a method's. These
 -- definitions follow the code; that the methods are those of the text's tree is proved (proofs/Found.antt).
 use Rattle.std.specs.Prelude.{ℕ, suc, ◌≡◌, Bool, true, false, cond, ◌&&◌, List, [], ◌∷◌, eqb}
+use Rattle.std.specs.Prelude as P
 use Rattle.std.proofs.Math.Option.{Option, none, some}
 use Rattle.lists.specs.Lists.{same}
 use Rattle.text.specs.Tree.{Name}
@@ -9,6 +10,7 @@ use Rattle.text_parse.specs.Grammar.{rest}
 use Rattle.text_tokens.specs.Places.{tokens_at}
 use Rattle.text_tokens.specs.KindsCode.{kind_of}
 use Rattle.text_scan.specs.ScanCode.{kind_at, braces_after, argument_count}
+use Rattle.text_methods.specs.declared.find.MethodAt.{MethodAt}
 
 -- A method's name, how many parameters it has, and the tokens from its first on.
 pub record Row : Type 0 where
@@ -44,7 +46,13 @@ unfoldable pub row_index : List ℕ → List Row → ℕ
 row_index x [] = 0
 row_index x (r ∷ rs) = cond (same x r.name.spelling) 0 (suc (row_index x rs))
 
--- what is answered of a method
-pub data Agrees (text : List ℕ) : Option Row → Bool → ℕ → ℕ → Type 0 where
-  agrees : {r : Row} {at : ℕ} → tokens_at text at ≡ r.tokens → Agrees text (some r) true at r.count
-  no-row : {at n : ℕ} → Agrees text none false at n
+-- What is answered of a method before which so many stand: nothing where there is none, and else their number, a place
+-- from which on its tokens stand, and how many parameters it has.
+pub data Agrees (text : List ℕ) (before : ℕ) : Option Row → P.Option MethodAt → Type 0 where
+  agrees : {r : Row} {m : MethodAt} → m.index ≡ before → tokens_at text m.at ≡ r.tokens → m.params ≡ r.count
+      → Agrees text before (some r) (P.Some m)
+  no-row : Agrees text before none P.None
+
+-- of the first method of the name x
+abbrev pub FirstNamed : List ℕ → List ℕ → P.Option MethodAt → Type 0
+FirstNamed text x = Agrees text (row_index x (rows_of text)) (row_of x (rows_of text))

@@ -1,17 +1,8 @@
 // How many braces and brackets are open after a token.
 ghost use Rattle.std.specs.Prelude.{◌≡◌, ◌^◌, ◌<◌};
-ghost use Rattle.text_scan.specs.ScanCode.{less_one, braces_after, depth_after, count_after};
+ghost use Rattle.text_scan.specs.ScanCode.{braces_after, depth_after, count_after};
 
 use text_tokens::kinds::{CLOSE, CLOSE_BRACE, COMMA, OPEN, OPEN_BRACE};
-
-fn less_one(n: usize) -> usize
-    ensures { result ≡ less_one n }
-{
-    if n == 0 {
-        return 0;
-    }
-    n - 1
-}
 
 pub fn braces_after(braces: usize, kind: u8) -> usize
     requires { braces < 2 ^ 63 }
@@ -21,7 +12,7 @@ pub fn braces_after(braces: usize, kind: u8) -> usize
         return braces + 1;
     }
     if kind == CLOSE_BRACE {
-        return less_one(braces);
+        return braces.saturating_sub(1);
     }
     braces
 }
@@ -34,7 +25,7 @@ pub fn depth_after(depth: usize, kind: u8) -> usize
         return depth + 1;
     }
     if kind == CLOSE {
-        return less_one(depth);
+        return depth.saturating_sub(1);
     }
     depth
 }

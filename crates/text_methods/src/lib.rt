@@ -6,3 +6,4 @@ pub mod arguments;
 pub mod braces;
 pub mod find;
 pub mod index;
+pub mod methods;

@@ -1,84 +1,80 @@
 -- What the code's answers of methods and gates say of a call; and the lower of two places.
-use Prim.Native.Nat.{ℕ, ◌≤◌, ◌<◌}
-use mathlib.Core.Path.{◌≡◌, refl, sym, ap, ◌∙◌}
-use mathlib.Core.Bool.{Bool, true, false, cond, ◌&&◌, ◌||◌}
+use Prim.Native.Nat.{ℕ, ◌≤◌, ◌<◌, min}
+use native.Mathlib.Omega.{arith}
+use mathlib.Core.Path.{◌≡◌, refl, ap, ◌∙◌}
+use mathlib.Core.Bool.{Bool, true, false, cond}
 use mathlib.Core.List.{List}
 use mathlib.Core.Option.{Option, none, some}
-use lib.Dec.{eqb, ltb}
-use borrow.Author.Tests.{le-leb, lt-leb}
-use Rattle.lists.proofs.Tests.{never}
+use lib.Dec.{eqb, ltb, leb}
+use borrow.Author.Tests.{leb-true, leb-false}
+use Rattle.std.specs.Prelude as P
+use Rattle.std.specs.Bool.{then_some}
 use Rattle.table.specs.Ops.{gate_qubits}
 use Rattle.text.specs.Tree.{numbered, gate_names, gate_of}
 use Rattle.text.specs.Names.{lower}
 use Rattle.text_tokens.specs.Places.{tokens_at}
 use Rattle.text_scan.specs.ScanCode.{argument_count}
 use Rattle.text_scan.specs.FaultsCode.{callable, invocable}
-use Rattle.text_methods.specs.RowsCode.{Row, rows_of, row_of, Agrees, agrees, no-row}
+use Rattle.text_methods.specs.RowsCode.{Row, rows_of, row_of, row_index, Agrees, agrees, no-row, FirstNamed}
+use Rattle.text_methods.specs.declared.find.MethodAt.{MethodAt}
+use Rattle.text_names.specs.Answer.{fault_in}
 use Rattle.text_names.specs.FaultsCode.{lower_of, place_if}
 use Rattle.text_names.specs.FaultCode.{row_count, bare, is_call_at, is_invocation_at}
 
 -- methods
 module _ (text x : List ℕ) (after n : ℕ) (e : n ≡ argument_count (tokens_at text after)) where
-  call_by : (o : Option Row) (found : Bool) (at params : ℕ) → Agrees text o found at params
-      → (found && eqb n params) ≡ callable n (row_count o)
-  unfolding callable
-  call_by none found at params no-row = refl
-  call_by (some r) found at params (agrees t) = refl
+  -- a method that is found, with its parameters
+  pub call-found : (m : MethodAt) → FirstNamed text x (P.Some m) → eqb n m.params ≡ is_call_at text x after
+  unfolding is_call_at callable
+  call-found m a = by (row_of x (rows_of text)) a
+    where
+      by : (o : Option Row) → Agrees text (row_index x (rows_of text)) o (P.Some m)
+          → eqb n m.params ≡ callable (argument_count (tokens_at text after)) (row_count o)
+      by none h = elim h [ ]
+      by (some r) (agrees i t c) = ap (eqb n) c ∙ ap (λ (k : ℕ). eqb k r.count) e
 
-  pub call_at : (found : Bool) (at params : ℕ) → Agrees text (row_of x (rows_of text)) found at params
-      → (found && eqb n params) ≡ is_call_at text x after
-  unfolding is_call_at
-  call_at found at params a =
-      call_by (row_of x (rows_of text)) found at params a
-      ∙ ap (λ (k : ℕ). callable k (row_count (row_of x (rows_of text)))) e
+  pub invoke-found : (m : MethodAt) → FirstNamed text x (P.Some m) → eqb n m.params ≡ is_invocation_at text x after
+  unfolding is_invocation_at invocable
+  invoke-found m a = by (row_of x (rows_of text)) a
+    where
+      by : (o : Option Row) → Agrees text (row_index x (rows_of text)) o (P.Some m)
+          → eqb n m.params ≡ invocable (bare x) (argument_count (tokens_at text after)) (row_count o)
+      by none h = elim h [ ]
+      by (some r) (agrees i t c) = ap (eqb n) c ∙ ap (λ (k : ℕ). eqb k r.count) e
 
-  invoke-by : (o : Option Row) (found : Bool) (at params : ℕ) → Agrees text o found at params → found ≡ true
-      → eqb n params ≡ invocable (bare x) n (row_count o)
-  unfolding invocable
-  invoke-by none found at params no-row q = never q
-  invoke-by (some r) found at params (agrees t) q = refl
+  -- where none is found
+  pub call-missing : FirstNamed text x P.None → false ≡ is_call_at text x after
+  unfolding is_call_at callable
+  call-missing a = by (row_of x (rows_of text)) a
+    where
+      by : (o : Option Row) → Agrees text (row_index x (rows_of text)) o P.None
+          → false ≡ callable (argument_count (tokens_at text after)) (row_count o)
+      by none no-row = refl
+      by (some r) h = elim h [ ]
 
-  gate-by : (o : Option Row) (found : Bool) (at params : ℕ) → Agrees text o found at params → found ≡ false → {r : Bool}
-      → r ≡ cond (ltb 0 (numbered 1 x gate_names)) (eqb n (gate_qubits (numbered 1 x gate_names))) false
-      → r ≡ invocable (bare x) n (row_count o)
-  unfolding invocable gate_of
-  gate-by none found at params no-row q g = g
-  gate-by (some r) found at params (agrees t) q g = never (sym q)
+  pub gate-found : {g : ℕ} {r : Bool} → FirstNamed text x P.None → g ≡ numbered 1 x gate_names
+      → r ≡ cond (ltb 0 g) (eqb n (gate_qubits g)) false → r ≡ is_invocation_at text x after
+  unfolding is_invocation_at invocable gate_of
+  gate-found {r = r} a i s = by (row_of x (rows_of text)) a
+    where
+      by : (o : Option Row) → Agrees text (row_index x (rows_of text)) o P.None
+          → r ≡ invocable (bare x) (argument_count (tokens_at text after)) (row_count o)
+      by none no-row =
+          s ∙ ap (λ (k : ℕ). cond (ltb 0 k) (eqb n (gate_qubits k)) false) i
+          ∙ ap (λ (k : ℕ). cond (ltb 0 (numbered 1 x gate_names)) (eqb k (gate_qubits (numbered 1 x gate_names))) false) e
+      by (some r) h = elim h [ ]
 
-  pub invoke-at : (found : Bool) (at params : ℕ) → Agrees text (row_of x (rows_of text)) found at params → found ≡ true
-      → eqb n params ≡ is_invocation_at text x after
-  unfolding is_invocation_at
-  invoke-at found at params a q =
-      invoke-by (row_of x (rows_of text)) found at params a q
-      ∙ ap (λ (k : ℕ). invocable (bare x) k (row_count (row_of x (rows_of text)))) e
-
-  pub gate-at : (found : Bool) (at params : ℕ) → Agrees text (row_of x (rows_of text)) found at params → found ≡ false
-      → (g : ℕ) → g ≡ numbered 1 x gate_names → {r : Bool} → r ≡ cond (ltb 0 g) (eqb n (gate_qubits g)) false
-      → r ≡ is_invocation_at text x after
-  unfolding is_invocation_at
-  gate-at found at params a q g i s =
-      gate-by (row_of x (rows_of text)) found at params a q
-      (s ∙ ap (λ (k : ℕ). cond (ltb 0 k) (eqb n (gate_qubits k)) false) i)
-      ∙ ap (λ (k : ℕ). invocable (bare x) k (row_count (row_of x (rows_of text)))) e
+-- a place where there is a fault
+pub fault-if : (fault : Bool) (at : ℕ) → fault_in (then_some fault at) ≡ place_if fault at
+unfolding fault_in
+fault-if true at = refl
+fault-if false at = refl
 
 -- the lower of two places
-pub lower-unfound : (found : Bool) (low at : ℕ) (fault : Bool) → fault ≡ false
-    → place_if (found || fault) low ≡ lower_of (place_if found low) (place_if fault at)
+pub lower-min : (i j : ℕ) → some (min i j) ≡ lower_of (some i) (some j)
 unfolding lower_of lower
-lower-unfound true low at fault e = rw e refl
-lower-unfound false low at fault e = rw e refl
-
-pub lower-first : (found : Bool) (low at : ℕ) (fault : Bool) → fault ≡ true → found ≡ false
-    → place_if (found || fault) at ≡ lower_of (place_if found low) (place_if fault at)
-unfolding lower_of lower
-lower-first found low at fault e f = rw (e, f) refl
-
-pub lower-kept : (found : Bool) (low at : ℕ) (fault : Bool) → fault ≡ true → found ≡ true → low ≤ at
-    → place_if (found || fault) low ≡ lower_of (place_if found low) (place_if fault at)
-unfolding lower_of lower
-lower-kept found low at fault e f l = rw (e, f, le-leb low at l) refl
-
-pub lower-new : (found : Bool) (low at : ℕ) (fault : Bool) → fault ≡ true → found ≡ true → at < low
-    → place_if (found || fault) at ≡ lower_of (place_if found low) (place_if fault at)
-unfolding lower_of lower
-lower-new found low at fault e f l = rw (e, f, lt-leb low at l) refl
+lower-min i j = ap some (by (leb i j) refl)
+  where
+    by : (b : Bool) → leb i j ≡ b → min i j ≡ cond b i j
+    by true e = let l : i ≤ j = leb-true i j e in omega arith
+    by false e = let l : j < i = leb-false i j e in omega arith

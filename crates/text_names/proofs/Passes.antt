@@ -186,13 +186,12 @@ module _ (text : List ℕ) where
           let m : hash_from 0 x ≡ class → ⊥ = eqb-false (hash_from 0 x) class f in
           le-ltb (hash_from 0 x) (class + 1) (omega arith)
 
-  pub next-class : (class : ℕ) {o : Option ℕ} (found : Bool) (low : ℕ) (here : Bool) (at : ℕ)
-      → place_if found low ≡ lowest_in (in_past class) text → place_if here at ≡ lowest_in (in_class false class) text
-      → o ≡ lower_of (place_if found low) (place_if here at) → o ≡ lowest_in (in_past (class + 1)) text
+  pub next-class : (class : ℕ) {o low here : Option ℕ} → low ≡ lowest_in (in_past class) text
+      → here ≡ lowest_in (in_class false class) text → o ≡ lower_of low here → o ≡ lowest_in (in_past (class + 1)) text
   unfolding lowest_in
-  next-class class found low here at e f q =
+  next-class class {here = here} e f q =
       let xs = faulty (methods_of text) 0 ([] ∷ []) (events_from 0 0 (tokens_at text 0)) in
-      q ∙ ap (λ o. lower_of o (place_if here at)) e ∙ ap (lower_of (lowest_of (in_past class) xs)) f
+      q ∙ ap (λ o. lower_of o here) e ∙ ap (lower_of (lowest_of (in_past class) xs)) f
       ∙ sym (lowest-same (in_past (class + 1)) (λ x. in_past class x || in_class false class x) (past_next class) xs
       ∙ lowest-either (in_past class) (in_class false class) xs)
 

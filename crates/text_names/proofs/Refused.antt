@@ -5,20 +5,22 @@ use mathlib.Core.Bool.{Bool, true, false, cond, ◌||◌}
 use mathlib.Core.List.{List, [], ◌∷◌, map}
 use mathlib.Core.Option.{Option, none, some}
 use lib.ListN.{length}
+use Rattle.std.specs.Prelude as P
+use Rattle.std.specs.Prelude.{is_some}
 use Rattle.lists.specs.Lists.{same, any}
-use Rattle.text.specs.Tree.{ascii, Program}
-use Rattle.text.specs.Names.{lower, lowest, name_refusal}
-use Rattle.text_parse.specs.Tokens.{Token, tokens_of}
-use Rattle.text_parse.specs.Grammar.{read, program_of}
+use Rattle.text.specs.Tree.{ascii}
+use Rattle.text.specs.Names.{lower, lowest}
+use Rattle.text_parse.specs.Tokens.{Token}
 use Rattle.text_tokens.specs.Places.{tokens_at}
 use Rattle.text_tokens.proofs.Tokenwise.{tokens-at-start}
 use Rattle.text_scan.specs.Events.{Event, method_named, declared, used, called, invoked, opened, closed, ended}
 use Rattle.text_scan.specs.ScanCode.{events_from}
 use Rattle.text_scan.specs.FaultsCode.{Entry, each_method, entry, entries_of, names_main, main_fault_of}
 use Rattle.text_scan.proofs.Methods.{same-comm}
-use Rattle.text_methods.specs.RowsCode.{Row, rows_of, row_of, Agrees, agrees, no-row}
+use Rattle.text_methods.specs.RowsCode.{Row, rows_of, row_of, row_index, Agrees, agrees, no-row, FirstNamed}
+use Rattle.text_methods.specs.declared.find.MethodAt.{MethodAt}
 use Rattle.text_methods.proofs.Found.{row_for, rows-scanned}
-use Rattle.text_names.specs.FaultsCode.{all_faults, lower_of, place_if}
+use Rattle.text_names.specs.FaultsCode.{all_faults, lower_of}
 use Rattle.text_names.specs.FaultCode.{row_entry, methods_of, lowest_fault, Refuses}
 use Rattle.text_names.proofs.Merged.{text-refusal}
 use Rattle.text_names.proofs.Lowest.{lower-none}
@@ -59,47 +61,42 @@ main-there (r ∷ rs) =
     by true e = refl
     by false e = e
 
-found-there : (text : List ℕ) (o : Option Row) (found : Bool) (at n : ℕ) → Agrees text o found at n → there o ≡ found
-found-there text none found at n no-row = refl
-found-there text (some r) found at n (agrees t) = refl
+found-there : (text : List ℕ) (n : ℕ) (o : Option Row) (found : P.Option MethodAt) → Agrees text n o found
+    → there o ≡ is_some found
+found-there text n none P.None no-row = refl
+found-there text n none (P.Some a) h = elim h [ ]
+found-there text n (some r) P.None h = elim h [ ]
+found-there text n (some r) (P.Some a) (agrees i t c) = refl
 
-module _ (text : List ℕ) (found : Bool) (at n : ℕ) (a : Agrees text (row_of (ascii "main") (rows_of text)) found at n)
-  where
-    main-fault : lowest (main_fault_of (length text) (methods_of text)) ≡ cond found none (some (length text))
-    unfolding main_fault_of methods_of lowest lower
-    main-fault =
-        ap (λ (b : Bool). lowest (cond b [] (length text ∷ [])))
-        (main-there (rows_of text) ∙ found-there text (row_of (ascii "main") (rows_of text)) found at n a) ∙ by found
-      where
-        by : (b : Bool) → lowest (cond b [] (length text ∷ [])) ≡ cond b none (some (length text))
-        by true = refl
-        by false = refl
+module _ (text : List ℕ) {found : P.Option MethodAt} (a : FirstNamed text (ascii "main") found) where
+  main-fault : lowest (main_fault_of (length text) (methods_of text)) ≡ cond (is_some found) none (some (length text))
+  unfolding main_fault_of methods_of lowest lower
+  main-fault =
+      ap (λ (b : Bool). lowest (cond b [] (length text ∷ [])))
+      (main-there (rows_of text)
+      ∙ found-there text (row_index (ascii "main") (rows_of text)) (row_of (ascii "main") (rows_of text)) found a)
+      ∙ by (is_some found)
+    where
+      by : (b : Bool) → lowest (cond b [] (length text ∷ [])) ≡ cond b none (some (length text))
+      by true = refl
+      by false = refl
 
-    refusal_is : (ms : Program) (us : List Token) → program_of (tokens_of text) ≡ read ms us
-        → lower_of (lowest_fault text) (cond found none (some (length text))) ≡ name_refusal (length text) ms
-    unfolding lowest_fault
-    refusal_is ms us e =
-        ap (lower_of (lowest (all_faults (methods_of text) 0 ([] ∷ []) (events_from 0 0 (tokens_at text 0)))))
-        (sym main-fault)
-        ∙ ap (λ (all : List Entry). lower_of (lowest (all_faults all 0 ([] ∷ []) (events_from 0 0 (tokens_at text 0))))
-        (lowest (main_fault_of (length text) all))) (sym (text-methods text))
-        ∙ ap (λ ts. lower_of (lowest (all_faults (entries_of (events_from 0 0 ts)) 0 ([] ∷ []) (events_from 0 0 ts)))
-        (lowest (main_fault_of (length text) (entries_of (events_from 0 0 ts))))) (sym (tokens-at-start text))
-        ∙ text-refusal text (length text) ms us e
+  -- the refusal, with main and without
+  pub refusal_is : Refuses text (lower_of (lowest_fault text) (cond (is_some found) none (some (length text))))
+  unfolding lowest_fault
+  refusal_is ms us e =
+      ap (lower_of (lowest (all_faults (methods_of text) 0 ([] ∷ []) (events_from 0 0 (tokens_at text 0)))))
+      (sym main-fault)
+      ∙ ap (λ (all : List Entry). lower_of (lowest (all_faults all 0 ([] ∷ []) (events_from 0 0 (tokens_at text 0))))
+      (lowest (main_fault_of (length text) all))) (sym (text-methods text))
+      ∙ ap (λ ts. lower_of (lowest (all_faults (entries_of (events_from 0 0 ts)) 0 ([] ∷ []) (events_from 0 0 ts)))
+      (lowest (main_fault_of (length text) (entries_of (events_from 0 0 ts))))) (sym (tokens-at-start text))
+      ∙ text-refusal text (length text) ms us e
 
-    -- with main, and without
-    pub main-found : found ≡ true → (f : Bool) (i : ℕ) {o : Option ℕ} → place_if f i ≡ lowest_fault text → o ≡ place_if f i
-        → Refuses text o
-    main-found q f i l m ms us e =
-        m ∙ l ∙ sym (ap (λ (b : Bool). lower_of (lowest_fault text) (cond b none (some (length text)))) q
-        ∙ lower-none (lowest_fault text)) ∙ refusal_is ms us e
+pub main-found : (text : List ℕ) {m : MethodAt} → FirstNamed text (ascii "main") (P.Some m) → {o : Option ℕ}
+    → o ≡ lowest_fault text → Refuses text o
+main-found text a l ms us e = l ∙ sym (lower-none (lowest_fault text)) ∙ refusal_is text a ms us e
 
-    pub main-missing : found ≡ false → (f : Bool) (i j : ℕ) → place_if f i ≡ lowest_fault text
-        → place_if (f || true) j ≡ lower_of (place_if f i) (place_if true (length text)) → Refuses text (some j)
-    main-missing q f i j l m ms us e =
-        some-place f j ∙ m ∙ ap (λ o. lower_of o (some (length text))) l
-        ∙ sym (ap (λ (b : Bool). lower_of (lowest_fault text) (cond b none (some (length text)))) q) ∙ refusal_is ms us e
-      where
-        some-place : (b : Bool) (k : ℕ) → some k ≡ place_if (b || true) k
-        some-place true k = refl
-        some-place false k = refl
+pub main-missing : (text : List ℕ) → FirstNamed text (ascii "main") P.None → {low o : Option ℕ}
+    → low ≡ lowest_fault text → o ≡ lower_of low (some (length text)) → Refuses text o
+main-missing text a l m ms us e = m ∙ ap (λ o. lower_of o (some (length text))) l ∙ refusal_is text a ms us e

@@ -3,7 +3,7 @@ use Prim.Native.Nat.{ℕ, zero, suc, ◌+◌, ◌≤◌, ◌<◌}
 use native.Mathlib.Omega.{arith}
 use mathlib.Core.Path.{◌≡◌, refl, sym, ap, ◌∙◌}
 use mathlib.Core.Logic.{⊎_elim}
-use mathlib.Core.Bool.{Bool, true, false, cond, ◌&&◌, ◌||◌, not}
+use mathlib.Core.Bool.{Bool, true, false, cond, ◌&&◌, not}
 use mathlib.Core.List.{List, [], ◌∷◌, map}
 use mathlib.Core.Option.{Option, none, some}
 use lib.Dec.{eqb, eqb→eq, ltb}
@@ -129,8 +129,8 @@ named-state m (suc b) k f = λ q. absurd (by (eqb k 33) (eqb m 4) (eqb m 3) (eqb
     by false c d g h false false q = passes q
 
 -- what the scan has come to before a token
-pub record ScanSoFar (test : List ℕ → Bool) (all : Bool) (text words : List ℕ) (m b from i n : ℕ) (found : Bool)
-    (low : ℕ) (t : TokenAt) (k : ℕ) : Type 0 where
+pub record ScanSoFar (test : List ℕ → Bool) (all : Bool) (text words : List ℕ) (m b from i n : ℕ)
+    (low : Option ℕ) (t : TokenAt) (k : ℕ) : Type 0 where
   -- t is read from there on
   pub at : ℕ
   pub next : NextToken text at t
@@ -146,15 +146,14 @@ pub record ScanSoFar (test : List ℕ → Bool) (all : Bool) (text words : List 
       → found_up_to least y to 0 0 0 (tokens_at text from)
       ≡ found_up_to least y to m b (found_in least y blocks) (tokens_at text at)
   pub lowest-is : lowest_in test text
-      ≡ lower_of (place_if found low)
-      (lowest_of test (faulty (methods_of text) i blocks (events_from m b (tokens_at text at))))
+      ≡ lower_of low (lowest_of test (faulty (methods_of text) i blocks (events_from m b (tokens_at text at))))
 
 none_found : (least : ℕ) (y : List ℕ) → found_in least y ([] ∷ []) ≡ 0
 unfolding found_in
 none_found least y = found-opened least y []
 
 pub scan_begins : (test : List ℕ → Bool) (all : Bool) (text words : List ℕ) (t : TokenAt) → length words ≡ 3072
-    → NextToken text 0 t → ScanSoFar test all text words 0 0 0 0 0 false 0 t t.kind
+    → NextToken text 0 t → ScanSoFar test all text words 0 0 0 0 0 none t t.kind
 unfolding lowest_in lower_of level_of declared_in names_at
 scan_begins test all text words t r e = record {
   at = 0;
@@ -193,20 +192,20 @@ end-kind : (c : Bool) (k j : ℕ) → k ≡ cond c j 32 → (k ≡ 32 → ⊥) �
 end-kind true k j e f = e
 end-kind false k j e f = absurd (f e)
 
-module _ {test : List ℕ → Bool} {all : Bool} {text words : List ℕ} {m b from i n : ℕ} {found : Bool} {low : ℕ}
-    {t : TokenAt} {k : ℕ} (s : ScanSoFar test all text words m b from i n found low t k) where
+module _ {test : List ℕ → Bool} {all : Bool} {text words : List ℕ} {m b from i n : ℕ} {low : Option ℕ}
+    {t : TokenAt} {k : ℕ} (s : ScanSoFar test all text words m b from i n low t k) where
   abbrev at : ℕ
   at = s.at
 
-  pub scan-ends : k ≡ 32 → fits_in all n ≡ true → place_if found low ≡ lowest_in test text
+  pub scan-ends : k ≡ 32 → fits_in all n ≡ true → low ≡ lowest_in test text
   unfolding faulty lowest_of
   scan-ends e h =
       let kind : k ≡ t.kind = s.kind-is ∙ ap (λ (c : Bool). cond c t.kind 32) h in
       let last : next_kind text at ≡ 32 = kind-next text at t s.next ∙ sym kind ∙ e in
       sym (s.lowest-is
-      ∙ ap (λ es. lower_of (place_if found low) (lowest_of test (faulty (methods_of text) i s.blocks es)))
+      ∙ ap (λ es. lower_of low (lowest_of test (faulty (methods_of text) i s.blocks es)))
       (end-events m b (tokens_at text at) last (end-alone text at last))
-      ∙ lower-none (place_if found low))
+      ∙ lower-none low)
 
   same_kind : (k ≡ 32 → ⊥) → k ≡ t.kind
   same_kind f = end-kind (fits_in all n) k t.kind s.kind-is f
@@ -432,7 +431,7 @@ module _ {test : List ℕ → Bool} {all : Bool} {text words : List ℕ} {m b fr
         (closes-level m b t.kind u.kind s.blocks s.level)
 
     pub scan-goes : {words' : List ℕ} {r' : ℕ} {mine : Bool} {asked : ℕ} {fault : Bool}
-        {entered low' n' from' i' m' b' : ℕ} {fits : Bool} {k' : ℕ}
+        {low' : Option ℕ} {entered n' from' i' m' b' : ℕ} {fits : Bool} {k' : ℕ}
         → r' ≡ role m b t.kind u.kind
         → mine ≡ test (slice t.start t.end text)
         → asked ≡ cond mine r' 0
@@ -441,12 +440,12 @@ module _ {test : List ℕ → Bool} {all : Bool} {text words : List ℕ} {m b fr
         → entered ≡ cond (eqb r' 2 && not mine) 0 r'
         → length words' ≡ length words
         → Turns (λ text ds. open_after b entered (slice t.start t.end text) ds) words n words' n'
-        → place_if (found || fault) low' ≡ lower_of (place_if found low) (place_if fault t.start)
+        → low' ≡ lower_of low (place_if fault t.start)
         → from' ≡ cond (eqb r' 1) t.end from → i' ≡ index_after r' i → m' ≡ mode_after m b t.kind
         → b' ≡ braces_after b t.kind → fits ≡ fits_in all n' → k' ≡ cond fits u.kind 32
-        → ScanSoFar test all text words' m' b' from' i' n' (found || fault) low' u k'
+        → ScanSoFar test all text words' m' b' from' i' n' low' u k'
     unfolding r rest-lowest
-    scan-goes {words'} {r'} {mine} {asked} {fault} {entered} {low'} {n'} {from'} {i'} {m'} {b'} {fits} rr tt aa ff nn
+    scan-goes {words'} {r'} {mine} {asked} {fault} {low'} {entered} {n'} {from'} {i'} {m'} {b'} {fits} rr tt aa ff nn
         kept turns ll oo ii mm bb hh kk =
         let us = tokens_at text t.end in
         let begins : at < t.end = onward in
@@ -482,13 +481,13 @@ module _ {test : List ℕ → Bool} {all : Bool} {text words : List ℕ} {m b fr
               ∙ ap (λ (j : ℕ). found_up_to least y to j (braces_after b t.kind) (found_in least y after) us) (sym mm)
               ∙ ap (λ (j : ℕ). found_up_to least y to m' j (found_in least y after) us) (sym bb);
           lowest-is =
-              s.lowest-is ∙ ap (lower_of (place_if found low)) (lowest-split fault here)
-              ∙ sym (lower-assoc (place_if found low) (place_if fault t.start) rest-lowest)
+              s.lowest-is ∙ ap (lower_of low) (lowest-split fault here)
+              ∙ sym (lower-assoc low (place_if fault t.start) rest-lowest)
               ∙ ap (λ o. lower_of o rest-lowest) (sym ll)
-              ∙ ap (λ (j : ℕ). lower_of (place_if (found || fault) low') (lowest_of test (faulty (methods_of text) j after
+              ∙ ap (λ (j : ℕ). lower_of low' (lowest_of test (faulty (methods_of text) j after
               (events_from (mode_after m b t.kind) (braces_after b t.kind) us)))) (sym index)
-              ∙ ap (λ (j : ℕ). lower_of (place_if (found || fault) low') (lowest_of test (faulty (methods_of text) i' after
+              ∙ ap (λ (j : ℕ). lower_of low' (lowest_of test (faulty (methods_of text) i' after
               (events_from j (braces_after b t.kind) us)))) (sym mm)
-              ∙ ap (λ (j : ℕ). lower_of (place_if (found || fault) low') (lowest_of test (faulty (methods_of text) i' after
+              ∙ ap (λ (j : ℕ). lower_of low' (lowest_of test (faulty (methods_of text) i' after
               (events_from m' j us)))) (sym bb);
         }

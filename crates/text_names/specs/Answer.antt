@@ -1,9 +1,8 @@
--- The place that is answered, where a name is at fault.
+-- A place that the code answers, where there is one, in the definitions' words.
 use Rattle.std.specs.Prelude.{ℕ}
+use Rattle.std.specs.Prelude as P
 use Rattle.std.proofs.Math.Option.{Option, none, some}
-use Rattle.text_names.specs.declared.refusal.NameFault.{NameFault}
-use Rattle.text_names.specs.declared.refusal.NameFault.TheVariants.{NoFault, FaultAt}
 
-unfoldable pub fault_in : NameFault → Option ℕ
-fault_in NoFault = none
-fault_in (FaultAt i) = some i
+unfoldable pub fault_in : P.Option ℕ → Option ℕ
+fault_in P.None = none
+fault_in (P.Some i) = some i

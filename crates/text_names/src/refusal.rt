@@ -1,55 +1,32 @@
 // The lowest place at which a name is at fault.
-ghost use Rattle.std.specs.Prelude.{◌≡◌, true, false, cond, ◌||◌, ◌^◌, ◌<◌, eqb, length};
-ghost use Rattle.text_methods.specs.IndexCode.{Indexed};
+ghost use Rattle.std.specs.Prelude.{◌≡◌, false, cond, ◌^◌, ◌<◌, eqb, length, IfOk, IsOk};
 ghost use Rattle.text_open.specs.ClassCode.{in_class};
-ghost use Rattle.text_names.specs.FaultsCode.{index_after, lower_of, place_if};
+ghost use Rattle.text_names.specs.FaultsCode.{index_after, lower_of};
 ghost use Rattle.text_names.specs.FaultCode.{lowest_fault, lowest_in, Refuses};
 ghost use Rattle.text_names.specs.Answer.{fault_in};
 
 use crate::fault::fault_here;
 use text_methods::braces::braces_after;
-use text_methods::index::find_word;
+use text_methods::methods::Methods;
 use text_open::class::{declared_if, in_class, keeps, kind_if, role_if};
 use text_open::open::open_after;
 use text_roles::scan::{mode_after, role};
 use text_tokens::kinds::END;
 use text_tokens::next::next_token;
 
-// A place, where there is one.
-#[derive(Drop)]
-pub struct LowestAt {
-    pub found: bool,
-    pub at: usize,
-}
-
-// What a pass has found, if it could keep the names.
-#[derive(Drop)]
-struct PassAt {
-    known: bool,
-    found: bool,
-    at: usize,
-}
-
-#[derive(Drop)]
-pub enum NameFault {
-    NoFault,
-    FaultAt(usize),
-}
+// A pass over the names could not keep all that are declared.
+#[derive(Clone, Copy, PartialEq, Eq)]
+struct TooManyNames;
 
 // The lower of two places, where there are any.
-fn lower_place(found: bool, low: usize, fault: bool, at: usize) -> usize
-    ensures { place_if (found || fault) result ≡ lower_of (place_if found low) (place_if fault at) }
+fn lower_place(low: Option<usize>, fault: Option<usize>) -> Option<usize>
+    ensures { fault_in result ≡ lower_of (fault_in low) (fault_in fault) }
 {
-    if !fault {
-        return low;
+    match (low, fault) {
+        (Some(i), Some(j)) => Some(i.min(j)),
+        (Some(_), None) => low,
+        (None, _) => fault,
     }
-    if !found {
-        return at;
-    }
-    if low <= at {
-        return low;
-    }
-    at
 }
 
 // A method's tokens are gone over from after its name on.
@@ -73,18 +50,23 @@ fn index_after(r: u8, i: usize) -> usize
 }
 
 // A pass over the names, all of them or those of a class, but for a missing main.
-fn lowest_in(text: &[u8], methods: &[usize], words: &mut [usize], all: bool, class: usize) -> PassAt
-    requires { (length words.old ≡ 3072) × Indexed text.now methods.now }
-    ensures { (result.known ≡ true → place_if result.found result.at ≡ lowest_in (in_class all class) text.now)
-        × (all ≡ false → result.known ≡ true) }
+fn lowest_in(
+    methods: &Methods<'_>,
+    words: &mut [usize],
+    all: bool,
+    class: usize,
+) -> Result<Option<usize>, TooManyNames>
+    requires { length words.old ≡ 3072 }
+    ensures { IfOk result (λ low. fault_in low ≡ lowest_in (in_class all class) methods.now.text.now)
+        × (all ≡ false → IsOk result) }
 {
+    let text = methods.text;
     let mut mode = 0;
     let mut braces = 0;
     let mut from = 0;
     let mut index = 0;
     let mut n = 0;
-    let mut found = false;
-    let mut low = 0;
+    let mut low = None;
     let mut t = next_token(text, 0);
     let mut kind = t.kind;
     while kind != END {
@@ -93,10 +75,9 @@ fn lowest_in(text: &[u8], methods: &[usize], words: &mut [usize], all: bool, cla
         let mine = in_class(text, t.start, t.end, all, class);
         let asked = role_if(mine, r);
         let fault = fault_here(
-            text, methods, words, n, from, braces, index, asked, t.start, t.end, u.end,
+            methods, words, n, from, braces, index, asked, t.start, t.end, u.end,
         );
-        low = lower_place(found, low, fault, t.start);
-        found = found | fault;
+        low = lower_place(low, fault.then_some(t.start));
         n = open_after(words, n, braces, declared_if(mine, r), t.start, t.end);
         from = from_after(r, from, t.end);
         index = index_after(r, index);
@@ -105,77 +86,53 @@ fn lowest_in(text: &[u8], methods: &[usize], words: &mut [usize], all: bool, cla
         kind = kind_if(keeps(all, n), u.kind);
         t = u;
     }
-    PassAt {
-        known: keeps(all, n),
-        found: found,
-        at: low,
+    if keeps(all, n) {
+        Ok(low)
+    } else {
+        Err(TooManyNames)
     }
 }
 
 // One pass for each class.
-fn lowest_by_classes(text: &[u8], methods: &[usize], words: &mut [usize]) -> LowestAt
-    requires { (length words.old ≡ 3072) × Indexed text.now methods.now }
-    ensures { place_if result.found result.at ≡ lowest_fault text.now }
+fn lowest_by_classes(methods: &Methods<'_>, words: &mut [usize]) -> Option<usize>
+    requires { length words.old ≡ 3072 }
+    ensures { fault_in result ≡ lowest_fault methods.now.text.now }
 {
-    let mut class = 0;
-    let mut found = false;
-    let mut low = 0;
-    while class < 251 {
-        let p = lowest_in(text, methods, words, false, class);
-        low = lower_place(found, low, p.found, p.at);
-        found = found | p.found;
-        class += 1;
+    let mut low = None;
+    for class in 0..251 {
+        let here = lowest_in(methods, words, false, class).unwrap();
+        low = lower_place(low, here);
     }
-    LowestAt {
-        found: found,
-        at: low,
-    }
+    low
 }
 
-fn lowest_with(text: &[u8], methods: &[usize], words: &mut [usize]) -> LowestAt
-    requires { (length words.old ≡ 3072) × Indexed text.now methods.now }
-    ensures { place_if result.found result.at ≡ lowest_fault text.now }
+fn lowest_with(methods: &Methods<'_>, words: &mut [usize]) -> Option<usize>
+    requires { length words.old ≡ 3072 }
+    ensures { fault_in result ≡ lowest_fault methods.now.text.now }
 {
-    let once = lowest_in(text, methods, words, true, 0);
-    if once.known {
-        return LowestAt {
-            found: once.found,
-            at: once.at,
-        };
+    match lowest_in(methods, words, true, 0) {
+        Ok(low) => low,
+        Err(TooManyNames) => lowest_by_classes(methods, words),
     }
-    lowest_by_classes(text, methods, words)
 }
 
 // Of all faults but a missing main.
-fn lowest_fault(text: &[u8], methods: &[usize]) -> LowestAt
-    requires { Indexed text.now methods.now }
-    ensures { place_if result.found result.at ≡ lowest_fault text.now }
+fn lowest_fault(methods: &Methods<'_>) -> Option<usize>
+    ensures { fault_in result ≡ lowest_fault methods.now.text.now }
 {
     let mut words = [0usize; 3072];
-    lowest_with(text, methods, &mut words)
+    lowest_with(methods, &mut words)
 }
 
-fn answer(found: bool, at: usize) -> NameFault
-    ensures { fault_in result ≡ place_if found at }
+// The place of refusal 31, where it is said: "31 when a name is undeclared, declared twice in one block or twice as a
+// method, or called with a wrong argument count", at its lowest place; "a missing main is 31 at the text's end". The
+// text is in the grammar.
+pub fn name_fault(methods: &Methods<'_>) -> Option<usize>
+    ensures { Refuses methods.now.text.now (fault_in result) }
 {
-    if found {
-        return NameFault::FaultAt(at);
+    let lowest = lowest_fault(methods);
+    match methods.find_word(b"main") {
+        Some(_) => lowest,
+        None => lower_place(lowest, Some(methods.text.len())),
     }
-    NameFault::NoFault
-}
-
-// "31 when a name is undeclared, declared twice in one block or twice as a method, or called with a wrong argument
-// count", at its lowest place; "a missing main is 31 at the text's end". The text is in the grammar, and its methods
-// stand in the index.
-pub fn name_fault(text: &[u8], methods: &[usize]) -> NameFault
-    requires { Indexed text.now methods.now }
-    ensures { Refuses text.now (fault_in result) }
-{
-    let lowest = lowest_fault(text, methods);
-    let main = find_word(text, methods, b"main");
-    if main.found {
-        return answer(lowest.found, lowest.at);
-    }
-    let end = lower_place(lowest.found, lowest.at, true, text.len());
-    NameFault::FaultAt(end)
 }

@@ -24,10 +24,8 @@ fn hash(text: &[u8], start: usize, end: usize) -> usize
     ensures { result ≡ hash_from 0 (slice start end text.now) }
 {
     let mut h = 0;
-    let mut i = start;
-    while i < end {
+    for i in start..end {
         h = mixed(h, wide(text[i]));
-        i += 1;
     }
     h
 }

@@ -1,21 +1,12 @@
 // The names declared in the blocks that are open, in a lent slice of three words for each of 1,024: where the name
 // starts and ends in the text, and the level of its block. A count of 1,025 says that one did not fit.
-ghost use Rattle.std.specs.Prelude.{◌≡◌, ◌∷◌, ◌<◌, ◌≤◌, length, get_or};
+ghost use Rattle.std.specs.Prelude.{◌≡◌, ◌∷◌, ◌<◌, ◌≤◌, length};
 ghost use Rattle.std.proofs.Math.Seq.{slice};
 ghost use Rattle.text_open.specs.OpenCode.{entry_of, open_of, is_this, is_open, leaving, open_after, Turns};
 
+use slices::at_or;
 use text_roles::level::level_of;
 use text_tokens::bytes::same_word;
-
-// A word, 0 past the end.
-fn word(words: &[usize], i: usize) -> usize
-    ensures { result ≡ get_or words.now i 0 }
-{
-    if i < words.len() {
-        return words[i];
-    }
-    0
-}
 
 // Entry j has the name, in a block of this level or a deeper one.
 fn is_this(text: &[u8], words: &[usize], j: usize, least: usize, start: usize, end: usize) -> bool
@@ -23,12 +14,12 @@ fn is_this(text: &[u8], words: &[usize], j: usize, least: usize, start: usize, e
     ensures { result ≡ is_this least (slice start end text.now)
         (entry_of text.now words.now j) }
 {
-    let level = word(words, 3 * j + 2);
+    let level = at_or(words, 3 * j + 2, 0);
     if level < least {
         return false;
     }
-    let other = word(words, 3 * j);
-    let stop = word(words, 3 * j + 1);
+    let other = at_or(words, 3 * j, 0);
+    let stop = at_or(words, 3 * j + 1, 0);
     same_word(text, start, end, other, stop)
 }
 
@@ -45,13 +36,10 @@ pub fn is_open(
     ensures { result ≡ is_open least (slice start end text.now)
         (open_of text.now words.now n) }
 {
-    let mut m = n;
-    while 0 < m {
-        let j = m - 1;
+    for j in (0..n).rev() {
         if is_this(text, words, j, least, start, end) {
             return true;
         }
-        m = j;
     }
     false
 }
@@ -79,16 +67,13 @@ fn pop(words: &[usize], n: usize, level: usize) -> usize
     if 1024 < n {
         return n;
     }
-    let mut left = n;
-    while 0 < left {
-        let j = left - 1;
-        let top = word(words, 3 * j + 2);
+    for j in (0..n).rev() {
+        let top = at_or(words, 3 * j + 2, 0);
         if top < level {
-            return left;
+            return j + 1;
         }
-        left = j;
     }
-    left
+    0
 }
 
 // The entries after a token of role r.

@@ -2,13 +2,12 @@
 use Prim.Native.Nat.{ℕ, suc, ◌≤◌, ◌<◌}
 use native.Mathlib.Omega.{arith}
 use mathlib.Core.Path.{◌≡◌, refl, sym, ap, ◌∙◌, subst}
-use mathlib.Core.Logic.{⊎_elim}
-use mathlib.Core.Bool.{Bool, true, false, cond, not, ◌||◌}
+use mathlib.Core.Logic.{◌⊎◌, ⊎_elim}
+use mathlib.Core.Bool.{Bool, true, false, cond}
 use mathlib.Core.List.{List}
-use borrow.Author.Tests.{eq-eqb, ne_eqb, leb-true}
-use lib.Dec.{leb}
+use borrow.Author.Tests.{eq-eqb, ne_eqb}
 use lib.ListN.{length}
-use Rattle.lists.proofs.Tests.{decide}
+use Rattle.lists.proofs.Tests.{decide, clash, passes}
 use Rattle.text.specs.Tree.{Expr, Exprs, no_more, also}
 use Rattle.text_parse.specs.Tokens.{Token}
 use Rattle.text_parse.specs.Grammar.{Reading, read, and_then, first, rest, next?, expect, Scopes}
@@ -105,11 +104,9 @@ module _ (scopes : Scopes) (text : List ℕ) where
 
   -- after an argument that no comma follows
   pub params-close : (i : ℕ) {q c ok : Bool} {place next at : ℕ} → q ≡ true → ExprSays i q place
-      → (not c || leb next i) ≡ true → Expected text place 25 c next → Expected text place 20 ok at → ParamsSay i ok
-      at
+      → (c ≡ false) ⊎ (next ≤ i) → Expected text place 25 c next → Expected text place 20 ok at → ParamsSay i ok at
   params-close i {q} {c} {ok} {place} {next} {at} y s z comma close =
       ⊎_elim
       (λ e. let far : i < next = params-further i y s e comma in
-      let near : next ≤ i = leb-true next i (sym (ap (λ (b : Bool). not b || leb next i) e) ∙ z) in absurd
-      (omega arith))
+      ⊎_elim (λ f. absurd (clash f (passes e))) (λ near. absurd (omega arith)) z)
       (λ e. params-end i y s e comma close) (decide c)

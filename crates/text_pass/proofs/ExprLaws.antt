@@ -23,6 +23,8 @@ use Rattle.text_expr.proofs.Same.{expr-passes}
 use Rattle.text_expr.proofs.Notes.{Continues}
 use Rattle.text_effect.specs.EffectCode.{phase_in, effect_in}
 use Rattle.text_window.specs.WindowCode.{counts_after, brackets_after, depth_after, stops_on, Window}
+use Rattle.std.specs.Prelude.{is_ok}
+use Rattle.text_types.specs.Answer.{place_at}
 use Rattle.text_pass.specs.WalkCode.{State, begins, doing, after, Leads, Standing, answer_of}
 use Rattle.text_effect.specs.declared.phase.Phase.{Phase}
 use Rattle.text_effect.specs.declared.phase.Effect.{Effect}
@@ -175,7 +177,7 @@ module _ (scopes : Scopes) (text : List ℕ) (from : ℕ) where
 
       -- the pass stops
       pub stop-says : (e : Effect) → stops_on e ≡ true → effect_in text e ≡ doing scopes text here
-          → ExprSays (answer_of at e).ok (answer_of at e).at (expr_from scopes ts)
+          → ExprSays (is_ok (answer_of at e)) (place_at (answer_of at e)) (expr_from scopes ts)
       unfolding stops_on effect_in answer_of
       stop-says (Stay p) h q = absurd (true≢false (sym h))
       stop-says Assigns h q = absurd (true≢false (sym h))

@@ -1,5 +1,4 @@
 pub mod MeasurementLaws
-pub mod RestLaws
 pub mod WalkLaws
 pub mod SeenLaws
 pub mod ExprLaws

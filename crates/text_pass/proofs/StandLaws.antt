@@ -23,6 +23,8 @@ use Rattle.text_expr.specs.LevelsCode.{innermost, is_open, action, known, phase_
 use Rattle.text_expr.proofs.Notes.{Continues, Right, action-known}
 use Rattle.text_effect.specs.EffectCode.{token, phase_in, effect_in, bracket_in}
 use Rattle.text_window.specs.WindowCode.{slot_of, cell, put, counts_after, brackets_after, depth_after, stops_on, note_at, Window, innermost_in}
+use Rattle.std.specs.Prelude.{is_ok}
+use Rattle.text_types.specs.Answer.{place_at}
 use Rattle.text_pass.specs.WalkCode.{State, begins, doing, Leads, there, Standing, Ready, answer_of}
 use Rattle.text_effect.specs.declared.phase.Phase.{Phase}
 use Rattle.text_effect.specs.declared.phase.Phase.TheVariants.{Operand}
@@ -150,7 +152,7 @@ module _ (scopes : Scopes) (text : List ℕ) (from : ℕ) where
         -- the pass stops, at the text's end at the latest
         pub ends-says : (e : Effect) → (stops_on e || eqb t.kind 32) ≡ true → effect_in text e ≡ doing scopes text
             Here
-            → Says text (suc from) (λ (x : Expr). Unit {0}) (answer_of at e).ok (answer_of at e).at
+            → Says text (suc from) (λ (x : Expr). Unit {0}) (is_ok (answer_of at e)) (place_at (answer_of at e))
             (expr_from scopes (tokens_at text from))
         ends-says e h q =
             ⊎_elim (λ y. stop-says scopes text from at phase room low depth counts brackets s e y q)

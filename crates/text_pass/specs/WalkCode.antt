@@ -1,5 +1,5 @@
 -- The pass over an expression by places: where it stands, and where it comes to. These definitions follow the code.
-use Rattle.std.specs.Prelude.{ℕ, ◌≡◌, true, false, List, []}
+use Rattle.std.specs.Prelude.{ℕ, ◌≡◌, true, List, [], Result, Ok, Err}
 use Rattle.text_parse.specs.Grammar.{Scopes, first}
 use Rattle.text_tokens.specs.Places.{tokens_at}
 use Rattle.text_tokens.specs.NextCode.{next_at}
@@ -11,7 +11,7 @@ use Rattle.text_window.specs.WindowCode.{Window, Held, asks_level}
 use Rattle.text_effect.specs.declared.phase.Phase.{Phase}
 use Rattle.text_effect.specs.declared.phase.Effect.{Effect}
 use Rattle.text_effect.specs.declared.phase.Effect.TheVariants.{Stay, Assigns, Unassigns, OpensBracket, OpensCall, Closes, NextArgument, Astray, Beyond}
-use Rattle.text_pass.specs.declared.walk.WalkAt.{WalkAt}
+use Rattle.text_types.specs.declared.place.GrammarError.{GrammarError}
 
 -- a place, the phase there, the assignments that are open within the innermost level, and the levels
 pub record State : Type 0 where
@@ -65,13 +65,13 @@ abbrev pub Ready : Phase → ℕ → ℕ → ℕ → ℕ → Type 0
 Ready phase kind room low depth = asks_level phase kind ≡ true → Held room low depth
 
 -- the answer at an effect that stops the pass
-unfoldable pub answer_of : ℕ → Effect → WalkAt
-answer_of at (Stay p) = record { known = true; ok = true; at = at }
-answer_of at Assigns = record { known = true; ok = true; at = at }
-answer_of at Unassigns = record { known = true; ok = true; at = at }
-answer_of at OpensBracket = record { known = true; ok = true; at = at }
-answer_of at OpensCall = record { known = true; ok = true; at = at }
-answer_of at Closes = record { known = true; ok = true; at = at }
-answer_of at NextArgument = record { known = true; ok = true; at = at }
-answer_of at (Astray i) = record { known = true; ok = false; at = i }
-answer_of at Beyond = record { known = true; ok = true; at = at }
+unfoldable pub answer_of : ℕ → Effect → Result ℕ GrammarError
+answer_of at (Stay p) = Ok at
+answer_of at Assigns = Ok at
+answer_of at Unassigns = Ok at
+answer_of at OpensBracket = Ok at
+answer_of at OpensCall = Ok at
+answer_of at Closes = Ok at
+answer_of at NextArgument = Ok at
+answer_of at (Astray i) = Err (record { at = i })
+answer_of at Beyond = Ok at

@@ -1,11 +1,12 @@
 // The pass over an expression: one loop over its tokens. Where a token asks for levels that are not kept, the pass goes
 // over the expression's tokens once more, from the first on, and keeps others. It does so first with room for few
 // levels, where it does not: an expression that needs more is read anew with room for many.
-ghost use Rattle.std.specs.Prelude.{◌≡◌, true, false, suc, ◌≤◌, length};
+ghost use Rattle.std.specs.Prelude.{◌≡◌, true, suc, ◌≤◌, length, is_ok, is_some, IfSome, unwrap_or};
 ghost use Rattle.text.specs.Tree.{Expr};
 ghost use Rattle.text_parse.specs.Grammar.{Scopes};
 ghost use Rattle.text_parse.specs.Equations.{expr_from};
 ghost use Rattle.text_tokens.specs.Places.{tokens_at};
+ghost use Rattle.text_types.specs.Answer.{place_at};
 ghost use Rattle.text_types.specs.SaysCode.{Says};
 ghost use Rattle.text_scopes.specs.OpenCode.{Opened};
 ghost use Rattle.text_expr.specs.LevelsCode.{action};
@@ -18,6 +19,7 @@ use text_effect::phase::{CALL, Effect, Phase};
 use text_scopes::is_withends;
 use text_tokens::kinds::{ASSIGN, END};
 use text_tokens::next::{TokenAt, next_token};
+use text_types::place::GrammarError;
 use text_window::window::{
     asks_level, assigning, depth_after, holds, innermost, low_for, note_brackets, note_counts,
     phase_after, put_count, stops,
@@ -59,39 +61,13 @@ fn effect_at(
     effect_of(text, phase, ends, assigning, innermost, t)
 }
 
-// Where known, the answer for the expression; else it asks for levels that are not kept.
-#[derive(Drop)]
-pub struct WalkAt {
-    pub known: bool,
-    pub ok: bool,
-    pub at: usize,
-}
-
 // The answer at an effect that stops the pass.
-fn answer(e: Effect, at: usize) -> WalkAt
+fn answer(e: Effect, at: usize) -> Result<usize, GrammarError>
     ensures { result ≡ answer_of at e }
 {
     match e {
-        Effect::Astray(i) => WalkAt {
-            known: true,
-            ok: false,
-            at: i,
-        },
-        _ => WalkAt {
-            known: true,
-            ok: true,
-            at: at,
-        },
-    }
-}
-
-fn no_answer(at: usize) -> WalkAt
-    ensures { result.known ≡ false }
-{
-    WalkAt {
-        known: false,
-        ok: false,
-        at: at,
+        Effect::Astray(i) => Err(GrammarError { at: i }),
+        _ => Ok(at),
     }
 }
 
@@ -132,14 +108,8 @@ fn replay(
     }
 }
 
-// Whether the levels that a token asks for are kept, and the first level that is.
-#[derive(Drop)]
-struct LevelsAt {
-    known: bool,
-    low: usize,
-}
-
-// The levels that a token of this kind asks for: where they are not kept they are found again, if that is wanted.
+// The first level that is kept, where the levels that a token of this kind asks for are: where they are not, they are
+// found again, if that is wanted, and else there is none.
 fn ready(
     text: &[u8],
     from: usize,
@@ -153,44 +123,33 @@ fn ready(
     depth: usize,
     counts: &mut [usize],
     brackets: &mut [u8],
-) -> LevelsAt
+) -> Option<usize>
     requires { (length brackets.old ≡ length counts.old) × (2 ≤ length counts.old) }
     ensures { ((scopes : Scopes) → Opened text.now starts.now n scopes → n ≤ 32
         → Standing scopes text.now from at phase (length counts.old) low depth
         counts.old brackets.old
-        → Standing scopes text.now from at phase (length counts.old) result.low depth
+        → Standing scopes text.now from at phase (length counts.old) (unwrap_or result low) depth
         counts.new brackets.new)
-        × (result.known ≡ true → Ready phase kind (length counts.old) result.low depth)
-        × (again ≡ true → result.known ≡ true) }
+        × IfSome result (λ l. Ready phase kind (length counts.old) l depth)
+        × (again ≡ true → is_some result ≡ true) }
 {
-    if !asks_level(phase, kind) {
-        return LevelsAt {
-            known: true,
-            low: low,
-        };
-    }
     let room = counts.len();
+    if !asks_level(phase, kind) {
+        return Some(low);
+    }
     if holds(room, low, depth) {
-        return LevelsAt {
-            known: true,
-            low: low,
-        };
+        return Some(low);
     }
     if !again {
-        return LevelsAt {
-            known: false,
-            low: low,
-        };
+        return None;
     }
     let lower = low_for(room, depth);
     replay(text, from, at, starts, n, lower, counts, brackets);
-    LevelsAt {
-        known: true,
-        low: lower,
-    }
+    Some(lower)
 }
 
-// The pass; levels are found again if that is wanted.
+// The answer for the expression, or none where it asks for levels that are not kept. They are found again if that is
+// wanted.
 fn walk(
     text: &[u8],
     from: usize,
@@ -199,11 +158,11 @@ fn walk(
     again: bool,
     counts: &mut [usize],
     brackets: &mut [u8],
-) -> WalkAt
+) -> Option<Result<usize, GrammarError>>
     requires { (length brackets.old ≡ length counts.old) × (2 ≤ length counts.old) }
     ensures { ((scopes : Scopes) → Opened text.now starts.now n scopes → n ≤ 32
-        → result.known ≡ true → Says text.now (suc from) (λ (e : Expr). Unit {0}) result.ok result.at
-        (expr_from scopes (tokens_at text.now from))) × (again ≡ true → result.known ≡ true) }
+        → IfSome result (λ r. Says text.now (suc from) (λ (e : Expr). Unit {0}) (is_ok r) (place_at r)
+        (expr_from scopes (tokens_at text.now from)))) × (again ≡ true → is_some result ≡ true) }
 {
     put_count(counts, 0, 0, 0);
     let mut at = from;
@@ -212,19 +171,15 @@ fn walk(
     let mut low = 0;
     loop {
         let t = next_token(text, at);
-        let levels = ready(
+        low = ready(
             text, from, at, starts, n, phase, t.kind, again, low, depth, counts, brackets,
-        );
-        low = levels.low;
-        if !levels.known {
-            return no_answer(at);
-        }
+        )?;
         let within = assigning(counts, low, depth);
         let bracket = innermost(brackets, low, depth);
         let e = effect_at(text, starts, n, phase, within, bracket, t);
         // The end of the text stops the pass by itself; that it does is not known here, where no blocks are.
         if stops(e) | (t.kind == END) {
-            return answer(e, at);
+            return Some(answer(e, at));
         }
         note_counts(counts, low, depth, e);
         note_brackets(brackets, low, depth, e);
@@ -235,10 +190,15 @@ fn walk(
 }
 
 // With room for few levels, which is soon made: nearly every expression.
-pub fn walk_shallow(text: &[u8], from: usize, starts: &[usize; 32], n: usize) -> WalkAt
+pub fn walk_shallow(
+    text: &[u8],
+    from: usize,
+    starts: &[usize; 32],
+    n: usize,
+) -> Option<Result<usize, GrammarError>>
     ensures { (scopes : Scopes) → Opened text.now starts.now n scopes → n ≤ 32
-        → result.known ≡ true → Says text.now (suc from) (λ (e : Expr). Unit {0}) result.ok result.at
-        (expr_from scopes (tokens_at text.now from)) }
+        → IfSome result (λ r. Says text.now (suc from) (λ (e : Expr). Unit {0}) (is_ok r) (place_at r)
+        (expr_from scopes (tokens_at text.now from))) }
 {
     let mut counts = [0usize; 32];
     let mut brackets = [0u8; 32];
@@ -246,12 +206,17 @@ pub fn walk_shallow(text: &[u8], from: usize, starts: &[usize; 32], n: usize) ->
 }
 
 // With room for many, and levels found again.
-pub fn walk_deep(text: &[u8], from: usize, starts: &[usize; 32], n: usize) -> WalkAt
+pub fn walk_deep(
+    text: &[u8],
+    from: usize,
+    starts: &[usize; 32],
+    n: usize,
+) -> Result<usize, GrammarError>
     ensures { (scopes : Scopes) → Opened text.now starts.now n scopes → n ≤ 32
-        → Says text.now (suc from) (λ (e : Expr). Unit {0}) result.ok result.at
+        → Says text.now (suc from) (λ (e : Expr). Unit {0}) (is_ok result) (place_at result)
         (expr_from scopes (tokens_at text.now from)) }
 {
     let mut counts = [0usize; 8192];
     let mut brackets = [0u8; 8192];
-    walk(text, from, starts, n, true, &mut counts, &mut brackets)
+    walk(text, from, starts, n, true, &mut counts, &mut brackets).unwrap()
 }

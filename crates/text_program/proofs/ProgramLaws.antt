@@ -7,11 +7,12 @@ use borrow.Author.Tests.{eq-eqb, ne_eqb}
 use lib.ListN.{length}
 use Rattle.lists.proofs.Tests.{clash, passes}
 use Rattle.text.specs.Tree.{Method, Program}
-use Rattle.text_parse.specs.Tokens.{Token}
+use Rattle.text_parse.specs.Tokens.{Token, tokens_of}
 use Rattle.text_parse.specs.Grammar.{Reading, read, leaves, and_then, first, at_text_end, program_of}
 use Rattle.text_parse.specs.Equations.{method_from, program_rule}
 use Rattle.text_parse.proofs.Equations.{grammar}
 use Rattle.text_tokens.specs.Places.{tokens_at}
+use Rattle.text_tokens.proofs.Tokenwise.{tokens-at-start}
 use Rattle.text_tokens.proofs.KindTests.{is-end}
 use Rattle.text_types.specs.SaysCode.{next_kind, reads, leaves-at}
 use Rattle.text_statements.specs.WithinCode.{Reads}
@@ -70,3 +71,8 @@ module _ (text : List ℕ) (i : ℕ) where
         rw (grammar.program-is (tokens_at text i))
         (by-method (λ r. ProgramSays text ok at r) (method_from (tokens_at text i)) s
         (λ e. absurd (clash e (passes t))) (λ e m. rw on (more-says text m (program_of (tokens_at text p)) later)))
+
+-- the first method begins where the text does
+pub from-start : (text : List ℕ) {ok : Bool} {at : ℕ} → From text 0 ok at
+    → ProgramSays text ok at (program_of (tokens_of text))
+from-start text {ok} {at} s = subst (λ ts. ProgramSays text ok at (program_of ts)) (sym (tokens-at-start text)) s

@@ -8,7 +8,7 @@ use lib.Seq.{get_or-take, take-length}
 use Rattle.lists.specs.Lists.{put_from}
 use Rattle.lists.proofs.Put.{put_from-take}
 use Rattle.text.specs.Translation.{Instruction, instruction, code_words}
-use Rattle.text.proofs.Elements.{nth, nth-there}
+use Rattle.text.proofs.Elements.{nth-there}
 use Rattle.text.proofs.Words.{code_at, code_words-length}
 use Rattle.text_put.specs.TableCode.{argument_by, code_to}
 use Rattle.text_put.proofs.Ordered.{take_nth, code-append}

@@ -1,16 +1,15 @@
 -- Laws of the words that the code writes, one step at a time.
 use Prim.Native.Nat.{ℕ, zero, suc, ◌+◌, ◌*◌, ◌-◌, ◌%◌, ◌≤◌, ◌<◌}
 use native.Mathlib.Omega.{arith}
-use native.Mathlib.Numerals.{add-one}
 use mathlib.Core.Path.{◌≡◌, refl, sym, ap, ◌∙◌}
-use mathlib.Core.Bool.{Bool, true, false, cond, ◌||◌}
-use mathlib.Core.List.{List, [], ◌∷◌, ◌++◌, map}
+use mathlib.Core.Bool.{true, false, ◌||◌}
+use mathlib.Core.List.{List, [], ◌∷◌, ◌++◌}
 use lib.ListN.{length, take, drop, get_or, length-append, length-map}
-use lib.Seq.{slice, slice_empty, take-suc, drop-append-le, length-take-le, length-slice}
+use lib.Seq.{slice, take-suc, drop-append-le, length-take-le, length-slice}
 use lib.Dec.{eqb, leb}
 use borrow.Author.Tests.{le-leb, lt-leb, lt-ltb, le-ltb, eq-eqb, ne_eqb}
 use Rattle.lists.proofs.Put.{Put, put_then, put_same}
-use Rattle.lists.proofs.Tests.{decide, cond-each}
+use Rattle.lists.proofs.Tests.{cond-each}
 use Rattle.text_parse.specs.Grammar.{first}
 use Rattle.text_tokens.specs.declared.next.TokenAt.{TokenAt}
 use Rattle.text_tokens.specs.NextCode.{NextToken}

@@ -4,16 +4,14 @@ ghost use Rattle.std.proofs.Math.Seq.{slice};
 ghost use Rattle.text_put.specs.TableCode.{Writes, pairs_to, rows_to};
 
 use crate::order::index_in;
+use slices::put;
 use table::words::word_at;
 
 pub fn put_word(table: &mut [u16], at: usize, v: usize) -> usize
     requires { at < 90000 }
     ensures { Writes table.old at (v ∷ []) table.new result }
 {
-    if at < table.len() {
-        table[at] = (v % 65536) as u16;
-        return at + 1;
-    }
+    put(table, at, (v % 65536) as u16);
     at + 1
 }
 
@@ -36,15 +34,13 @@ pub fn put_pairs(
     requires { (methods ≤ 32) × (main < 32) × (at < 70000) }
     ensures { Writes table.old at (pairs_to lengths.now main methods) table.new result }
 {
-    let mut k = 0;
     let mut offset = 0;
     let mut i = at;
-    while k < methods {
+    for k in 0..methods {
         let j = index_in(main, k);
         let long = word_at(lengths, j);
         i = put_pair(table, i, offset, long);
         offset += long;
-        k += 1;
     }
     i
 }
@@ -53,12 +49,10 @@ fn put_row(rows: &[u16], from: usize, table: &mut [u16], at: usize) -> usize
     requires { (from + 18 ≤ length rows.now) × (from < 600) × (at < 80000) }
     ensures { Writes table.old at (slice from (from + 18) rows.now) table.new result }
 {
-    let mut k = 0;
     let mut i = at;
-    while k < 18 {
+    for k in 0..18 {
         let v = word_at(rows, from + k);
         i = put_word(table, i, v);
-        k += 1;
     }
     i
 }
@@ -68,12 +62,10 @@ pub fn put_rows(rows: &[u16], main: usize, methods: usize, table: &mut [u16], at
     requires { (length rows.now ≡ 576) × (methods ≤ 32) × (main < 32) × (at < 70000) }
     ensures { Writes table.old at (rows_to rows.now main methods) table.new result }
 {
-    let mut k = 0;
     let mut i = at;
-    while k < methods {
+    for k in 0..methods {
         let j = index_in(main, k);
         i = put_row(rows, 18 * j, table, i);
-        k += 1;
     }
     i
 }

@@ -9,7 +9,7 @@ ghost use Rattle.text_rows.specs.Header.{header_words};
 
 use crate::parameters::parameter_types;
 use text_tokens::kinds::{NAME, OPEN};
-use text_types::place::{PlaceAt, expect_after};
+use text_types::place::expect;
 use text_types::types::return_type;
 
 // The row of the method whose header begins at a place.
@@ -18,13 +18,16 @@ pub fn header_row(text: &[u8], at: usize) -> [u16; 18]
         → result ≡ header_words m }
 {
     let mut row = [0u16; 18];
-    let t = return_type(text, at);
-    let name = expect_after(text, PlaceAt { ok: t.ok, at: t.at }, NAME);
-    let open = expect_after(text, name, OPEN);
-    row[0] = t.code as u16;
-    if !open.ok {
+    let Ok(t) = return_type(text, at) else {
         return row;
-    }
-    parameter_types(text, open.at, &mut row);
+    };
+    row[0] = t.code as u16;
+    let Ok(name) = expect(text, t.at, NAME) else {
+        return row;
+    };
+    let Ok(open) = expect(text, name, OPEN) else {
+        return row;
+    };
+    parameter_types(text, open, &mut row);
     row
 }

@@ -1,22 +1,19 @@
 // The types of a method's parameters, noted in a row: word 1 counts them, and the first 16 stand from word 2 on.
-ghost use Rattle.std.specs.Prelude.{◌≡◌};
+ghost use Rattle.std.specs.Prelude.{◌≡◌, is_ok};
+ghost use Rattle.text_types.specs.Answer.{type_place, type_code_in};
 ghost use Rattle.text_rows.specs.NotedCode.{noted, ParameterType, RestNotes, ParametersNote};
 
 use text_tokens::kinds::{CLOSE, COMMA, NAME};
-use text_types::place::{PlaceAt, expect, expect_after, next_kind};
+use text_types::place::{GrammarError, expect};
 use text_types::types::{TypeAt, non_void_type};
 
 // "methodDeclParam ::= nonVoidType paramName"
-fn parameter_type(text: &[u8], from: usize) -> TypeAt
-    ensures { ParameterType text.now from result.ok result.at result.code }
+fn parameter_type(text: &[u8], from: usize) -> Result<TypeAt, GrammarError>
+    ensures { ParameterType text.now from (is_ok result) (type_place result) (type_code_in result) }
 {
-    let t = non_void_type(text, from);
-    let name = expect_after(text, PlaceAt { ok: t.ok, at: t.at }, NAME);
-    TypeAt {
-        ok: name.ok,
-        at: name.at,
-        code: t.code,
-    }
+    let t = non_void_type(text, from)?;
+    let at = expect(text, t.at, NAME)?;
+    Ok(TypeAt { at, ..t })
 }
 
 // One parameter more.
@@ -39,16 +36,12 @@ fn more_types(text: &[u8], from: usize, row: &mut [u16; 18])
     ensures { RestNotes text.now from row.old row.new }
 {
     let mut at = from;
-    let mut kind = next_kind(text, at);
-    while kind == COMMA {
-        let comma = expect(text, at, COMMA);
-        let p = parameter_type(text, comma.at);
-        if !p.ok {
+    while let Ok(comma) = expect(text, at, COMMA) {
+        let Ok(p) = parameter_type(text, comma) else {
             return;
-        }
+        };
         note(row, p.code);
         at = p.at;
-        kind = next_kind(text, at);
     }
 }
 
@@ -56,14 +49,12 @@ fn more_types(text: &[u8], from: usize, row: &mut [u16; 18])
 pub fn parameter_types(text: &[u8], from: usize, row: &mut [u16; 18])
     ensures { ParametersNote text.now from row.old row.new }
 {
-    let close = expect(text, from, CLOSE);
-    if close.ok {
+    if let Ok(_) = expect(text, from, CLOSE) {
         return;
     }
-    let p = parameter_type(text, from);
-    if !p.ok {
+    let Ok(p) = parameter_type(text, from) else {
         return;
-    }
+    };
     note(row, p.code);
     more_types(text, p.at, row);
 }

@@ -9,6 +9,7 @@ use borrow.Author.Tests.{eq-eqb, ne_eqb, eqb-true}
 use lib.Dec.{eqb}
 use lib.ListN.{get_or}
 use Rattle.lists.specs.Lists.{same}
+use Rattle.lists.proofs.Tests.{clash, passes}
 use Rattle.text.specs.Tree.{Name, Declared, declared_by, Parameter, parameter_of}
 use Rattle.text_parse.specs.Tokens.{Token}
 use Rattle.text_parse.specs.Grammar.{Reading, read, first, rest, next?, Scopes, declared_here, has_ends_or, is_withends}
@@ -18,7 +19,7 @@ use Rattle.text_tokens.proofs.KindTests.{is-open-brace}
 use Rattle.text_types.specs.SaysCode.{next_kind, Expected, Says, reads}
 use Rattle.text_types.specs.Found.{found_by, found_in, found_among, or_else}
 use Rattle.text_types.specs.FoundCode.{ParametersSay}
-use Rattle.text_types.proofs.Answers.{passed-found}
+use Rattle.text_types.proofs.Answers.{passed-found, ok-missing}
 use Rattle.text_types.proofs.Finding.{found-append}
 use Rattle.text_scopes.specs.OpenCode.{BlockAt, BodyAt, Opened, method-body, inner_block}
 
@@ -123,16 +124,32 @@ module _ (text w : List ℕ) where
           → (us ≡ tokens_at text at) × (found_in w (map parameter_of ps) ≡ f)
       inverted (reads o u h l p) = (u, p)
 
+  -- the parameters of a body are read, and a brace stands after them
+  pub body-read : (i : ℕ) {at f : ℕ} {ds : List Declared} → BodyAt text i ds → ParametersSay text w i false at f → ⊥
+  body-read i {at} {f} b s = refused (subst (Says text (suc i) (λ qs. found_in w (map parameter_of qs) ≡ f) false at) b.header s)
+    where
+      refused : {ps : List Parameter} {us : List Token}
+          → Says text (suc i) (λ qs. found_in w (map parameter_of qs) ≡ f) false at (read ps us) → ⊥
+      refused (reads o u h l p) = clash refl (passes o)
+
+  body-brace : (i : ℕ) {ok : Bool} {at f : ℕ} {ds : List Declared} → BodyAt text i ds → ParametersSay text w i ok at f
+      → next_kind text at ≡ 21
+  body-brace i {ok} {at} b s =
+      eqb-true (next_kind text at) 21
+      (sym (is-open-brace (first (tokens_at text at)))
+      ∙ ap (λ us. next? "{" us) (sym (read-parameters i b.header s).0) ∙ b.brace)
+
+  pub body-opens : (i : ℕ) {ok : Bool} {at f place : ℕ} {ds : List Declared} → BodyAt text i ds
+      → ParametersSay text w i ok at f → Expected text at 21 false place → ⊥
+  body-opens i {ok} {at} b s e = ok-missing text at 21 refl e (body-brace i b s)
+
   pub body-found : (i : ℕ) {ok q : Bool} {at f place : ℕ} (g : ℕ) (ds : List Declared) → BodyAt text i ds
       → ParametersSay text w i ok at f → Expected text at 21 q place
       → g ≡ found_among w (declarations_from [] (tokens_at text place)) → or_else f g ≡ found_in w ds
   unfolding found_among
   body-found i {ok} {q} {at} {f} {place} g ds b s e h =
       let both = read-parameters i b.header s in
-      let brace : next_kind text at ≡ 21 =
-      eqb-true (next_kind text at) 21 (sym (is-open-brace (first (tokens_at text at)))
-      ∙ ap (λ us. next? "{" us) (sym both.0) ∙ b.brace) in
-      let pass = passed-found text at 21 (λ k. omega arith) brace e in
+      let pass = passed-found text at 21 (λ k. omega arith) (body-brace i b s) e in
       let later : declarations_from [] (tokens_at text place) ≡ read b.list b.after =
       ap (declarations_from []) (sym (ap rest both.0 ∙ pass.after)) ∙ b.reading in
       ap (λ (k : ℕ). or_else f k) (h ∙ ap (found_among w) later)

@@ -5,11 +5,12 @@ ghost use Rattle.std.specs.Prelude.{◌≡◌, List, ◌≤◌, ◌<◌, get_or}
 ghost use Rattle.std.proofs.Math.Seq.{slice};
 ghost use Rattle.text.specs.Tree.{Name, Declared};
 ghost use Rattle.text_parse.specs.Grammar.{Scopes, is_withends};
+ghost use Rattle.text_types.specs.Answer.{declared_number};
 ghost use Rattle.text_types.specs.Found.{found_in};
 ghost use Rattle.text_scopes.specs.OpenCode.{BodyAt, Opened};
 
 use text_tokens::kinds::OPEN_BRACE;
-use text_types::found::or_else;
+use text_types::found::DeclaredAs;
 use text_types::lookup::declared_in;
 use text_types::parameters::parameters;
 use text_types::place::expect;
@@ -26,14 +27,17 @@ fn start_of(starts: &[usize; 32], k: usize) -> usize
 
 // What a method's parameters, which begin here, and the declarations of its body say of a name. "Of two declarations in
 // one block the first stands": the parameters come first.
-fn body_says(text: &[u8], from: usize, start: usize, end: usize) -> u8
+fn body_says(text: &[u8], from: usize, start: usize, end: usize) -> Option<DeclaredAs>
     ensures { (ds : List Declared) → BodyAt text.now from ds
-        → result ≡ found_in (slice start end text.now) ds }
+        → declared_number result ≡ found_in (slice start end text.now) ds }
 {
-    let p = parameters(text, from, start, end);
-    let brace = expect(text, p.at, OPEN_BRACE);
-    let declared = declared_in(text, brace.at, start, end);
-    or_else(p.found, declared)
+    let Ok(p) = parameters(text, from, start, end) else {
+        return None;
+    };
+    let Ok(brace) = expect(text, p.at, OPEN_BRACE) else {
+        return None;
+    };
+    p.found.or(declared_in(text, brace, start, end))
 }
 
 // The name stands at start up to end; n blocks are open, and `starts` has the places at which their declarations begin
@@ -45,10 +49,15 @@ pub fn is_withends(text: &[u8], starts: &[usize; 32], n: usize, start: usize, en
     let mut blocks = n;
     while 1 < blocks {
         blocks -= 1;
-        let found = declared_in(text, start_of(starts, blocks), start, end);
-        if found != 0 {
-            return found == 2;
+        match declared_in(text, start_of(starts, blocks), start, end) {
+            Some(DeclaredAs::WithEnds) => return true,
+            Some(DeclaredAs::Variable) => return false,
+            None => {}
         }
     }
-    body_says(text, start_of(starts, 0), start, end) == 2
+    match body_says(text, start_of(starts, 0), start, end) {
+        Some(DeclaredAs::WithEnds) => true,
+        Some(DeclaredAs::Variable) => false,
+        None => false,
+    }
 }

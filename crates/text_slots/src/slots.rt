@@ -21,9 +21,7 @@ pub fn slot_of(text: &[u8], scope: &[usize; 64], n: usize, start: usize, end: us
             ends: false,
         };
     }
-    let mut k = n;
-    while 0 < k {
-        k -= 1;
+    for k in (0..n).rev() {
         if same_word(text, start, end, scope[4 * k], scope[4 * k + 1]) {
             return SlotAt {
                 slot: scope[4 * k + 3],

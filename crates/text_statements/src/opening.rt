@@ -1,21 +1,17 @@
 // The declarations at the start of a block, and the place at which they begin.
-ghost use Rattle.std.specs.Prelude.{◌≡◌, ℕ, ◌<◌, get_or};
-ghost use Rattle.text_types.specs.SaysCode.{On};
+ghost use Rattle.std.specs.Prelude.{◌≡◌, ℕ, ◌<◌, get_or, is_ok};
+ghost use Rattle.text_types.specs.Answer.{place_at};
 ghost use Rattle.text_statements.specs.WithinCode.{DeclarationsEnd};
 
 use text_types::declarations::declarations;
-use text_types::place::PlaceAt;
+use text_types::place::GrammarError;
 
-// "varDeclaration ::= (oneVarDecl ;)*", after what is read. No name is looked for.
-pub fn declarations_after(text: &[u8], p: PlaceAt) -> PlaceAt
-    ensures { On p.ok p.at result.ok result.at
-        (DeclarationsEnd text.now p.at result.ok result.at) }
+// "varDeclaration ::= (oneVarDecl ;)*". No name is looked for.
+pub fn past_declarations(text: &[u8], from: usize) -> Result<usize, GrammarError>
+    ensures { DeclarationsEnd text.now from (is_ok result) (place_at result) }
 {
-    if !p.ok {
-        return p;
-    }
-    let d = declarations(text, p.at, 0, 0);
-    PlaceAt { ok: d.ok, at: d.at }
+    let d = declarations(text, from, 0, 0)?;
+    Ok(d.at)
 }
 
 // The places of the open blocks with that of block n, which opens.

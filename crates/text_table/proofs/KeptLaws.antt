@@ -4,21 +4,21 @@ use Prim.Native.Nat.{ℕ, zero, suc, ◌+◌, ◌*◌, ◌≤◌, ◌<◌}
 use native.Mathlib.Omega.{arith}
 use native.Mathlib.Nat.{eq-or-lt_of_le, le_of_suc-le-suc}
 use mathlib.Core.Path.{◌≡◌, refl, sym, ap, ap₂, ◌∙◌}
-use mathlib.Core.List.{List, [], ◌∷◌, ◌++◌, map, append-nil}
+use mathlib.Core.List.{List, [], ◌∷◌, map, append-nil}
 use mathlib.Core.Logic.{◌⊎◌, inl, inr}
 use mathlib.Core.Option.{some}
 use lib.ListN.{get_or, length, take, drop, length-append, length-map}
 use lib.Seq.{take-length, get_or-take}
 use Rattle.table.specs.Table.{word}
 use Rattle.text.specs.Tree.{Method, Program, main_first, method_at}
-use Rattle.text.specs.Translation.{Instruction, method_code, program_code, code_words}
+use Rattle.text.specs.Translation.{method_code, program_code, code_words}
 use Rattle.text.proofs.Order.{main_first-code}
 use Rattle.text.proofs.Words.{method-there, method-within}
 use Rattle.text.proofs.Limited.{translated-limited}
 use Rattle.text_numbering.specs.CodeBy.{place_of}
 use Rattle.text_code.specs.StatementBy.{method_by}
-use Rattle.text_code.specs.KeptCode.{CodeOf, offset_in, CodeKept}
-use Rattle.text_put.specs.TableCode.{called_at, code_to, argument_by}
+use Rattle.text_code.specs.KeptCode.{CodeOf, offset_in}
+use Rattle.text_put.specs.TableCode.{called_at, code_to}
 use Rattle.text_put.specs.Measures.{TableText}
 use Rattle.text_put.proofs.MainAt.{MainStands}
 use Rattle.text_put.proofs.Ordered.{take-method, program-append}

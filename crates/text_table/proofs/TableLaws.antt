@@ -1,14 +1,15 @@
 -- The table of a text, from what is written one after the other.
-use Prim.Native.Nat.{ℕ, ◌+◌, ◌≤◌, ◌<◌}
+use Prim.Native.Nat.{ℕ, ◌≤◌, ◌<◌}
 use native.Mathlib.Omega.{arith}
 use mathlib.Core.Path.{◌≡◌, refl, sym, ap, subst, ◌∙◌}
-use mathlib.Core.Bool.{Bool, false}
+use mathlib.Core.Bool.{false}
 use mathlib.Core.List.{List, [], ◌∷◌, ◌++◌, append_assoc}
 use mathlib.Core.Option.{some, none-ne-some}
 use lib.ListN.{length, length-append}
 use Rattle.lists.specs.Lists.{put_from}
 use Rattle.lists.proofs.Put.{put_same}
 use Rattle.table.specs.Table.{word}
+use Rattle.std.specs.Prelude as P
 use Rattle.text.specs.Tree.{ascii, Name, Program, main_first, without_main, method_at, method_of}
 use Rattle.text.specs.Translation.{method_code, program_code, code_words}
 use Rattle.text.specs.Statement.{text_table}
@@ -16,6 +17,7 @@ use Rattle.text.proofs.Order.{main_first-length, main_first-code}
 use Rattle.text.proofs.Words.{method-within, code_words-length}
 use Rattle.text.proofs.Limited.{translated-limited}
 use Rattle.text_methods.specs.MethodSays.{MethodSays, stands, absent, MethodOf}
+use Rattle.text_methods.specs.declared.find.MethodAt.{MethodAt}
 use Rattle.text_put.specs.TableCode.{Writes, number_in, pairs_to, rows_to}
 use Rattle.text_put.specs.Measures.{TableText, Measures}
 use Rattle.text_put.proofs.MainAt.{MainStands, order_is, number_at, main-number, index_at}
@@ -78,24 +80,27 @@ module _ {text : List ℕ} {ns : Program} (g : TableText text ns) where
       ap (method_at ns) (index-main (length p.before) 0 refl) ∙ sym (index_at ns p 0)
       ∙ ap (λ ms. method_at ms 0) (order_is ns p)
 
-  main-found : {found : Bool} {index at params : ℕ} → MethodOf text (ascii "main") found index at params
-      → index ≡ length p.before
-  main-found {found} {index} {at} {params} f = by (f ns g.left 0 g.reads)
-    where
-      x : Name
-      x = record { spelling = ascii "main"; at = 0 }
+  abbrev x : Name
+  x = record { spelling = ascii "main"; at = 0 }
 
-      by : MethodSays text ns x found index at params → index ≡ length p.before
-      by (stands m us e o r q i) = i ∙ main-number ns p x refl
-      by (absent e o i) = absurd (none-ne-some p.one (sym o ∙ main-of x refl))
+  main-found : {m : MethodAt} → MethodOf text (ascii "main") (P.Some m) → m.index ≡ length p.before
+  main-found {m} f = by (f ns g.left 0 g.reads)
+    where
+      by : MethodSays text ns x (P.Some m) → m.index ≡ length p.before
+      by (stands k us o r q i) = i ∙ main-number ns p x refl
+
+  pub main-missing : MethodOf text (ascii "main") P.None → ⊥
+  main-missing f = by (f ns g.left 0 g.reads)
+    where
+      by : MethodSays text ns x P.None → ⊥
+      by (absent o) = none-ne-some p.one (sym o ∙ main-of x refl)
 
   pub few-methods : {methods instructions : ℕ} {lengths rows : List ℕ}
       → Measures ns methods instructions lengths rows → methods ≤ 32
   few-methods d =
       omega (arith, d.count, main_first-length ns, (translated-limited (length text) ns g.kept).few)
 
-  pub index-small : {found : Bool} {index at params : ℕ} → MethodOf text (ascii "main") found index at params
-      → index ≤ 31
+  pub index-small : {m : MethodAt} → MethodOf text (ascii "main") (P.Some m) → m.index ≤ 31
   index-small f =
       omega (
         arith,
@@ -121,27 +126,26 @@ module _ {text : List ℕ} {ns : Program} (g : TableText text ns) where
 
   pub all-written : {methods instructions : ℕ} {lengths rows : List ℕ} (kept : List ℕ)
       → Measures ns methods instructions lengths rows → CodeKept ns methods lengths kept
-      → {found : Bool} {index at params : ℕ} → MethodOf text (ascii "main") found index at params → (table : List ℕ)
-      {mid next end : List ℕ} {i j r : ℕ}
-      → Writes table 0 (head_words methods instructions lengths rows index) mid i → i ≤ 642
-      → (from long : ℕ) → from ≡ offset_in lengths index → long ≡ word lengths index
-      → PutsOne text index false kept from long mid i next j
-      → ((ns : Program) → Writing text ns index → methods ≡ length ns → Lengths ns lengths
+      → {m : MethodAt} → MethodOf text (ascii "main") (P.Some m) → (table : List ℕ) {mid next end : List ℕ} {i j r : ℕ}
+      → Writes table 0 (head_words methods instructions lengths rows m.index) mid i → i ≤ 642
+      → (from long : ℕ) → from ≡ offset_in lengths m.index → long ≡ word lengths m.index
+      → PutsOne text m.index false kept from long mid i next j
+      → ((ns : Program) → Writing text ns m.index → methods ≡ length ns → Lengths ns lengths
       → CodeKept ns methods lengths kept → j ≤ 9000
       → Writes next j (code_words (program_code (main_first ns) (without_main ns))) end r)
       → (end ≡ put_from table 0 (text_table ns)) × (r ≡ length (text_table ns))
-  all-written {methods} {instructions} {lengths} {rows} kept d c {index = index} f table {mid = mid} {next = next}
+  all-written {methods} {instructions} {lengths} {rows} kept d c {m = a} f table {mid = mid} {next = next}
       {i = i} {j = j} h l from long x y one others =
       let n = main-found f in
-      let w : Writing text ns index = record { given = g; index = n ∙ sym (main-number ns p _ refl) } in
+      let w : Writing text ns a.index = record { given = g; index = n ∙ sym (main-number ns p _ refl) } in
       let there = ap (method_at ns) n ∙ main-there in
-      let main = method-put w lengths kept d.long (subst (λ k. CodeKept ns k lengths kept) d.count c) index from
+      let main = method-put w lengths kept d.long (subst (λ k. CodeKept ns k lengths kept) d.count c) a.index from
       long x y p.one there false mid i one (omega arith) in
       let rest = others ns w d.count d.long c (main-below mid l main) in
       let A = code_words (method_code qs p.one) in
       let B = code_words (program_code qs (without_main ns)) in
       let m = length p.before in
-      let all = words-then table 0 (head_words methods instructions lengths rows index) (A ++ B) h
+      let all = words-then table 0 (head_words methods instructions lengths rows a.index) (A ++ B) h
       (words-then mid i A B main rest) in
       let u = put_same table 0 (table-words (length text) ns g.kept)
       (words_same table 0 (ap (λ k. head_words methods instructions lengths rows k ++ (A ++ B)) n

@@ -3,12 +3,12 @@
 ghost use Rattle.std.specs.Prelude.{◌≡◌, cond, [], ◌+◌, ◌*◌, ◌≤◌, ◌<◌, length, drop};
 ghost use Rattle.text.specs.Tree.{Program, main_first, without_main};
 ghost use Rattle.text.specs.Translation.{program_code, code_words};
-ghost use Rattle.text_methods.specs.IndexCode.{Indexed};
 ghost use Rattle.text_code.specs.KeptCode.{offset_in, CodeKept};
 ghost use Rattle.text_put.specs.TableCode.{Writes, called_at, code_to};
 ghost use Rattle.text_table.specs.WrittenCode.{Writing, Lengths};
 
 use table::words::word_at;
+use text_methods::methods::Methods;
 use text_put::code::put_code;
 
 // How many instructions the methods before the one of index k have.
@@ -16,11 +16,9 @@ pub fn offset_of(lengths: &[u16], k: usize) -> usize
     requires { k < 32 }
     ensures { (result ≡ offset_in lengths.now k) × (result < 4000000) }
 {
-    let mut i = 0;
     let mut n = 0;
-    while i < k {
+    for i in 0..k {
         n += word_at(lengths, i);
-        i += 1;
     }
     n
 }
@@ -28,8 +26,7 @@ pub fn offset_of(lengths: &[u16], k: usize) -> usize
 // The code that is kept from instruction `from` on, so many instructions of it, unless it is to be left out or a table
 // has no room for it.
 pub fn put_kept(
-    text: &[u8],
-    index: &[usize],
+    methods: &Methods<'_>,
     main: usize,
     leave: bool,
     kept: &[usize],
@@ -38,9 +35,9 @@ pub fn put_kept(
     table: &mut [u16],
     at: usize,
 ) -> usize
-    requires { (from < 4000000) × (long < 65536) × (8192 ≤ length kept.now) × Indexed text.now index.now }
+    requires { (from < 4000000) × (long < 65536) × (8192 ≤ length kept.now) }
     ensures { (from + long ≤ 4096 → at < 20000 → Writes table.old at
-        (cond leave [] (code_to (called_at text.now main) (drop (2 * from) kept.now) long))
+        (cond leave [] (code_to (called_at methods.now.text.now main) (drop (2 * from) kept.now) long))
         table.new result) × (at < 30000 → result < 30000) }
 {
     if leave {
@@ -53,34 +50,31 @@ pub fn put_kept(
         return at;
     }
     let part = &kept[2 * from..2 * from + 2 * long];
-    put_code(text, index, main, part, long, table, at)
+    put_code(methods, main, part, long, table, at)
 }
 
-// The code of the methods that are not main, in text order.
+// The code of the methods that are not main, in text order; `count` is how many methods there are.
 pub fn put_others(
-    text: &[u8],
-    index: &[usize],
+    methods: &Methods<'_>,
     main: usize,
-    methods: usize,
+    count: usize,
     lengths: &[u16],
     kept: &[usize],
     table: &mut [u16],
     at: usize,
 ) -> usize
-    requires { (methods ≤ 32) × (at < 30000) × (8192 ≤ length kept.now) × Indexed text.now index.now }
-    ensures { (ns : Program) → Writing text.now ns main → methods ≡ length ns → Lengths ns lengths.now
-        → CodeKept ns methods lengths.now kept.now → at ≤ 9000
+    requires { (count ≤ 32) × (at < 30000) × (8192 ≤ length kept.now) }
+    ensures { (ns : Program) → Writing methods.now.text.now ns main → count ≡ length ns → Lengths ns lengths.now
+        → CodeKept ns count lengths.now kept.now → at ≤ 9000
         → Writes table.old at (code_words (program_code (main_first ns) (without_main ns)))
         table.new result }
 {
-    let mut k = 0;
     let mut from = 0;
     let mut i = at;
-    while k < methods {
+    for k in 0..count {
         let long = word_at(lengths, k);
-        i = put_kept(text, index, main, k == main, kept, from, long, table, i);
+        i = put_kept(methods, main, k == main, kept, from, long, table, i);
         from += long;
-        k += 1;
     }
     i
 }

@@ -9,6 +9,7 @@ use lib.Dec.{leb}
 use borrow.Author.Tests.{le-leb, lt-leb}
 use lib.ListN.{length, drop, take, set, take-append-drop}
 use lib.Seq.{drop-set-lt}
+use Rattle.std.specs.Prelude as P
 use Rattle.lists.specs.Lists.{put_from}
 use Rattle.lists.proofs.Put.{put_from-take}
 use Rattle.lists.proofs.Tests.{never}
@@ -23,14 +24,14 @@ use Rattle.text_parse.specs.Tokens.{Token, tokens_of}
 use Rattle.text_parse.specs.Grammar.{Reading, read, leaves, program_of}
 use Rattle.text_parse.specs.Text.{Text, refused_text, translated_text, or_else_refused, text_from, text_of}
 use Rattle.text_program.specs.ProgramCode.{is_read, end_place}
-use Rattle.text_names.specs.declared.refusal.NameFault.{NameFault}
-use Rattle.text_names.specs.declared.refusal.NameFault.TheVariants.{NoFault, FaultAt}
 use Rattle.text_names.specs.FaultCode.{Refuses}
 use Rattle.text_names.specs.Answer.{fault_in}
 use Rattle.text_put.specs.Measures.{TableText, Measures}
 use Rattle.text_limits.specs.LimitsCode.{WellNamed}
 use Rattle.text_code.specs.KeptCode.{CodeKept}
 use Rattle.text_limits.specs.MeasuresCode.{LimitsSay, within, passed}
+use Rattle.text_limits.specs.declared.limits.TableSize.{TableSize}
+use Rattle.text_limits.specs.declared.method.LimitPassed.{LimitPassed}
 use Rattle.text_translate.specs.Translate.{Answer, refused, table, short, answer_for, buffer_after}
 
 -- an answer and a buffer are those of a text
@@ -87,26 +88,26 @@ read-so text e = by (program_of (tokens_of text)) refl e
     by (read ms us) q t = record { program = ms; left = us; reads = q }
     by (leaves i) q t = never t
 
-pub names-say : (text buffer : List ℕ) {i : ℕ} {f : NameFault} → is_read (program_of (tokens_of text)) ≡ true
-    → Refuses text (fault_in f) → f ≡ FaultAt i → Says text buffer (refused 31 i) buffer
+pub names-say : (text buffer : List ℕ) {i : ℕ} → is_read (program_of (tokens_of text)) ≡ true
+    → Refuses text (fault_in (P.Some i)) → Says text buffer (refused 31 i) buffer
 unfolding text_of text_from or_else_refused fault_in
-names-say text buffer {i = i} e s q =
+names-say text buffer {i = i} e s =
     let t = read-so text e in
-    let fault = sym (ap fault_in q) ∙ s t.program t.left t.reads in
+    let fault = s t.program t.left t.reads in
     refused_says text buffer 31 i
     (ap (text_from (length text)) t.reads
     ∙ ap (λ q. or_else_refused 31 q (or_else_refused 32 (limit_refusal t.program) (translated_text t.program)))
     (sym fault))
 
-pub well-named : (text : List ℕ) {f : NameFault} → is_read (program_of (tokens_of text)) ≡ true → Refuses text (fault_in f)
-    → f ≡ NoFault → WellNamed text
+pub well-named : (text : List ℕ) → is_read (program_of (tokens_of text)) ≡ true → Refuses text (fault_in P.None)
+    → WellNamed text
 unfolding fault_in
-well-named text e s q =
+well-named text e s =
     let t = read-so text e in record {
       program = t.program;
       left = t.left;
       reads = t.reads;
-      names = sym (s t.program t.left t.reads) ∙ ap fault_in q;
+      names = sym (s t.program t.left t.reads);
     }
 
 -- 32, or a table
@@ -138,14 +139,16 @@ module _ (text : List ℕ) (w : WellNamed text) where
   words : ℕ
   words = length (text_table ms)
 
-  module _ {ok : Bool} {at methods instructions : ℕ} {lengths rows kept : List ℕ}
-      (l : LimitsSay ms ok at methods instructions lengths rows kept) where
-    pub limits-say : (buffer : List ℕ) → ok ≡ false → Says text buffer (refused 32 at) buffer
-    limits-say buffer e = by l
-      where
-        by : LimitsSay ms ok at methods instructions lengths rows kept → Says text buffer (refused 32 at) buffer
-        by (within o k m n d q) = never (sym e ∙ o)
-        by (passed o k) = refused_says text buffer 32 at (over k)
+  pub limits-say : {e : LimitPassed} {lengths rows kept : List ℕ} → LimitsSay ms (P.Err e) lengths rows kept
+      → (buffer : List ℕ) → Says text buffer (refused 32 e.at) buffer
+  limits-say {e} (passed k) buffer = refused_says text buffer 32 e.at (over k)
+
+  module _ {size : TableSize} {lengths rows kept : List ℕ} (l : LimitsSay ms (P.Ok size) lengths rows kept) where
+    abbrev methods : ℕ
+    methods = size.methods
+
+    abbrev instructions : ℕ
+    instructions = size.instructions
 
     -- no limit is passed
     record Within : Type 0 where
@@ -155,23 +158,22 @@ module _ (text : List ℕ) (w : WellNamed text) where
       measured : Measures ms methods instructions lengths rows
       codes : CodeKept ms methods lengths kept
 
-    kept-within : ok ≡ true → Within
-    kept-within e = by l
+    kept-within : Within
+    kept-within = by l
       where
-        by : LimitsSay ms ok at methods instructions lengths rows kept → Within
-        by (within o k m n d q) = record { none_passed = k; few = m; short-enough = n; measured = d; codes = q }
-        by (passed o k) = never (sym o ∙ e)
+        by : LimitsSay ms (P.Ok size) lengths rows kept → Within
+        by (within k m n d q) = record { none_passed = k; few = m; short-enough = n; measured = d; codes = q }
 
-    pub few-methods : ok ≡ true → methods ≤ 32
-    few-methods e = (kept-within e).few
+    pub few-methods : methods ≤ 32
+    few-methods = kept-within.few
 
-    pub few-instructions : ok ≡ true → instructions ≤ 4096
-    few-instructions e = (kept-within e).short-enough
+    pub few-instructions : instructions ≤ 4096
+    few-instructions = kept-within.short-enough
 
-    counted : ok ≡ true → words ≡ 2 + 20 * methods + 2 * instructions
+    counted : words ≡ 2 + 20 * methods + 2 * instructions
     unfolding words
-    counted e =
-        let m = (kept-within e).measured in
+    counted =
+        let m = kept-within.measured in
         omega (
           arith,
           table-length ms,
@@ -182,37 +184,37 @@ module _ (text : List ℕ) (w : WellNamed text) where
         )
 
     -- the buffer is too short
-    pub short-says : (buffer : List ℕ) → ok ≡ true → length buffer < 2 + 20 * methods + 2 * instructions
+    pub short-says : (buffer : List ℕ) → length buffer < 2 + 20 * methods + 2 * instructions
         → Says text buffer (short (2 + 20 * methods + 2 * instructions)) buffer
     unfolding answer_for buffer_after words
-    short-says buffer e q =
-        let no = lt-leb words (length buffer) (omega (arith, q, counted e)) in
-        let is = fits (kept-within e).none_passed in (
-          ap short (sym (counted e)) ∙ sym (ap (λ b. cond b (table words) (short words)) no)
+    short-says buffer q =
+        let no = lt-leb words (length buffer) (omega (arith, q, counted)) in
+        let is = fits kept-within.none_passed in (
+          ap short (sym counted) ∙ sym (ap (λ b. cond b (table words) (short words)) no)
               ∙ sym (ap (answer_for (length buffer)) is),
           sym (ap (λ b. cond b (text_table ms ++ drop words buffer) buffer) no) ∙ sym (ap (buffer_after buffer) is),
         )
 
     -- the table is written
-    pub table-says : (buffer end : List ℕ) {n : ℕ} → ok ≡ true
+    pub table-says : (buffer end : List ℕ) {n : ℕ}
         → 2 + 20 * methods + 2 * instructions ≤ length buffer
         → ((ns : Program) → TableText text ns → Measures ns methods instructions lengths rows
         → CodeKept ns methods lengths kept → (end ≡ put_from buffer 0 (text_table ns)) × (n ≡ length (text_table ns)))
         → Says text buffer (table n) end
     unfolding answer_for buffer_after words
-    table-says buffer end e q written =
-        let k = kept-within e in
+    table-says buffer end q written =
+        let k = kept-within in
         let given : TableText text ms = record {
           left = w.left;
           reads = w.reads;
           kept = record { names = w.names; limits = k.none_passed };
         } in
         let put = written ms given k.measured k.codes in
-        let yes = le-leb words (length buffer) (omega (arith, q, counted e)) in
+        let yes = le-leb words (length buffer) (omega (arith, q, counted)) in
         let is = fits k.none_passed in (
           ap table put.1 ∙ sym (ap (λ b. cond b (table words) (short words)) yes)
               ∙ sym (ap (answer_for (length buffer)) is),
-          put.0 ∙ put_front buffer (text_table ms) (omega (arith, q, counted e))
+          put.0 ∙ put_front buffer (text_table ms) (omega (arith, q, counted))
               ∙ sym (ap (λ b. cond b (text_table ms ++ drop words buffer) buffer) yes)
               ∙ sym (ap (buffer_after buffer) is),
         )

@@ -9,71 +9,119 @@ ghost use Rattle.text_parse.specs.Tokens.{tokens_of};
 ghost use Rattle.text_parse.specs.Grammar.{program_of};
 ghost use Rattle.text_parse.specs.Text.{text_of};
 ghost use Rattle.text_program.specs.ProgramCode.{is_read};
-ghost use Rattle.text_methods.specs.IndexCode.{Indexed};
 ghost use Rattle.text_limits.specs.LimitsCode.{WellNamed};
-ghost use Rattle.text_translate.specs.Translate.{answer_numbers, answer_for, buffer_after};
+ghost use Rattle.text_translate.specs.declared.TextRefusal.TheVariants.{Grammar, Limits};
+ghost use Rattle.text_translate.specs.Translate.{number_of, place_of, words_of, answer_numbers, answer_for, buffer_after};
 
 use text_limits::limits::limits;
+use text_limits::method::LimitPassed;
 use text_methods::index::index_methods;
-use text_names::refusal::{NameFault, name_fault};
+use text_methods::methods::Methods;
+use text_names::refusal::name_fault;
 use text_program::program::grammar_place;
 use text_table::whole::write_table;
+use text_types::place::GrammarError;
 
-// Refusals 30, 31 and 32 with their places; the words of the table that is given out; or those that the buffer is too
-// short for.
-#[derive(Drop)]
-pub enum Translation {
+// Refusals 30, 31 and 32, each with the byte index that is its place.
+#[derive(Clone, Copy, Debug, PartialEq, Eq)]
+pub enum TextRefusal {
     Grammar(usize),
     Names(usize),
     Limits(usize),
+}
+
+impl TextRefusal {
+    pub fn number(self) -> u32
+        ensures { result ≡ number_of self }
+    {
+        match self {
+            TextRefusal::Grammar(_) => 30,
+            TextRefusal::Names(_) => 31,
+            TextRefusal::Limits(_) => 32,
+        }
+    }
+
+    pub fn place(self) -> usize
+        ensures { result ≡ place_of self }
+    {
+        match self {
+            TextRefusal::Grammar(at) | TextRefusal::Names(at) | TextRefusal::Limits(at) => at,
+        }
+    }
+}
+
+impl From<GrammarError> for TextRefusal {
+    ghost from_gives = { λ e r. r ≡ Grammar e.at };
+
+    fn from(left: GrammarError) -> TextRefusal {
+        TextRefusal::Grammar(left.at)
+    }
+}
+
+impl From<LimitPassed> for TextRefusal {
+    ghost from_gives = { λ e r. r ≡ Limits e.at };
+
+    fn from(passed: LimitPassed) -> TextRefusal {
+        TextRefusal::Limits(passed.at)
+    }
+}
+
+// The words of the table that is given out, or those that the buffer is too short for.
+#[derive(Clone, Copy, Debug, PartialEq, Eq)]
+pub enum Translation {
     Table(usize),
     Short(usize),
 }
 
+impl Translation {
+    // How many words the table has, whether it is given out or not.
+    pub fn words(self) -> usize
+        ensures { result ≡ words_of self }
+    {
+        match self {
+            Translation::Table(n) | Translation::Short(n) => n,
+        }
+    }
+}
+
 // A text without a fault of names, with lent arrays to work in. No word is written before the room is asked for.
 fn table_with(
-    text: &[u8],
-    methods: &[usize],
+    methods: &Methods<'_>,
     pending: &mut [usize],
     code: &mut [usize],
     lengths: &mut [u16],
     rows: &mut [u16],
     kept: &mut [usize],
     table: &mut [u16],
-) -> Translation
-    requires { WellNamed text.now × (12288 ≤ length pending.old) × (8192 ≤ length code.old)
-        × (32 ≤ length lengths.old) × (length rows.old ≡ 576) × (8192 ≤ length kept.old)
-        × Indexed text.now methods.now }
-    ensures { (answer_numbers result ≡ answer_for (length table.old) (text_of text.now))
-        × (table.new ≡ buffer_after table.old (text_of text.now)) }
+) -> Result<Translation, TextRefusal>
+    requires { WellNamed methods.now.text.now × (12288 ≤ length pending.old) × (8192 ≤ length code.old)
+        × (32 ≤ length lengths.old) × (length rows.old ≡ 576) × (8192 ≤ length kept.old) }
+    ensures { (answer_numbers result ≡ answer_for (length table.old) (text_of methods.now.text.now))
+        × (table.new ≡ buffer_after table.old (text_of methods.now.text.now)) }
 {
-    let l = limits(text, methods, pending, code, lengths, rows, kept);
-    if !l.ok {
-        return Translation::Limits(l.at);
-    }
-    let words = 2 + 20 * l.methods + 2 * l.instructions;
+    let size = limits(methods, pending, code, lengths, rows, kept)?;
+    let words = 2 + 20 * size.methods + 2 * size.instructions;
     if table.len() < words {
-        return Translation::Short(words);
+        return Ok(Translation::Short(words));
     }
     let n = write_table(
-        text,
         methods,
-        l.methods,
-        l.instructions,
+        size.methods,
+        size.instructions,
         lengths,
         rows,
         kept,
         table,
     );
-    Translation::Table(n)
+    Ok(Translation::Table(n))
 }
 
 // Room for one method's code, for what waits while it is written, and for the lengths, rows and code of all methods,
 // which are kept so that the text is not gone over again for its table.
-fn table_of(text: &[u8], methods: &[usize], table: &mut [u16]) -> Translation
-    requires { WellNamed text.now × Indexed text.now methods.now }
-    ensures { (answer_numbers result ≡ answer_for (length table.old) (text_of text.now))
-        × (table.new ≡ buffer_after table.old (text_of text.now)) }
+fn table_of(methods: &Methods<'_>, table: &mut [u16]) -> Result<Translation, TextRefusal>
+    requires { WellNamed methods.now.text.now }
+    ensures { (answer_numbers result ≡ answer_for (length table.old) (text_of methods.now.text.now))
+        × (table.new ≡ buffer_after table.old (text_of methods.now.text.now)) }
 {
     let mut pending = [0usize; 12288];
     let mut code = [0usize; 8192];
@@ -81,7 +129,6 @@ fn table_of(text: &[u8], methods: &[usize], table: &mut [u16]) -> Translation
     let mut rows = [0u16; 576];
     let mut kept = [0usize; 8192];
     table_with(
-        text,
         methods,
         &mut pending,
         &mut code,
@@ -93,30 +140,31 @@ fn table_of(text: &[u8], methods: &[usize], table: &mut [u16]) -> Translation
 }
 
 // A text in the grammar. Its methods are written down first, so that no call makes the text be read again.
-fn names_then_table(text: &[u8], methods: &mut [usize], table: &mut [u16]) -> Translation
-    requires { (129 ≤ length methods.old) × (is_read (program_of (tokens_of text.now)) ≡ true) }
+fn names_then_table(
+    text: &[u8],
+    index: &mut [usize],
+    table: &mut [u16],
+) -> Result<Translation, TextRefusal>
+    requires { (129 ≤ length index.old) × (is_read (program_of (tokens_of text.now)) ≡ true) }
     ensures { (answer_numbers result ≡ answer_for (length table.old) (text_of text.now))
         × (table.new ≡ buffer_after table.old (text_of text.now)) }
 {
-    index_methods(text, methods);
-    let fault = name_fault(text, methods);
-    match fault {
-        NameFault::FaultAt(at) => Translation::Names(at),
-        NameFault::NoFault => table_of(text, methods, table),
+    index_methods(text, index);
+    let methods = Methods { text, index };
+    match name_fault(&methods) {
+        Some(at) => Err(TextRefusal::Names(at)),
+        None => table_of(&methods, table),
     }
 }
 
 // "30 when the text leaves the grammar or the nesting, 31 when a name is undeclared .., 32 when the table .. passes a
 // limit of questions 1 to 5: all before question 1, in this order". The buffer is untouched unless a table is given
 // out.
-pub fn translate(text: &[u8], table: &mut [u16]) -> Translation
+pub fn translate(text: &[u8], table: &mut [u16]) -> Result<Translation, TextRefusal>
     ensures { (answer_numbers result ≡ answer_for (length table.old) (text_of text.now))
         × (table.new ≡ buffer_after table.old (text_of text.now)) }
 {
-    let g = grammar_place(text);
-    if !g.ok {
-        return Translation::Grammar(g.at);
-    }
-    let mut methods = [0usize; 129];
-    names_then_table(text, &mut methods, table)
+    grammar_place(text)?;
+    let mut index = [0usize; 129];
+    names_then_table(text, &mut index, table)
 }

@@ -21,6 +21,8 @@ use Rattle.text_tokens.specs.NextCode.{NextToken, next_at as token_next}
 use Rattle.text_tokens.specs.declared.next.TokenAt.{TokenAt}
 use Rattle.text_tokens.proofs.EndCases.{end-past}
 use Rattle.text_tokens.proofs.KindTests.{is-name}
+use Rattle.std.specs.Prelude.{Result, Ok, Err, IsErr, IsErrAnd}
+use Rattle.text_types.specs.declared.place.GrammarError.{GrammarError}
 use Rattle.text_types.specs.SaysCode.{next_kind, next_at, Passed, Expected, found, missing, Says, reads, leaves-at, On}
 
 -- The next token
@@ -88,11 +90,34 @@ on-there b s = record {
   off_at = λ e. absurd (clash e (passes b));
 }
 
+-- the same where the answer is shown: what is read goes on, and what is refused stays refused
+pub then : {place at : ℕ} {ok : Bool} {S : Type 0} → S → On true place ok at S
+then s = on-there refl s
+
+pub gone : {at : ℕ} {S : Type 0} → On false at false at S
+gone = off-here refl refl refl
+
+-- a refusal that is passed on is the same
+pub stays : {A : Type 0} {e : GrammarError} {r : Result A GrammarError} → IsErr r × IsErrAnd r (λ y. y ≡ e) → r ≡ Err e
+stays {A} {e} {r} h = same r h
+  where
+    same : (r : Result A GrammarError) → IsErr r × IsErrAnd r (λ y. y ≡ e) → r ≡ Err e
+    same (Ok a) h = absurd (clash refl (passes h.0))
+    same (Err d) h = ap Err h.1
+
 -- one step and a later one
 pub on-later : {before mid ok : Bool} {place middle at : ℕ} {S R Q : Type 0} → On before place mid middle S
     → On mid middle ok at R → (S → Q) → On before place ok at Q
 on-later a b f = record {
   on = λ e. f (a.on e);
+  off-ok = λ e. b.off-ok (a.off-ok e);
+  off_at = λ e. b.off_at (a.off-ok e) ∙ a.off_at e;
+}
+
+pub on-after : {before mid ok : Bool} {place middle at : ℕ} {S R Q : Type 0} → On before place mid middle S
+    → On mid middle ok at R → (before ≡ true → S → Q) → On before place ok at Q
+on-after a b f = record {
+  on = λ e. f e (a.on e);
   off-ok = λ e. b.off-ok (a.off-ok e);
   off_at = λ e. b.off_at (a.off-ok e) ∙ a.off_at e;
 }
@@ -159,6 +184,12 @@ pub says-also : (text : List ℕ) {A : Type 0} (P Q : A → Type 0) (low : ℕ) 
     → ((a : A) → P a → Q a) → Says text low P ok at m → Says text low Q ok at m
 says-also text P Q low f (reads o u h w p) = reads o u h w (f _ p)
 says-also text P Q low f (leaves-at o e) = leaves-at o e
+
+-- where the text is refused, nothing is said of a tree
+pub says-left : {text : List ℕ} {A : Type 0} {P Q : A → Type 0} {low at : ℕ} {m : Reading A} → Says text low P false at m
+    → Says text low Q false at m
+says-left (reads o u h w p) = absurd (clash refl (passes o))
+says-left (leaves-at o e) = leaves-at o e
 
 -- a token of a kind that stands is passed
 pub passed-found : (text : List ℕ) (i k : ℕ) {q : Bool} {place : ℕ} → (k ≡ 32 → ⊥) → next_kind text i ≡ k

@@ -49,6 +49,13 @@ marked false = refl
 pub and_second : (a b : Bool) → a ≡ true → (a && b) ≡ false → b ≡ false
 and_second a b e f = sym (rw e refl) ∙ f
 
+pub not-first : (a b : Bool) → a ≡ false → (a && b) ≡ false
+not-first a b e = rw e refl
+
+pub not-second : (a b : Bool) → b ≡ false → (a && b) ≡ false
+not-second true b e = e
+not-second false b e = refl
+
 module _ (text x : List ℕ) where
   -- a channel, and withends after its name
   pub variables-ends : (i code before f : ℕ) {q ok : Bool} {place at : ℕ} → is_channel code ≡ true → q ≡ true
@@ -105,7 +112,7 @@ module _ (text x : List ℕ) where
       says-lower text P ok at place (suc place) (omega arith)
       (name-says text P ok at place _ name.stands
       (record {
-        on = λ o w. says-lower text P ok at middle (suc middle) (omega arith) (later.on o t y c name.finds);
+        on = λ o w. says-lower text P ok at middle (suc middle) (omega arith) (later.on o t y c (name.finds o));
         off-ok = later.off-ok;
         off_at = later.off_at;
       })))))

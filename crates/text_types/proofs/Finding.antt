@@ -11,6 +11,12 @@ use Rattle.lists.specs.Lists.{same}
 use Rattle.text.specs.Tree.{Name, NonVoidType, Declared, plainly, Parameter, parameter_of}
 use Rattle.text_parse.specs.Grammar.{declared_here}
 use Rattle.text_types.specs.Found.{found_by, found_in, or_else}
+use Rattle.std.specs.Prelude as D
+use Rattle.std.specs.Option.{option_or, option_and}
+use Rattle.std.specs.Bool.{then_some}
+use Rattle.text_types.specs.declared.found.DeclaredAs.{DeclaredAs}
+use Rattle.text_types.specs.declared.found.DeclaredAs.TheVariants.{Variable, WithEnds}
+use Rattle.text_types.specs.Answer.{declared_number}
 use Rattle.text_types.specs.FoundCode.{matching}
 
 pub or-none : (a : ℕ) → or_else a 0 ≡ a
@@ -21,6 +27,22 @@ pub or_assoc : (a b c : ℕ) → or_else (or_else a b) c ≡ or_else a (or_else 
 or_assoc zero b c = refl
 or_assoc (suc a) b c =
     let more = ne_eqb (suc a) 0 (λ e. omega arith) in rw (more, more) refl
+
+-- the same of what is declared
+pub or-number : (a b : D.Option DeclaredAs) → declared_number (option_or a b) ≡ or_else (declared_number a) (declared_number b)
+or-number D.None b = refl
+or-number (D.Some Variable) b = refl
+or-number (D.Some WithEnds) b = refl
+
+pub ends-number : (a : D.Option DeclaredAs)
+    → declared_number (option_and a (D.Some WithEnds)) ≡ cond (eqb (declared_number a) 0) 0 2
+ends-number D.None = refl
+ends-number (D.Some Variable) = refl
+ends-number (D.Some WithEnds) = refl
+
+pub some-number : (b : Bool) → declared_number (then_some b Variable) ≡ cond b 1 0
+some-number true = refl
+some-number false = refl
 
 pub map-append : {A : Type 0} (f : A → Declared) (ys zs : List A) → map f (ys ++ zs) ≡ map f ys ++ map f zs
 map-append f [] zs = refl

@@ -35,7 +35,7 @@ module _ (text x : List ℕ) where
       (name-says text P ok at place _ name.stands
       (record {
         on = λ o w. says-read text P ok at (record { type = t; name = y })
-            (found-one x (plainly t y) ∙ sym name.finds) w o;
+            (found-one x (plainly t y) ∙ sym (name.finds o)) w o;
         off-ok = λ o. o;
         off_at = λ o. refl;
       }))))

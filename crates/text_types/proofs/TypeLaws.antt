@@ -65,12 +65,12 @@ module _ (text : List ℕ) (i : ℕ) where
   plain-bytes h e = clash {b = is_plain k} (rw e refl) (passes h)
 
   -- "[ T ]"
-  pub bracketed-says : (q r ok : Bool) (place middle at code : ℕ) → Expected text i 23 q place
+  pub bracketed-says : {q r ok : Bool} {place middle at code : ℕ} → Expected text i 23 q place
       → On q place r middle (Says text (suc place) (λ t. code ≡ carried_code t) r middle (carried (tokens_at text place)))
       → On r middle ok at (Expected text middle 24 ok at)
       → Says text (suc i) (λ t. code ≡ carried_code t) ok at (bracketed ts (λ t. t))
   unfolding bracketed
-  bracketed-says q r ok place middle at code first-mark inner last-mark =
+  bracketed-says {q} {r} {ok} {place} {middle} {at} {code} first-mark inner last-mark =
       let P : Carried → Type 0 = λ t. code ≡ carried_code t in
       expect-says text P ok at "[" i 23 _ (λ e. omega arith) is-open-bracket first-mark
       (on-later inner last-mark (λ s w.

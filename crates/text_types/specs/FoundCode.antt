@@ -16,7 +16,7 @@ matching x bs = cond (same x bs) 1 0
 
 pub record NameSays (text x : List ℕ) (i : ℕ) (ok : Bool) (at found : ℕ) : Type 0 where
   pub stands : Expected text i 33 ok at
-  pub finds : found ≡ matching x (first (tokens_at text i)).bytes
+  pub finds : ok ≡ true → found ≡ matching x (first (tokens_at text i)).bytes
 
 -- after the names xs
 abbrev pub NamesSay : List ℕ → List ℕ → ℕ → Bool → ℕ → ℕ → Type 0

@@ -1,3 +1,4 @@
+pub mod Answer
 pub mod SaysCode
 pub mod Found
 pub mod FoundCode

@@ -1,5 +1,5 @@
 -- What a reading by places answers. These definitions follow the code.
-use Rattle.std.specs.Prelude.{ℕ, suc, ◌≤◌, ◌<◌, ◌≡◌, Bool, true, false, ◌||◌, List, eqb, length}
+use Rattle.std.specs.Prelude.{ℕ, suc, ◌≤◌, ◌<◌, ◌≡◌, Bool, true, false, ◌||◌, List, eqb, length, Result, is_ok}
 use Rattle.std.proofs.Math.Option.{Option}
 use Rattle.text.specs.Tree.{Carried, NonVoidType}
 use Rattle.text.specs.Translation.{carried_code, type_code, return_code}
@@ -7,7 +7,9 @@ use Rattle.text_parse.specs.Tokens.{Token}
 use Rattle.text_parse.specs.Grammar.{Reading, read, leaves, first, rest}
 use Rattle.text_tokens.specs.Places.{tokens_at}
 use Rattle.text_tokens.specs.KindsCode.{kind_of}
+use Rattle.text_types.specs.declared.place.GrammarError.{GrammarError}
 use Rattle.text_types.specs.declared.types.TypeAt.{TypeAt}
+use Rattle.text_types.specs.Answer.{type_place, type_code_in}
 
 -- the kind and the place of the next token
 abbrev pub next_kind : List ℕ → ℕ → ℕ
@@ -42,14 +44,14 @@ pub record On (before : Bool) (place : ℕ) (ok : Bool) (at : ℕ) (S : Type 0) 
   pub off_at : before ≡ false → at ≡ place
 
 -- a type's answer has its code
-abbrev pub CarriedSays : List ℕ → ℕ → TypeAt → Reading Carried → Type 0
-CarriedSays text from r = Says text (suc from) (λ t. r.code ≡ carried_code t) r.ok r.at
+abbrev pub CarriedSays : List ℕ → ℕ → Result TypeAt GrammarError → Reading Carried → Type 0
+CarriedSays text from r = Says text (suc from) (λ t. type_code_in r ≡ carried_code t) (is_ok r) (type_place r)
 
-abbrev pub TypeSays : List ℕ → ℕ → TypeAt → Reading NonVoidType → Type 0
-TypeSays text from r = Says text (suc from) (λ t. r.code ≡ type_code t) r.ok r.at
+abbrev pub TypeSays : List ℕ → ℕ → Result TypeAt GrammarError → Reading NonVoidType → Type 0
+TypeSays text from r = Says text (suc from) (λ t. type_code_in r ≡ type_code t) (is_ok r) (type_place r)
 
-abbrev pub ReturnSays : List ℕ → ℕ → TypeAt → Reading (Option NonVoidType) → Type 0
-ReturnSays text from r = Says text (suc from) (λ t. r.code ≡ return_code t) r.ok r.at
+abbrev pub ReturnSays : List ℕ → ℕ → Result TypeAt GrammarError → Reading (Option NonVoidType) → Type 0
+ReturnSays text from r = Says text (suc from) (λ t. type_code_in r ≡ return_code t) (is_ok r) (type_place r)
 
 -- kinds of tokens
 abbrev pub is_plain : ℕ → Bool

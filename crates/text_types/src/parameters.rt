@@ -1,73 +1,64 @@
 // Parameters, and whether a name is one of them.
+ghost use Rattle.std.specs.Prelude.{is_ok};
 ghost use Rattle.std.proofs.Math.Seq.{slice};
+ghost use Rattle.text_types.specs.Answer.{found_place, found_of};
 ghost use Rattle.text_types.specs.FoundCode.{ParameterSays, RestSays, ParametersSay};
 
-use crate::found::{FoundAt, name_after, or_else};
-use crate::place::{PlaceAt, expect, next_kind};
+use crate::found::{FoundAt, name_here};
+use crate::place::{GrammarError, expect};
 use crate::types::non_void_type;
 use text_tokens::kinds::{CLOSE, COMMA};
 
 // "methodDeclParam ::= nonVoidType paramName"
-pub fn parameter(text: &[u8], from: usize, start: usize, end: usize) -> FoundAt
-    ensures { ParameterSays text.now (slice start end text.now) from result.ok result.at result.found }
+pub fn parameter(
+    text: &[u8],
+    from: usize,
+    start: usize,
+    end: usize,
+) -> Result<FoundAt, GrammarError>
+    ensures { ParameterSays text.now (slice start end text.now) from (is_ok result) (found_place result)
+        (found_of result) }
 {
-    let t = non_void_type(text, from);
-    name_after(text, PlaceAt { ok: t.ok, at: t.at }, start, end)
+    let t = non_void_type(text, from)?;
+    name_here(text, t.at, start, end)
 }
 
 // "(, methodDeclParam)*" after a parameter, and the closing bracket.
-fn more_parameters(text: &[u8], from: usize, start: usize, end: usize) -> FoundAt
-    ensures { RestSays text.now (slice start end text.now) from result.ok result.at result.found }
+fn more_parameters(
+    text: &[u8],
+    from: usize,
+    start: usize,
+    end: usize,
+) -> Result<FoundAt, GrammarError>
+    ensures { RestSays text.now (slice start end text.now) from (is_ok result) (found_place result)
+        (found_of result) }
 {
     let mut at = from;
-    let mut found = 0;
-    let mut kind = next_kind(text, at);
-    while kind == COMMA {
-        let comma = expect(text, at, COMMA);
-        let p = parameter(text, comma.at, start, end);
-        found = or_else(found, p.found);
-        if !p.ok {
-            return FoundAt {
-                ok: false,
-                at: p.at,
-                found: found,
-            };
-        }
+    let mut found = None;
+    while let Ok(comma) = expect(text, at, COMMA) {
+        let p = parameter(text, comma, start, end)?;
+        found = found.or(p.found);
         at = p.at;
-        kind = next_kind(text, at);
     }
-    let last = expect(text, at, CLOSE);
-    FoundAt {
-        ok: last.ok,
-        at: last.at,
-        found: found,
-    }
+    let last = expect(text, at, CLOSE)?;
+    Ok(FoundAt { at: last, found })
 }
 
 // "methodDeclParamList?" and the closing bracket, after the opening one.
-pub fn parameters(text: &[u8], from: usize, start: usize, end: usize) -> FoundAt
-    ensures { ParametersSay text.now (slice start end text.now) from result.ok result.at result.found }
+pub fn parameters(
+    text: &[u8],
+    from: usize,
+    start: usize,
+    end: usize,
+) -> Result<FoundAt, GrammarError>
+    ensures { ParametersSay text.now (slice start end text.now) from (is_ok result) (found_place result)
+        (found_of result) }
 {
-    let close = expect(text, from, CLOSE);
-    if close.ok {
-        return FoundAt {
-            ok: true,
-            at: close.at,
-            found: 0,
-        };
+    if let Ok(at) = expect(text, from, CLOSE) {
+        return Ok(FoundAt { at, found: None });
     }
-    let p = parameter(text, from, start, end);
-    if !p.ok {
-        return FoundAt {
-            ok: false,
-            at: p.at,
-            found: p.found,
-        };
-    }
-    let more = more_parameters(text, p.at, start, end);
-    FoundAt {
-        ok: more.ok,
-        at: more.at,
-        found: or_else(p.found, more.found),
-    }
+    let p = parameter(text, from, start, end)?;
+    let more = more_parameters(text, p.at, start, end)?;
+    let found = p.found.or(more.found);
+    Ok(FoundAt { at: more.at, found })
 }

@@ -2,20 +2,19 @@
 ghost use Rattle.std.specs.Prelude.{◌≡◌, ◌||◌, suc, ◌+◌, ◌≤◌, eqb};
 ghost use Rattle.text_parse.specs.Grammar.{carried, bracketed, non_void_type, return_type};
 ghost use Rattle.text_tokens.specs.Places.{tokens_at};
-ghost use Rattle.text_types.specs.SaysCode.{On, Says, CarriedSays, TypeSays, ReturnSays, is_plain, starts_kind};
+ghost use Rattle.text_types.specs.SaysCode.{CarriedSays, TypeSays, ReturnSays, is_plain, starts_kind};
 
-use crate::place::{PlaceAt, expect, expect_after};
+use crate::place::{GrammarError, expect};
 use text_tokens::kinds::{
     BOOLEAN, CHANNEL, CHANNEL_END, CLOSE_BRACKET, INT, OPEN_BRACKET, QBIT, VOID,
 };
 use text_tokens::next::next_token;
 
 // A place, and the code of the type that is read up to it.
-#[derive(Drop)]
+#[derive(Clone, Copy, Debug, PartialEq, Eq)]
 pub struct TypeAt {
-    pub ok: bool,
-    pub at: usize,
     pub code: u8,
+    pub at: usize,
 }
 
 // int, boolean and qbit: their kinds as tokens are their codes as types.
@@ -34,107 +33,73 @@ pub fn starts_type(kind: u8) -> bool
 }
 
 // The type inside channel[..] and channelEnd[..].
-pub fn carried(text: &[u8], from: usize) -> TypeAt
+pub fn carried(text: &[u8], from: usize) -> Result<TypeAt, GrammarError>
     ensures { CarriedSays text.now from result (carried (tokens_at text.now from)) }
 {
     let t = next_token(text, from);
     if is_plain(t.kind) {
-        return TypeAt {
-            ok: true,
-            at: t.end,
+        Ok(TypeAt {
             code: t.kind,
-        };
+            at: t.end,
+        })
+    } else {
+        Err(GrammarError { at: t.start })
     }
-    TypeAt {
-        ok: false,
-        at: t.start,
-        code: 0,
-    }
-}
-
-fn carried_after(text: &[u8], p: PlaceAt) -> TypeAt
-    ensures { On p.ok p.at result.ok result.at (CarriedSays text.now p.at result
-        (carried (tokens_at text.now p.at))) }
-{
-    if !p.ok {
-        return TypeAt {
-            ok: false,
-            at: p.at,
-            code: 0,
-        };
-    }
-    carried(text, p.at)
 }
 
 // "[ T ]" after channel or channelEnd.
-pub fn bracketed(text: &[u8], from: usize) -> TypeAt
+pub fn bracketed(text: &[u8], from: usize) -> Result<TypeAt, GrammarError>
     ensures { CarriedSays text.now from result (bracketed (tokens_at text.now from) (λ t. t)) }
 {
-    let open = expect(text, from, OPEN_BRACKET);
-    let inner = carried_after(text, open);
-    let close = expect_after(
-        text,
-        PlaceAt {
-            ok: inner.ok,
-            at: inner.at,
-        },
-        CLOSE_BRACKET,
-    );
-    TypeAt {
-        ok: close.ok,
-        at: close.at,
+    let open = expect(text, from, OPEN_BRACKET)?;
+    let inner = carried(text, open)?;
+    let at = expect(text, inner.at, CLOSE_BRACKET)?;
+    Ok(TypeAt {
         code: inner.code,
-    }
+        at,
+    })
 }
 
 // A code of a channel or an end from that of what it carries.
 fn above(base: u8, code: u8) -> u8
     ensures { base ≤ 32 → code ≤ 3 → result ≡ base + code }
 {
-    if 32 < base {
-        return 0;
+    if (32 < base) | (3 < code) {
+        0
+    } else {
+        base + code
     }
-    if 3 < code {
-        return 0;
-    }
-    base + code
 }
 
 // "nonVoidType ::= int | boolean | qbit | channel [T] | channelEnd [T]"
-pub fn non_void_type(text: &[u8], from: usize) -> TypeAt
+pub fn non_void_type(text: &[u8], from: usize) -> Result<TypeAt, GrammarError>
     ensures { TypeSays text.now from result (non_void_type (tokens_at text.now from)) }
 {
     let t = next_token(text, from);
     if t.kind == CHANNEL {
-        let c = bracketed(text, t.end);
-        return TypeAt {
-            ok: c.ok,
-            at: c.at,
+        let c = bracketed(text, t.end)?;
+        return Ok(TypeAt {
             code: above(16, c.code),
-        };
+            at: c.at,
+        });
     }
     if t.kind == CHANNEL_END {
-        let e = bracketed(text, t.end);
-        return TypeAt {
-            ok: e.ok,
-            at: e.at,
+        let e = bracketed(text, t.end)?;
+        return Ok(TypeAt {
             code: above(32, e.code),
-        };
+            at: e.at,
+        });
     }
     carried(text, from)
 }
 
 // "type ::= void | nonVoidType"
-pub fn return_type(text: &[u8], from: usize) -> TypeAt
+pub fn return_type(text: &[u8], from: usize) -> Result<TypeAt, GrammarError>
     ensures { ReturnSays text.now from result (return_type (tokens_at text.now from)) }
 {
     let t = next_token(text, from);
     if t.kind == VOID {
-        return TypeAt {
-            ok: true,
-            at: t.end,
-            code: 0,
-        };
+        return Ok(TypeAt { code: 0, at: t.end });
     }
     non_void_type(text, from)
 }

@@ -1,5 +1,5 @@
 -- The levels that are kept, and what an effect makes of them.
-use Prim.Native.Nat.{ℕ, zero, suc, ◌+◌, ◌-◌, ◌≤◌, ◌<◌}
+use Prim.Native.Nat.{ℕ, zero, suc, ◌+◌, ◌-◌, ◌≤◌, ◌<◌, min}
 use native.Mathlib.Omega.{arith}
 use native.Mathlib.Numerals.{add-one}
 use mathlib.Core.Path.{◌≡◌, refl, sym, ap, ◌∙◌}
@@ -18,10 +18,17 @@ use Rattle.text_window.specs.WindowCode.{slot_of, cell, put, one_more, counts_af
 use Rattle.text_effect.specs.declared.phase.Effect.{Effect}
 use Rattle.text_effect.specs.declared.phase.Effect.TheVariants.{Stay, Assigns, Unassigns, OpensBracket, OpensCall, Closes, NextArgument, Astray, Beyond}
 
-pub less-one : (x : ℕ) → (x ≡ 0 → ⊥) → less_one x ≡ x - 1
+pub less-one : (x : ℕ) {r : ℕ} → r ≡ x - 1 → r ≡ less_one x
 unfolding less_one
-less-one zero f = absurd (f refl)
-less-one (suc x) f = omega arith
+less-one zero e = omega (arith, e)
+less-one (suc x) e = omega (arith, e)
+
+-- one more, as long as there is a number for it
+pub more-one : (x : ℕ) {r : ℕ} → x < 18446744073709551616 → r ≡ min (x + 1) 18446744073709551615 → r ≡ one_more x
+unfolding one_more
+more-one x {r} h e = cond-each (λ (y : ℕ). r ≡ y) (ltb x 18446744073709551615)
+    (λ q. let l : x < 18446744073709551615 = ltb-true x 18446744073709551615 q in omega (arith, e))
+    (λ q. let l : 18446744073709551615 ≤ x = ltb-false x 18446744073709551615 q in omega (arith, e))
 
 pub held_none : (room low depth : ℕ) → depth ≡ 0 → (eqb low 0 && ltb 0 room) ≡ true → Held room low depth
 held_none room low depth d e =

@@ -2,10 +2,11 @@
 // of them: of some levels from the level `low` on, `counts` has how many assignments are open within the level, and
 // `brackets` whether the bracket over it is a call's.
 ghost use Rattle.std.specs.Prelude.{◌≡◌, true, List, ℕ, ◌≤◌, ltb};
-ghost use Rattle.text_expr.specs.LevelsCode.{less_one, phase_after};
+ghost use Rattle.text_expr.specs.LevelsCode.{phase_after};
 ghost use Rattle.text_effect.specs.EffectCode.{phase_in, effect_in};
-ghost use Rattle.text_window.specs.WindowCode.{slot_of, cell, put, one_more, counts_after, brackets_after, depth_after, stops_on, Held, innermost_in, asks_level};
+ghost use Rattle.text_window.specs.WindowCode.{slot_of, cell, put, counts_after, brackets_after, depth_after, stops_on, Held, innermost_in, asks_level};
 
+use slices::{at_or, put};
 use text_effect::effect::is_operator;
 use text_effect::phase::{BRACKET, CALL, Effect, NO_BRACKET, Phase};
 use text_tokens::kinds::COMMA;
@@ -26,57 +27,27 @@ fn slot(room: usize, low: usize, k: usize) -> usize
 fn count_at(counts: &[usize], low: usize, k: usize) -> usize
     ensures { result ≡ cell counts.now low k }
 {
-    let i = slot(counts.len(), low, k);
-    if i < counts.len() {
-        return counts[i];
-    }
-    0
+    at_or(counts, slot(counts.len(), low, k), 0)
 }
 
 pub fn put_count(counts: &mut [usize], low: usize, k: usize, v: usize)
     ensures { counts.new ≡ put low k v counts.old }
 {
     let i = slot(counts.len(), low, k);
-    if i < counts.len() {
-        counts[i] = v;
-    }
+    put(counts, i, v);
 }
 
 fn bracket_at(brackets: &[u8], low: usize, k: usize) -> u8
     ensures { result ≡ cell brackets.now low k }
 {
-    let i = slot(brackets.len(), low, k);
-    if i < brackets.len() {
-        return brackets[i];
-    }
-    0
+    at_or(brackets, slot(brackets.len(), low, k), 0)
 }
 
 fn put_bracket(brackets: &mut [u8], low: usize, k: usize, v: u8)
     ensures { brackets.new ≡ put low k v brackets.old }
 {
     let i = slot(brackets.len(), low, k);
-    if i < brackets.len() {
-        brackets[i] = v;
-    }
-}
-
-fn one_more(x: usize) -> usize
-    ensures { result ≡ one_more x }
-{
-    if x < 18446744073709551615 {
-        return x + 1;
-    }
-    x
-}
-
-fn one_less(x: usize) -> usize
-    ensures { result ≡ less_one x }
-{
-    if x == 0 {
-        return 0;
-    }
-    x - 1
+    put(brackets, i, v);
 }
 
 // What an effect makes of the assignments that are open.
@@ -85,15 +56,15 @@ pub fn note_counts(counts: &mut [usize], low: usize, depth: usize, e: Effect)
 {
     match e {
         Effect::Assigns => {
-            let more = one_more(count_at(counts, low, depth));
+            let more = count_at(counts, low, depth).saturating_add(1);
             put_count(counts, low, depth, more)
         }
         Effect::Unassigns => {
-            let less = one_less(count_at(counts, low, depth));
+            let less = count_at(counts, low, depth).saturating_sub(1);
             put_count(counts, low, depth, less)
         }
-        Effect::OpensBracket => put_count(counts, low, one_more(depth), 0),
-        Effect::OpensCall => put_count(counts, low, one_more(depth), 0),
+        Effect::OpensBracket => put_count(counts, low, depth.saturating_add(1), 0),
+        Effect::OpensCall => put_count(counts, low, depth.saturating_add(1), 0),
         Effect::NextArgument => put_count(counts, low, depth, 0),
         _ => {}
     }
@@ -114,9 +85,9 @@ pub fn depth_after(e: Effect, depth: usize) -> usize
     ensures { result ≡ depth_after e depth }
 {
     match e {
-        Effect::OpensBracket => one_more(depth),
-        Effect::OpensCall => one_more(depth),
-        Effect::Closes => one_less(depth),
+        Effect::OpensBracket => depth.saturating_add(1),
+        Effect::OpensCall => depth.saturating_add(1),
+        Effect::Closes => depth.saturating_sub(1),
         _ => depth,
     }
 }
@@ -137,7 +108,7 @@ pub fn stops(e: Effect) -> bool
     ensures { result ≡ stops_on e }
 {
     match e {
-        Effect::Astray(i) => true,
+        Effect::Astray(_) => true,
         Effect::Beyond => true,
         _ => false,
     }
@@ -169,7 +140,7 @@ pub fn asks_level(phase: Phase, kind: u8) -> bool
     match phase {
         Phase::Whole => kind == COMMA,
         Phase::Bare => (kind == COMMA) | is_operator(kind),
-        Phase::Named(start, end) => kind == COMMA,
+        Phase::Named(_, _) => kind == COMMA,
         _ => false,
     }
 }
@@ -192,9 +163,5 @@ pub fn low_for(room: usize, depth: usize) -> usize
     requires { 2 ≤ room }
     ensures { Held room result depth }
 {
-    let half = room / 2;
-    if depth < half {
-        return 0;
-    }
-    depth - half
+    depth.saturating_sub(room / 2)
 }

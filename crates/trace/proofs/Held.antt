@@ -3,8 +3,7 @@ use Prim.Native.Nat.{ℕ, suc, ◌-◌, ◌≤◌, ◌<◌}
 use mathlib.Core.Path.{◌≡◌, refl, sym, ◌∙◌, ap}
 use mathlib.Core.Bool.{Bool, true, false, cond, ◌&&◌, true≢false}
 use mathlib.Core.List.{List, [], ◌∷◌, ◌++◌, reverse, reverse-append}
-use mathlib.Core.Option
-use mathlib.Core.Option.{Option, some}
+use mathlib.Core.Option.{Option, none, some}
 use native.Mathlib.Omega.{arith}
 use borrow.Author.Tests.{eqb-true, ne_eqb}
 use lib.Dec.{eqb}
@@ -14,8 +13,8 @@ use Rattle.machine.specs.Value.{qubit, covers}
 use Rattle.machine.specs.State.{Line}
 use Rattle.machine.specs.Owner.{given_thing, holder, holder_after, no_line}
 use Rattle.machine.proofs.Holder.{holder-append}
-use Rattle.trace.specs.Trace.{lines_of, look_up, decides, read_back, count_read}
-use Rattle.trace.specs.ReadCode.{named}
+use Rattle.trace.specs.Trace.{lines_of, decides, read_back, count_read}
+use Rattle.trace.specs.ReadCode.{named, held}
 
 -- a giving is of qubit q where its thing is 3 and its number is q
 pub given_thing-qubit : (b c q : ℕ) → given_thing b c (qubit q) ≡ (eqb b 3 && eqb c q)
@@ -63,9 +62,9 @@ read_back-last q ls l = ap (read_back q) (reverse-append ls (l ∷ []))
 
 -- the answer by no line
 
-pub look_up-none : (ws : List ℕ) (q : ℕ) → look_up ws 0 q ≡ 65535
-unfolding look_up holder
-look_up-none ws q = refl
+pub held-none : (ws : List ℕ) (q : ℕ) → held ws 0 q ≡ none
+unfolding held holder
+held-none ws q = refl
 
 pub count_read-none : (ws : List ℕ) (q : ℕ) → count_read ws 0 q ≡ 0
 unfolding count_read read_back
@@ -90,13 +89,13 @@ module _ (ws : List ℕ) (i q : ℕ) {l : Line} (h : 0 < i) (k : i ≤ length (l
   read_back-first =
       ap (λ (ls : List Line). read_back q (reverse ls)) first-lines ∙ read_back-last q (take (i - 1) (lines_of ws)) l
 
-  pub look_up-decided : decides q l ≡ true → look_up ws i q ≡ named l
-  unfolding look_up
-  look_up-decided e = rw (holder-first, e)
+  pub held-decided : decides q l ≡ true → held ws i q ≡ some (named l)
+  unfolding held
+  held-decided e = rw (holder-first, e)
 
-  pub look_up-passed : decides q l ≡ false → look_up ws i q ≡ look_up ws (i - 1) q
-  unfolding look_up
-  look_up-passed e = rw (holder-first, e)
+  pub held-passed : decides q l ≡ false → held ws i q ≡ held ws (i - 1) q
+  unfolding held
+  held-passed e = rw (holder-first, e)
 
   pub count_read-decided : decides q l ≡ true → count_read ws i q ≡ 1
   unfolding count_read
@@ -111,9 +110,9 @@ module _ (ws : List ℕ) (n k q : ℕ) (h : length (lines_of ws) ≤ n) (j : len
   all_lines : take n (lines_of ws) ≡ take k (lines_of ws)
   all_lines = take_all n (lines_of ws) h ∙ sym (take_all k (lines_of ws) j)
 
-  pub look_up-all : look_up ws n q ≡ look_up ws k q
-  unfolding look_up
-  look_up-all = ap (λ (ls : List Line). Option.get_or (holder ls (qubit q)) 65535) all_lines
+  pub held-all : held ws n q ≡ held ws k q
+  unfolding held
+  held-all = ap (λ (ls : List Line). holder ls (qubit q)) all_lines
 
   pub count_read-all : count_read ws n q ≡ count_read ws k q
   unfolding count_read

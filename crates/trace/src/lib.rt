@@ -1,5 +1,5 @@
 // Traces, six 16-bit words to a line, a part of a line at the end ignored.
-// `lookup::qubit_holder` answers who holds a qubit by the first k lines, 65535 for nobody, and how many lines it read:
+// `lookup::qubit_holder` answers who holds a qubit by the first k lines, if somebody does, and how many lines it read:
 // from the last one backwards, up to the line that decides. `same::same_lines` answers whether two traces have the same
 // lines, column 0 left out, and the same gaps: from each line to the next, the entry number in column 0 changes by as
 // much. Each answer is its definition's (specs/Trace.antt), for any words, and nothing is asked of the caller. The

@@ -1,16 +1,16 @@
 // The holder of a qubit by the lines of a trace: any words, any number of lines, any qubit number. The lines are read
 // from the last one backwards, up to the line that decides.
 ghost use Rattle.std.specs.Prelude.{◌≡◌, ◌≤◌, length};
-ghost use Rattle.trace.specs.Trace.{lines_of, look_up, decides, count_read};
-ghost use Rattle.trace.specs.ReadCode.{as_line, named};
+ghost use Rattle.trace.specs.Trace.{lines_of, decides, count_read};
+ghost use Rattle.trace.specs.ReadCode.{as_line, named, found, held};
 
 use super::read::{line_at, line_count};
 use trace_lines::TraceLine;
 
-// The answer: the holder, 65535 for nobody, and how many lines were read.
+// The answer: the holder, if there is one, and how many lines were read.
 #[derive(Drop)]
 pub struct QubitHolder {
-    pub holder: u16,
+    pub holder: Option<u16>,
     pub read: usize,
 }
 
@@ -19,50 +19,44 @@ pub struct QubitHolder {
 fn is_deciding(l: TraceLine, q: u16) -> bool
     ensures { result ≡ decides q (as_line l) }
 {
-    if l.kind == 1 {
-        return l.a == q;
+    match l.kind {
+        1 => l.a == q,
+        6 => (l.b == 3) & (l.c == q),
+        _ => false,
     }
-    if l.kind == 6 {
-        return (l.b == 3) & (l.c == q);
-    }
-    false
 }
 
 // The holder that a line names which decides.
+#[tactic(auto, unfolding(crate::specs::ReadCode::named))]
 fn holder_named(l: TraceLine) -> u16
     ensures { result ≡ named (as_line l) }
 {
-    if l.kind == 1 {
-        return l.process;
-    }
-    l.a
+    if l.kind == 1 { l.process } else { l.a }
 }
 
-// The answer by the first n lines, where there are n. Line `at` is the one that is read; after it none decides.
+// The answer by the first n lines, where there are n. After line `at`, which is the one that is read, none decides.
 fn holder_back(trace: &[u16], n: usize, q: u16) -> QubitHolder
     requires { n ≤ length (lines_of trace.now) }
-    ensures { (result.holder ≡ look_up trace.now n q) × (result.read ≡ count_read trace.now n q) }
+    ensures { (found result.holder ≡ held trace.now n q) × (result.read ≡ count_read trace.now n q) }
 {
-    let mut i = n;
-    while 0 < i {
-        let at = i - 1;
+    for at in (0..n).rev() {
         let l = line_at(trace, at);
         if is_deciding(l, q) {
-            let holder = holder_named(l);
-            let read = n - at;
-            return QubitHolder { holder, read };
+            return QubitHolder {
+                holder: Some(holder_named(l)),
+                read: n - at,
+            };
         }
-        i = at;
     }
     QubitHolder {
-        holder: 65535,
+        holder: None,
         read: n,
     }
 }
 
 // The answer by the first k lines, all if there are fewer.
 pub fn qubit_holder(trace: &[u16], k: usize, qubit: u16) -> QubitHolder
-    ensures { (result.holder ≡ look_up trace.now k qubit)
+    ensures { (found result.holder ≡ held trace.now k qubit)
         × (result.read ≡ count_read trace.now k qubit) }
 {
     let n = line_count(trace);

@@ -46,12 +46,10 @@ pub fn same_lines(a: &[u16], b: &[u16]) -> bool
     if n != line_count(b) {
         return false;
     }
-    let mut i: usize = 0;
-    while i < n {
+    for i in 0..n {
         if !same_at(a, b, n, i) {
             return false;
         }
-        i += 1;
     }
     true
 }

@@ -3,8 +3,10 @@
 // with.
 #![tactic(auto)]
 
-ghost use Rattle.std.specs.Prelude.{◌≡◌, ◌+◌, ◌*◌, ◌<◌, length, set};
+ghost use Rattle.std.specs.Prelude.{◌≡◌, ◌+◌, ◌*◌, ◌<◌, length};
 ghost use Rattle.trace_lines.specs.WrittenCode.{with_three, with_six, with_line};
+
+use slices::put;
 
 // "Six 16-bit numbers: entry (from 0), process, kind, a, b, c; unused ones 65535."
 #[derive(Clone, Copy)]
@@ -17,21 +19,15 @@ pub struct TraceLine {
     pub c: u16,
 }
 
-fn put_word(t: &mut [u16], at: usize, x: u16)
-    ensures { t.new ≡ set t.old at x }
-{
-    if at < t.len() {
-        t[at] = x;
-    }
-}
-
+// Three words, each where it is within the trace.
+#[tactic(auto, unfolding(crate::specs::WrittenCode::with_three))]
 fn put_three(t: &mut [u16], at: usize, x: u16, y: u16, z: u16)
     requires { at < 4294967296 }
     ensures { t.new ≡ with_three t.old at x y z }
 {
-    put_word(t, at, x);
-    put_word(t, at + 1, y);
-    put_word(t, at + 2, z);
+    put(t, at, x);
+    put(t, at + 1, y);
+    put(t, at + 2, z);
 }
 
 // The six words of a line, all of them within the trace.
@@ -48,6 +44,7 @@ fn put_six(t: &mut [u16], at: usize, l: TraceLine)
 }
 
 // Line number i written. A run has fewer than 2^20 lines: at most 9 for each of 65,535 entries.
+#[tactic(auto, unfolding(crate::specs::WrittenCode::with_line, crate::specs::WrittenCode::with_six))]
 pub fn write_line(t: &mut [u16], i: u32, l: TraceLine)
     requires { i < 16777216 }
     ensures { t.new ≡ with_line t.old i l }
@@ -55,10 +52,10 @@ pub fn write_line(t: &mut [u16], i: u32, l: TraceLine)
     let at = 6 * (i as usize);
     if at + 5 < t.len() {
         put_six(t, at, l);
-        return;
+    } else {
+        put_three(t, at, l.entry, l.process, l.kind);
+        put_three(t, at + 3, l.a, l.b, l.c);
     }
-    put_three(t, at, l.entry, l.process, l.kind);
-    put_three(t, at + 3, l.a, l.b, l.c);
 }
 
 // Line number i and the next one, with one test where both are within the trace.
@@ -70,8 +67,8 @@ pub fn write_two(t: &mut [u16], i: u32, l: TraceLine, m: TraceLine)
     if at + 11 < t.len() {
         put_six(t, at, l);
         put_six(t, at + 6, m);
-        return;
+    } else {
+        write_line(t, i, l);
+        write_line(t, i + 1, m);
     }
-    write_line(t, i, l);
-    write_line(t, i + 1, m);
 }

@@ -1,6 +1,6 @@
 -- `first_beyond` searches the instructions: those below `i` keep their rule and have their targets marked, and
 -- `o` is the owner of the one before `i`.
-use Prim.Native.Nat.{◌-◌, ◌≤◌}
+use Prim.Native.Nat.{◌-◌}
 use mathlib.Core.Path.{◌≡◌}
 use Rattle.lists.specs.Lists.{first_false}
 use Rattle.table.specs.Questions.{instruction_kept}
@@ -9,7 +9,4 @@ use Rattle.check_arguments.specs.MarksCode.{marked}
 use Rattle.check_arguments.proofs.first_beyond.Given as goal
 
 abbrev pub invariant-loop-i : goal.invariant-loop-i
-invariant-loop-i l = (l.i ≤ l.n) × (first_false (instruction_kept l.p) l.i ≡ l.i) × (l.o ≡ owner_at l.p (l.i - 1)) × (l.targets ≡ marked l.p l.i l.initial.targets)
-
-abbrev pub decreases-loop-i : goal.decreases-loop-i
-decreases-loop-i l = l.n - l.i
+invariant-loop-i l = (first_false (instruction_kept l.p) l.i ≡ l.i) × (l.o ≡ owner_at l.p (l.i - 1)) × (l.targets ≡ marked l.p l.i l.initial.targets)

@@ -15,4 +15,4 @@ bounds-targets-k-2 c =
 pub returns : goal.returns
 returns c =
     let args = c.args in
-    mark-so args.op args.at args.i args.targets.now c.chosen-k.ensures c.chosen_byte.ensures
+    mark-so args.op args.at args.i args.targets.now c.chosen-k.ensures c.chosen.ensures

@@ -3,40 +3,39 @@ use mathlib.Core.Path.{◌∙◌}
 use Rattle.table.specs.Questions.{question4, question5}
 use Rattle.check_questions.specs.Check.{verdict_of}
 use Rattle.check_questions.specs.AskCode.{code_questions}
-use Rattle.check_questions.proofs.Verdicts.{place_found, place_none, code-known, zeros}
+use Rattle.check_questions.proofs.Verdicts.{and_then-end, place_found, place_none, code-known, zeros}
 use borrow.Author.Rules.{rules}
 use Rattle.check_questions.proofs.ask_code.Goals as goal
 
-pub returns-then-at-n : goal.returns-then-at-n
+pub returns-in-Some : goal.returns-in-Some
 unfolding verdict_of code_questions question4
-returns-then-at-n c =
+returns-in-Some c =
     let pre = c.requires in
-    let first-instruction = c.first_instruction-at in
-    place_found 4 _ _ _ _ pre.4 first-instruction.ensures.0 _ c.if-at-n.true
+    let first-instruction = c.first_instruction in
+    place_found 4 _ _ _ pre.4 first-instruction.ensures.0 _ _ c.in-Some.is
 
-pub first_reading-read-requires : goal.first_reading-read-requires
-first_reading-read-requires c =
+pub first_reading-requires : goal.first_reading-requires
+first_reading-requires c =
     let pre = c.requires in
-    let first-instruction = c.first_instruction-at in
-    code-known _ pre.0 _ _ pre.3 pre.4 pre.1 pre.2 _ first-instruction.ensures.0 c.if-at-n.false
+    let first-instruction = c.first_instruction in
+    code-known _ pre.0 _ _ pre.3 pre.4 pre.1 pre.2 first-instruction.ensures.0 c.in_default.is
     _ _ (search rules) (zeros 4096) first-instruction.ensures.1
 
-pub returns-then-read-n : goal.returns-then-read-n
+pub returns-in-Some-first_reading : goal.returns-in-Some-first_reading
 unfolding verdict_of code_questions question4 question5
-returns-then-read-n c =
+returns-in-Some-first_reading c =
     let pre = c.requires in
-    let first-instruction = c.first_instruction-at in
-    let if1 = c.if-at-n in
-    place_found 5 _ _ _ _ pre.4 c.first_reading-read.ensures _ c.if-read-n.true
-    ∙ place_none 4 _ _ _ _ pre.4 first-instruction.ensures.0 _ if1.false
+    let first-instruction = c.first_instruction in
+    place_found 5 _ _ _ pre.4 c.first_reading.ensures _ _ c.in-Some-first_reading.is
+    ∙ and_then-end _
+    ∙ place_none 4 _ _ _ pre.4 first-instruction.ensures.0 _ c.in_default.is
 
 pub returns : goal.returns
-unfolding code_questions question4 question5
+unfolding verdict_of code_questions question4 question5
 returns c =
     let pre = c.requires in
-    let first-reading = c.first_reading-read in
-    let first-instruction = c.first_instruction-at in
-    let if1 = c.if-at-n in
-    c.ask_inputs.ensures
-    ∙ place_none 5 _ _ _ _ pre.4 first-reading.ensures _ c.if-read-n.false
-    ∙ place_none 4 _ _ _ _ pre.4 first-instruction.ensures.0 _ if1.false
+    let first-reading = c.first_reading in
+    let first-instruction = c.first_instruction in
+    place_none 5 _ _ _ pre.4 first-reading.ensures _ c.in_default-first_reading.is
+    ∙ and_then-end _
+    ∙ place_none 4 _ _ _ pre.4 first-instruction.ensures.0 _ c.in_default.is

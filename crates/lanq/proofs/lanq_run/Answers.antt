@@ -6,4 +6,4 @@ use Rattle.lanq.proofs.lanq_run.Goals as goal
 pub returns : goal.returns
 returns c =
     let e = c.run.ensures in
-    (c.run_numbers.ensures ∙ ap run_answer e.0, e.1, e.2)
+    (c.run_numbers.ensures ∙ ap run_answer (c.of_table.ensures ∙ e.0), e.1, e.2)

@@ -1,5 +1,4 @@
 -- `put_words` goes through the words: the first i of them are put.
-use Prim.Native.Nat.{◌-◌, ◌≤◌}
 use mathlib.Core.Path.{◌≡◌}
 use lib.ListN.{take}
 use Rattle.print_format.specs.Format.{words_of}
@@ -8,7 +7,4 @@ use Rattle.print_input.proofs.FileLaws.{part}
 use Rattle.print_input.proofs.put_words.Given as goal
 
 abbrev pub invariant-loop-i : goal.invariant-loop-i
-invariant-loop-i l = (l.i ≤ l.k) × (l.words ≡ put_from l.initial.words 0 (take l.i (words_of (part l.bytes l.from l.n))))
-
-abbrev pub decreases-loop-i : goal.decreases-loop-i
-decreases-loop-i l = l.k - l.i
+invariant-loop-i l = l.words ≡ put_from l.initial.words 0 (take l.i (words_of (part l.bytes l.from l.n)))

@@ -3,18 +3,6 @@ use native.Mathlib.Omega.{arith}
 use Rattle.print_input.proofs.FileLaws.{part, part_length, words_of-length}
 use Rattle.print_input.proofs.words_in.Goals as goal
 
-pub returns-then-bytes-from : goal.returns-then-bytes-from
-returns-then-bytes-from c =
-    let args = c.args in
-    let l = args.bytes.now in
-    omega (arith, part_length l args.from args.n, words_of-length (part l args.from args.n))
-
-pub returns-then-n-left : goal.returns-then-n-left
-returns-then-n-left c =
-    let args = c.args in
-    let l = args.bytes.now in
-    omega (arith, part_length l args.from args.n, words_of-length (part l args.from args.n))
-
 pub returns : goal.returns
 returns c =
     let args = c.args in

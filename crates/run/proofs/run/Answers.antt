@@ -1,26 +1,26 @@
 -- `run` runs where no question says no, and touches nothing else.
-use Rattle.run.proofs.Answering.{accepts, refuses, ran-so}
+use mathlib.Core.Path.{sym}
+use Rattle.std.proofs.lemmas.Result.{err_from_is_err_and}
+use Rattle.check_questions.specs.Check.{verdict_of}
+use Rattle.run.proofs.Answering.{refuses, ran-so}
 use Rattle.run.specs.Answers.{answer_numbers}
 use Rattle.run.proofs.run.Goals as goal
 
-pub returns-then-v-ne0 : goal.returns-then-v-ne0
-unfolding answer_numbers
-returns-then-v-ne0 c =
+pub returns-in_err-ask : goal.returns-in_err-ask
+unfolding answer_numbers verdict_of
+returns-in_err-ask c =
     let args = c.args in
-    refuses args.program.now args.schedule.now args.outcomes.now args.trace.now args.work.now
-    c.ask.result c.ask.ensures c.verdict-v.ensures c.if-v-ne0.true
+    let p = err_from_is_err_and c.from_residual.result c.from_residual.ensures.1 in
+    rw (p.1, p.2)
+    (refuses args.program.now args.schedule.now args.outcomes.now args.trace.now args.work.now c.in_err-ask.ensures)
 
-pub accepted_run-o-requires : goal.accepted_run-o-requires
-accepted_run-o-requires c =
-    let args = c.args in
-    accepts args.program.now args.schedule.now args.outcomes.now args.trace.now args.work.now
-    c.ask.result c.ask.ensures c.verdict-v.ensures c.if-v-ne0.false
+pub accepted_run-requires : goal.accepted_run-requires
+unfolding verdict_of
+accepted_run-requires c = sym c.in_ok-ask.ensures
 
 pub returns : goal.returns
-unfolding answer_numbers
+unfolding answer_numbers verdict_of
 returns c =
     let args = c.args in
     ran-so args.program.now args.schedule.now args.outcomes.now args.trace.now args.work.now
-    (accepts args.program.now args.schedule.now args.outcomes.now args.trace.now args.work.now
-    c.ask.result c.ask.ensures c.verdict-v.ensures c.if-v-ne0.false)
-    c.accepted_run-o.ensures
+    c.accepted_run.result (sym c.in_ok-ask.ensures) c.accepted_run.ensures

@@ -4,11 +4,8 @@ use Rattle.text_translate.proofs.Answering.{names-say, well-named}
 use Rattle.text_translate.proofs.names_then_table.Goals as goal
 
 pub table_of-requires : goal.table_of-requires
-table_of-requires c =
-    let named = well-named _ c.requires.1 c.name_fault-fault.ensures
-    c.in-NoFault.is in
-    (named, c.index_methods.ensures)
+table_of-requires c = well-named _ c.requires.1 c.in-None.ensures
 
-pub returns-in-FaultAt : goal.returns-in-FaultAt
+pub returns-in-Some : goal.returns-in-Some
 unfolding answer_numbers
-returns-in-FaultAt c = names-say _ _ c.requires.1 c.name_fault-fault.ensures c.in-FaultAt.is
+returns-in-Some c = names-say _ _ c.requires.1 c.in-Some.ensures

@@ -14,9 +14,3 @@ returns-then-at-t c =
     c.put_six-then-at-t.ensures
     ∙ ap (λ (k : ℕ). with_six c.put_six.new.t k args.m) next
     ∙ ap (λ l. with_six l (6 * (i + 1)) args.m) c.put_six.ensures
-
-pub returns : goal.returns
-returns c =
-    let args = c.args in
-    c.write_line-2.ensures
-    ∙ ap (λ l. with_line l (args.i + 1) args.m) c.write_line.ensures

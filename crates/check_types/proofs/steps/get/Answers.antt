@@ -5,7 +5,4 @@ use Rattle.check_types.proofs.steps.get.Goals as goal
 pub on-requires : goal.on-requires
 on-requires c =
     let pre = c.requires in
-    (pre.1, omega (arith, c.slot_type.ensures))
-
-pub returns : goal.returns
-returns c = (cc, c.on.ensures.1)
+    omega (arith, pre.small, c.slot_type.ensures)

@@ -5,7 +5,4 @@ use Rattle.check_types.proofs.steps.put.Goals as goal
 pub one-requires : goal.one-requires
 one-requires c =
     let pre = c.requires in
-    (pre.1, omega (arith, c.slot_type-t.ensures), omega (arith, c.slot_type-t.ensures))
-
-pub returns : goal.returns
-returns c = (cc, c.one.ensures.1)
+    (omega (arith, pre.used, c.slot_type-t.ensures), omega (arith, pre.small, c.slot_type-t.ensures))

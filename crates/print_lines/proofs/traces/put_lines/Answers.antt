@@ -1,21 +1,19 @@
 -- `put_lines` goes through the lines: the text of the first i is put.
-use Prim.Native.Nat.{ℕ, ◌-◌}
-use mathlib.Core.Path.{◌≡◌, refl, ◌∙◌, ap}
+use mathlib.Core.Path.{refl, ◌∙◌, ap}
 use mathlib.Core.List.{◌++◌}
 use native.Mathlib.Omega.{arith}
-use lib.ListN.{length, take}
+use lib.ListN.{take}
 use Rattle.machine.specs.State.{Line}
 use Rattle.trace.specs.Trace.{lines_of}
 use Rattle.print_format.specs.Format.{line_text, lines_text}
 use Rattle.lists.specs.Lists.{put_from}
-use Rattle.lists.proofs.Put.{put_then, put_same, put_from-length}
+use Rattle.lists.proofs.Put.{put_then, put_same}
 use Rattle.print_lines.proofs.TraceText.{lines_text-next, first-length}
-use borrow.Author.Rules.{rules}
 use Rattle.print_lines.proofs.traces.put_lines.Goals as goal
 
 pub loop-i-init : goal.loop-i-init
 unfolding lines_text put_from
-loop-i-init c = (search rules, (refl, omega arith))
+loop-i-init c = (refl, omega arith)
 
 pub put_line-end-requires : goal.put_line-end-requires
 put_line-end-requires c =
@@ -28,21 +26,7 @@ loop-i-preserved c =
     let loop = c.loop-i in
     let out = args.out.now in
     let ls = lines_of args.trace.now in
-    let text = lines_text (take loop.i ls) in (
-      search rules,
-      put_same out args.at
-          (ap (λ (l : Line). text ++ line_text l) c.line_at.ensures ∙ lines_text-next ls loop.i
-          (omega arith))
-          (put_then out args.at text _ loop.invariant.1 c.put_line-end.ensures),
-    )
-
-pub shape_of-out : goal.shape_of-out
-shape_of-out c = ap length c.loop-i.invariant.1.0 ∙ simp put_from-length
-
-pub returns : goal.returns
-returns c =
-    let args = c.args in
-    let loop = c.loop-i in
-    let e : loop.i ≡ args.n = omega arith in
-    put_same args.out.now args.at (ap (λ (i : ℕ). lines_text (take i (lines_of args.trace.now))) e)
-    loop.invariant.1
+    let text = lines_text (take loop.i ls) in
+    put_same out args.at
+    (ap (λ (l : Line). text ++ line_text l) c.line_at.ensures ∙ lines_text-next ls loop.i (omega arith))
+    (put_then out args.at text _ loop.invariant c.put_line-end.ensures)

@@ -33,7 +33,7 @@ returns c =
     let args = c.args in
     let out = args.out.now in
     let to1 =
-    put_then out args.at end_word (spaced args.e) c.put_three-i0.ensures
+    put_then out args.at end_word (spaced args.e) c.put_bytes-i0.ensures
     c.put_spaced-i1.ensures in
     let to2 =
     put_then out args.at (end_word ++ spaced args.e) (spaced args.k) to1

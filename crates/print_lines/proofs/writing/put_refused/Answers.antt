@@ -23,12 +23,12 @@ put_byte-requires c =
     omega (arith, spaced-length args.n, spaced-length args.place)
 
 pub returns : goal.returns
-unfolding refused_text
+unfolding refused_text refused_word
 returns c =
     let args = c.args in
     let out = args.out.now in
     let to1 =
-    put_then out args.at refused_word (spaced args.n) c.put_refused_word-i.ensures
+    put_then out args.at refused_word (spaced args.n) c.put_bytes-i.ensures
     c.put_spaced-j.ensures in
     let to2 =
     put_then out args.at (refused_word ++ spaced args.n) (spaced args.place) to1

@@ -1,12 +1,18 @@
 -- `pair_of` goes by which of the two sends.
-use Rattle.lists.proofs.Tests.{took, passed-by}
-use Rattle.run_ability.specs.PairingCode.{paired_of}
+use mathlib.Core.Path.{sym, ◌∙◌, ap}
+use Rattle.run_ability.specs.PairingCode.{received_of}
+use Rattle.run_ability.proofs.Returns.{receives, receives-none}
 use Rattle.run_ability.proofs.pairing.pair_of.Goals as goal
 
-pub returns-then-is_sends : goal.returns-then-is_sends
-unfolding paired_of
-returns-then-is_sends c = took _ _ _ c.is_sends.ensures c.if-is_sends.true c.meeting.ensures
+pub returns-in_default-Sends : goal.returns-in_default-Sends
+unfolding received_of
+returns-in_default-Sends c =
+    let args = c.args in
+    sym (ap (received_of args.n.0 args.q.0) c.in_default-Sends.is-1)
+    ∙ receives args.n.0 args.a args.q.0 args.b c.in_default-Sends.not-Sends-0
 
-pub returns : goal.returns
-unfolding paired_of
-returns c = passed-by _ _ _ c.is_sends.ensures c.if-is_sends.false c.meeting-2.ensures
+pub returns-in_default : goal.returns-in_default
+returns-in_default c =
+    let args = c.args in
+    receives-none args.n.0 args.q.0 args.b c.in_default.not-Sends-1
+    ∙ receives args.n.0 args.a args.q.0 args.b c.in_default.not-Sends-0

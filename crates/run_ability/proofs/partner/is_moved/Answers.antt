@@ -11,24 +11,20 @@ returns-then-is_no_other c =
 
 pub readiness_of-b-requires : goal.readiness_of-b-requires
 readiness_of-b-requires c = (
-  c.requires.0,
-  c.requires.1,
-  other-low c.args.n.0 c.holder_of-q.result.0
-      c.is_no_other.ensures c.if-is_no_other.false,
+  c.requires,
+  other-low c.args.n.0 c.holder_of-q.result.0 c.is_no_other.ensures c.if-is_no_other.false,
 )
 
-pub returns-then-is_over : goal.returns-then-is_over
-returns-then-is_over c =
+pub returns-in-Idle : goal.returns-in-Idle
+returns-in-Idle c =
     let args = c.args in
     over-asked args.p.now args.work.now args.t.now args.n.0 args.a
     c.opposite.ensures.0 c.opposite.ensures.1 c.holder_of-q.ensures
-    c.is_no_other.ensures c.if-is_no_other.false c.readiness_of-b.ensures
-    c.is_over.ensures c.if-is_over.true
+    c.is_no_other.ensures c.if-is_no_other.false c.readiness_of-b.ensures c.in-Idle.is
 
-pub returns : goal.returns
-returns c =
+pub returns-in_default : goal.returns-in_default
+returns-in_default c =
     let args = c.args in
     other-asked args.p.now args.work.now args.t.now args.n.0 args.a
     c.opposite.ensures.0 c.opposite.ensures.1 c.holder_of-q.ensures
-    c.is_no_other.ensures c.if-is_no_other.false c.readiness_of-b.ensures
-    c.is_over.ensures c.if-is_over.false c.meets.ensures
+    c.is_no_other.ensures c.if-is_no_other.false c.readiness_of-b.ensures c.in_default.not-Idle c.meets.ensures

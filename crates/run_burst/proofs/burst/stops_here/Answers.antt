@@ -2,21 +2,18 @@
 use Rattle.run_burst.proofs.Steps.{stops-moving, goes-known, goes-seen}
 use Rattle.run_burst.proofs.burst.stops_here.Goals as goal
 
-pub returns-then-not-waits : goal.returns-then-not-waits
-returns-then-not-waits c =
+pub returns-in-Waits : goal.returns-in-Waits
+returns-in-Waits c =
     let args = c.args in
-    stops-moving args.p.now args.work.now args.schedule.now args.k args.known args.m
-    c.waits.ensures c.if-not-waits.true-raw
+    goes-known args.p.now args.work.now args.schedule.now args.k args.known c.in-Waits.is c.if-known.true
 
-pub returns-then-known : goal.returns-then-known
-returns-then-known c =
+pub returns-in-Waits-2 : goal.returns-in-Waits-2
+returns-in-Waits-2 c =
     let args = c.args in
-    goes-known args.p.now args.work.now args.schedule.now args.k args.known args.m
-    c.waits.ensures c.if-not-waits.false-raw c.if-known.true
+    goes-seen args.p.now args.work.now args.schedule.now args.k args.known c.in-Waits-2.is c.if-known.false
+    c.named_before.ensures c.moves_alone.ensures
 
-pub returns : goal.returns
-returns c =
+pub returns-in_default : goal.returns-in_default
+returns-in_default c =
     let args = c.args in
-    goes-seen args.p.now args.work.now args.schedule.now args.k args.known args.m
-    c.waits.ensures c.if-not-waits.false-raw c.if-known.false c.named_before.ensures
-    c.moves_alone.ensures
+    stops-moving args.p.now args.work.now args.schedule.now args.k args.known c.in_default.not-Waits

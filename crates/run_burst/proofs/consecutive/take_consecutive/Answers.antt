@@ -12,8 +12,8 @@ bounds-schedule-k c =
     c.if-not-names_again.false-raw)
 
 pub returns : goal.returns
-returns c = (
-  taken c.args.p.now c.args.schedule.now c.args.work.now c.requires.1
+returns c = rw (← c.words.ensures) (
+  taken c.words.result.now c.args.schedule.now c.args.work.now c.requires.0
       (get_or c.args.schedule.now c.args.k 0) (omega (arith, c.if-n-ge8.false)) c.args.known
       (search rules)
       c.stretch.ensures.0 c.stretch.ensures.1,

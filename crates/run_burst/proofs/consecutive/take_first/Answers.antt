@@ -11,9 +11,10 @@ use Rattle.run_burst.proofs.consecutive.take_first.Goals as goal
 pub returns : goal.returns
 returns c =
     let work = c.args.work.now in
-    let long = c.requires.1 in
-    let ran = c.stretch.ensures.0 in (
-      taken c.args.p.now
+    let long = c.requires.0 in
+    let ran = c.stretch.ensures.0 in
+    rw (← c.words.ensures) (
+      taken c.words.result.now
           c.args.schedule.now work long 0 (omega arith)
           nothing_known nothing-some ran c.stretch.ensures.1,
       c.stretch.ensures.2,

@@ -4,7 +4,5 @@ use Rattle.run_cursor.proofs.moves.discard_to.Goals as goal
 
 pub returns : goal.returns
 returns c =
-    discards-to c.requires.0
-    c.requires.1
-    c.args.to
-    c.free.ensures c.write.ensures
+    discards-to c.requires.0 c.requires.1 c.args.to c.free.ensures
+    (rw c.empty.ensures at c.write.ensures)

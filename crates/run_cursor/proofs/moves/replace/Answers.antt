@@ -3,13 +3,4 @@ use Rattle.run_cursor.proofs.Shapes.{replaces}
 use Rattle.run_cursor.proofs.moves.replace.Goals as goal
 
 pub returns : goal.returns
-returns c =
-    replaces c.requires.0
-    c.requires.1
-    c.requires.2 (record {
-      tag =
-          c.args.tag;
-      number =
-          c.args.number;
-    })
-    c.free.ensures c.write.ensures
+returns c = replaces c.requires.0 c.requires.1 c.requires.2 c.args.v c.free.ensures c.write.ensures

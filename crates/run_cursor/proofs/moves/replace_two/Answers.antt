@@ -4,15 +4,5 @@ use Rattle.run_cursor.proofs.moves.replace_two.Goals as goal
 
 pub returns : goal.returns
 returns c =
-    covers
-    c.requires.0
-    c.requires.1
-    c.requires.2 (record {
-      tag =
-          c.args.tag;
-      number
-          = c.args.number;
-    })
-    c.free-at.ensures
-    c.write.ensures
-    c.write-2.ensures
+    covers c.requires.0 c.requires.1 c.requires.2 c.args.v c.free-at.ensures
+    (rw c.empty.ensures at c.write.ensures) c.write-2.ensures

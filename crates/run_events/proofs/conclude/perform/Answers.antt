@@ -1,18 +1,8 @@
 -- `perform` is the op's own function, case by case.
 use Rattle.run_gates.specs.GatesCode.{after_event}
 use Rattle.run_events.proofs.Returns.{event-newq, event-newc, event-gate, event-meas, event-end, event-fault}
-use Rattle.table.specs.Table.{methods, word}
 use mathlib.Core.Path.{refl, ap₂}
-use native.Mathlib.Omega.{arith}
 use Rattle.run_events.proofs.conclude.perform.Goals as goal
-
-pub overflow_add-start : goal.overflow_add-start
-unfolding methods word
-overflow_add-start c = omega (arith, c.requires, c.type_inv.p 0)
-
-pub overflow_add-start-2 : goal.overflow_add-start-2
-unfolding methods word
-overflow_add-start-2 c = omega (arith, c.requires, c.type_inv.p 0)
 
 pub returns-in-NewQ : goal.returns-in-NewQ
 returns-in-NewQ c =
@@ -30,8 +20,7 @@ pub returns-in-Gate : goal.returns-in-Gate
 returns-in-Gate c =
     event-gate c.args.p.now c.args.w.now c.args.does c.args.qubits
     c.args.channels c.args.outcomes.now c.args.used c.read_head-h.ensures
-    c.args.start _ c.requires c.word_at-a.ensures.0 c.in-Gate.is
-    c.op_gate.ensures
+    c.argument.ensures c.in-Gate.is c.op_gate.ensures
 
 pub returns-in-Meas : goal.returns-in-Meas
 returns-in-Meas c =

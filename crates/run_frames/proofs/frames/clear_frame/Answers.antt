@@ -4,7 +4,7 @@ use Rattle.run_store.specs.StoreCode.{cleared_from}
 use lib.ListN.{length-set}
 use mathlib.Core.Path.{◌≡◌, refl, ◌∙◌, subst}
 use native.Mathlib.Omega.{arith}
-use Prim.Native.Nat.{ℕ, ◌+◌, ◌-◌}
+use Prim.Native.Nat.{ℕ, ◌+◌}
 use borrow.Author.Rules.{rules}
 use Rattle.run_frames.proofs.frames.clear_frame.Goals as goal
 

@@ -4,7 +4,7 @@ use Rattle.run_store.specs.StoreCode.{empty_down}
 use mathlib.Core.Bool.{false}
 use mathlib.Core.Path.{◌≡◌, refl, sym, subst}
 use native.Mathlib.Omega.{arith}
-use Prim.Native.Nat.{ℕ, ◌-◌}
+use Prim.Native.Nat.{ℕ}
 use borrow.Author.Rules.{rules}
 use Rattle.run_frames.proofs.frames.lacks.Goals as goal
 

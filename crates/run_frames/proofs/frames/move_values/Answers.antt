@@ -3,7 +3,7 @@ use Rattle.run_store.proofs.Laws.{moved_more}
 use Rattle.run_store.specs.StoreCode.{moved_down}
 use mathlib.Core.Path.{◌≡◌, refl, ◌∙◌, subst}
 use native.Mathlib.Omega.{arith}
-use Prim.Native.Nat.{ℕ, ◌-◌}
+use Prim.Native.Nat.{ℕ}
 use borrow.Author.Rules.{rules}
 use Rattle.run_frames.proofs.frames.move_values.Goals as goal
 

@@ -2,24 +2,23 @@
 use Rattle.run_values.specs.ValuesCode.{after_step, over_two, bool_val}
 use Rattle.run_numbers.specs.NumbersCode.{less_op, bit}
 use Rattle.run_values.specs.declared.steps.StepResult.TheVariants.{WentOn}
-use Rattle.run_numbers.proofs.Returns.{two-stop, two-go}
+use Rattle.run_numbers.proofs.Returns.{two-none, two-some}
 use Prim.Native.Nat.{ℕ}
 use mathlib.Core.Path.{◌∙◌, ap, ap₂}
 use lib.Dec.{ltb}
 use Rattle.run_numbers.proofs.numbers.op_less.Goals as goal
 
-pub returns-then-two_empty : goal.returns-then-two_empty
+pub returns-in_default : goal.returns-in_default
 unfolding less_op
-returns-then-two_empty c =
+returns-in_default c =
     let args = c.args in
-    two-stop args.w.now args.h _ c.two_empty.ensures c.if-two_empty.true
+    two-none args.w.now args.h _ c.two_numbers.ensures c.in_default.is
 
 pub returns : goal.returns
 unfolding less_op
 returns c =
     let args = c.args in
-    two-go args.w.now args.h _ c.two_empty.ensures c.if-two_empty.false
-    c.number-x.ensures c.number-y.ensures
+    two-some args.w.now args.h _ c.two_numbers.ensures c.in-Some.is
     (ap (after_step WentOn)
     (c.replace_two.ensures
     ∙ ap (over_two args.w.now args.h)

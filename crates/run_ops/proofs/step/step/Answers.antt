@@ -2,10 +2,8 @@
 use Rattle.lists.proofs.Tests.{passed-by}
 use Rattle.run_ops.proofs.Returns.{step-acts}
 use Rattle.run_ops.specs.OpsCode.{step_op}
-use Rattle.table.specs.Table.{methods, word}
 use Rattle.run_store.specs.StoreCode.{head_of}
 use Rattle.run_store.specs.declared.head.Head.{Head}
-use native.Mathlib.Omega.{arith}
 use borrow.Author.Tests.{ne_eqb}
 use mathlib.Core.Path.{◌∙◌, ap, refl, sym}
 use lib.ListN.{get_or}
@@ -17,29 +15,11 @@ returns-then-get-ne1 c =
     passed-by _ _ _ refl (ne_eqb (get_or c.args.w.now 0 0) 1
     (λ e. c.if-get-ne1.true (c.get.ensures ∙ e))) refl
 
-pub overflow_add-start : goal.overflow_add-start
-unfolding methods word
-overflow_add-start c =
-    omega (
-      arith,
-      c.requires,
-      c.type_inv.p 0,
-    )
-
-pub read_instruction-i-requires : goal.read_instruction-i-requires
-unfolding methods word
-read_instruction-i-requires c =
-    omega (
-      arith,
-      c.requires,
-      c.type_inv.p 0,
-    )
-
 pub returns : goal.returns
 unfolding head_of
 returns c =
-    step-acts c.args.p.now c.args.w.now c.args.start c.read_head-h.ensures
+    step-acts c.args.p.now c.args.w.now c.read_head-h.ensures
     (ap (λ (h : Head). h.status) c.read_head-h.ensures ∙ sym
-    c.get.ensures ∙ c.if-get-ne1.false) c.requires
-    c.read_instruction-i.ensures.0
-    c.read_instruction-i.ensures.1 c.act.ensures
+    c.get.ensures ∙ c.if-get-ne1.false)
+    c.instruction-i.ensures.0
+    c.instruction-i.ensures.1 c.act.ensures

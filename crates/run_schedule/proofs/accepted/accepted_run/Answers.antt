@@ -4,8 +4,8 @@ use Rattle.run_schedule.proofs.Began.{starts_from, leaves-same}
 use Rattle.table.specs.Table.{methods}
 use Rattle.table.proofs.Accepted.{kept}
 use Rattle.machine.specs.Run.{run}
-use Prim.Native.Nat.{ℕ, ◌+◌, ◌*◌, ◌/◌}
-use mathlib.Core.Path.{refl, ◌∙◌, ap}
+use Prim.Native.Nat.{◌/◌}
+use mathlib.Core.Path.{refl, ◌∙◌}
 use native.Mathlib.Omega.{arith}
 use lib.ListN.{length}
 use Rattle.run_schedule.proofs.accepted.accepted_run.Goals as goal
@@ -26,7 +26,6 @@ run_entries-requires c =
     kept c.args.program.now
     (table_kept c.args.program.now c.args.schedule.now c.args.outcomes.now
     (length c.args.work.now) ok) in (
-      ap (λ (m : ℕ). 2 + 20 * m) c.word_at-methods.ensures.0,
       omega
           (arith, long, c.begin_run.auto.work),
       schedule-short c.args.program.now

@@ -7,6 +7,3 @@ use Rattle.run_store.proofs.blocks.clear_within.Given as goal
 
 abbrev pub invariant-loop-i : goal.invariant-loop-i
 invariant-loop-i l = (l.i ≤ l.n) × (l.w ≡ cleared_from l.initial.w l.from l.i) × (length l.w ≡ length l.initial.w)
-
-abbrev pub decreases-loop-i : goal.decreases-loop-i
-decreases-loop-i l = l.n - l.i

@@ -7,6 +7,3 @@ use Rattle.run_store.proofs.giving.give_away.Given as goal
 
 abbrev pub invariant-loop-j : goal.invariant-loop-j
 invariant-loop-j l = (l.j ≤ l.n) × (l.w ≡ emptied_by l.initial.w l.t l.j) × (length l.w ≡ length l.initial.w)
-
-abbrev pub decreases-loop-j : goal.decreases-loop-j
-decreases-loop-j l = l.n - l.j

@@ -37,16 +37,16 @@ call-requires c = (
       c.requires.5
       c.requires.6
       c.requires.4)
-      c.if-op-eq12.true,
+      c.in-12.is,
 )
 
-pub returns-then-op-eq12 : goal.returns-then-op-eq12
+pub returns-in-12 : goal.returns-in-12
 unfolding word
-returns-then-op-eq12 c =
+returns-in-12 c =
     taken-from c.args.p.now c.put_top.ensures
     (calls-step c.args.p.now _ c.args.start
     (sym c.requires.7 ∙ ap head_of (sym c.put_top.ensures)) c.requires.3 c.requires.4
-    (op-kept c.requires.5 c.requires.6 c.requires.4) refl c.if-op-eq12.true
+    (op-kept c.requires.5 c.requires.6 c.requires.4) refl c.in-12.is
     c.call.ensures)
 
 pub ret-requires : goal.ret-requires
@@ -58,14 +58,14 @@ ret-requires c = (
   c.requires.6.method,
 )
 
-pub returns-then-op-eq13 : goal.returns-then-op-eq13
+pub returns-in-13 : goal.returns-in-13
 unfolding word
-returns-then-op-eq13 c =
+returns-in-13 c =
     taken-from c.args.p.now c.put_top.ensures
     (returns-step c.args.p.now _ c.args.start
     (sym c.requires.7 ∙ ap head_of (sym c.put_top.ensures)) c.requires.3 c.requires.4
-    (op-kept c.requires.5 c.requires.6 c.requires.4) refl c.if-op-eq13.true
+    (op-kept c.requires.5 c.requires.6 c.requires.4) refl c.in-13.is
     c.ret.ensures)
 
-pub returns : goal.returns
-returns c = was-left c.put_top.ensures
+pub returns-in_default : goal.returns-in_default
+returns-in_default c = was-left c.put_top.ensures

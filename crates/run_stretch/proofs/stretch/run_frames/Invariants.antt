@@ -5,9 +5,9 @@ use lib.ListN.{length}
 use Rattle.run_stretch.specs.StretchCode.{PlainSteps}
 use Rattle.run_stretch.proofs.stretch.run_frames.Given as goal
 
-abbrev pub invariant-loop-r : goal.invariant-loop-r
-invariant-loop-r l = (l.k ≤ length l.schedule) × PlainSteps l.p l.schedule l.n l.from l.initial.w l.k l.w
+abbrev pub invariant-loop-next : goal.invariant-loop-next
+invariant-loop-next l = (l.k ≤ length l.schedule) × PlainSteps l.p l.schedule l.n l.from l.initial.w l.k l.w
     × (length l.w ≡ length l.initial.w)
 
-abbrev pub decreases-loop-r : goal.decreases-loop-r
-decreases-loop-r l = length l.schedule - l.k
+abbrev pub decreases-loop-next : goal.decreases-loop-next
+decreases-loop-next l = length l.schedule - l.k

@@ -7,8 +7,7 @@ use Rattle.run_moves.specs.MovesCode.{int_op, bool_op, clear_op}
 use Rattle.run_values.specs.declared.steps.StepResult.TheVariants.{WentOn}
 use Rattle.run_ops.specs.OpsCode.{op_functions, act_op}
 use Rattle.run_cursor.specs.CursorCode.{head_with, laid}
-use Rattle.run_cursor.proofs.Laid.{halts}
-use Rattle.run_cursor.proofs.Shapes.{goes_in}
+use Rattle.run_cursor.proofs.Shapes.{went_in, goes_in}
 use Rattle.run_stretch.proofs.Runs.{by-op}
 use Rattle.run_stretch.proofs.Within.{steps-inside, lands-inside, slot-of-get, slot-of-put, slot-of-clear}
 use Rattle.run_stretch.proofs.turn.act.Goals as goal
@@ -37,19 +36,16 @@ store_slot-requires c = (
       c.in-6.is,
 )
 
-pub returns-in-0 : goal.returns-in-0
-returns-in-0 c = halts c.requires.0 c.halt.ensures refl
-
 pub returns-in-1 : goal.returns-in-1
 unfolding act_op op_functions int_op
 returns-in-1 c =
     let args = c.args in
-    goes_in
+    goes_in _ _ _ _ c.push.result _
     (by-op args.p.now (laid args.w.now args.h args.c) (head_with args.h args.c) args.a
     c.in-1.is
     ∙ ap (λ (x : ℕ). after_step WentOn (push_on (laid args.w.now args.h args.c) (head_with args.h args.c)
     (int_val x)))
-    (sym c.extend.ensures))
+    (sym c.extend-number.ensures))
     (steps-inside c.requires.4
     c.requires.5 1
     c.in-1.is refl)
@@ -59,7 +55,7 @@ pub returns-in-2 : goal.returns-in-2
 unfolding act_op op_functions bool_op
 returns-in-2 c =
     let args = c.args in
-    goes_in
+    goes_in _ _ _ _ c.push-in-2.result _
     (by-op args.p.now (laid args.w.now args.h args.c) (head_with args.h args.c) args.a
     c.in-2.is)
     (steps-inside c.requires.4
@@ -71,7 +67,7 @@ pub returns-in-3 : goal.returns-in-3
 unfolding act_op op_functions
 returns-in-3 c =
     let args = c.args in
-    goes_in
+    goes_in _ _ _ _ c.get.result _
     (by-op args.p.now (laid args.w.now args.h args.c) (head_with args.h args.c) args.a
     c.in-3.is)
     (steps-inside c.requires.4
@@ -83,7 +79,7 @@ pub returns-in-4 : goal.returns-in-4
 unfolding act_op op_functions
 returns-in-4 c =
     let args = c.args in
-    goes_in
+    goes_in _ _ _ _ c.put.result _
     (by-op args.p.now (laid args.w.now args.h args.c) (head_with args.h args.c) args.a
     c.in-4.is)
     (steps-inside c.requires.4
@@ -95,7 +91,7 @@ pub returns-in-5 : goal.returns-in-5
 unfolding act_op op_functions
 returns-in-5 c =
     let args = c.args in
-    goes_in
+    goes_in _ _ _ _ c.drop_top.result _
     (by-op args.p.now (laid args.w.now args.h args.c) (head_with args.h args.c) args.a
     c.in-5.is)
     (steps-inside c.requires.4
@@ -107,25 +103,19 @@ pub returns-in-6 : goal.returns-in-6
 unfolding act_op op_functions clear_op
 returns-in-6 c =
     let args = c.args in
-    goes_in
+    went_in
     (by-op args.p.now (laid args.w.now args.h args.c) (head_with args.h args.c) args.a
     c.in-6.is)
     (steps-inside c.requires.4
     c.requires.5 6
     c.in-6.is refl)
-    c.store_slot.ensures
-
-pub returns-in-7 : goal.returns-in-7
-returns-in-7 c = halts c.requires.0 c.halt-in-7.ensures refl
-
-pub returns-in-8 : goal.returns-in-8
-returns-in-8 c = halts c.requires.0 c.halt-in-8.ensures refl
+    (rw c.empty.ensures at c.store_slot.ensures)
 
 pub returns-in-9 : goal.returns-in-9
 unfolding act_op op_functions
 returns-in-9 c =
     let args = c.args in
-    goes_in
+    goes_in _ _ _ _ c.end_of.result _
     (by-op args.p.now (laid args.w.now args.h args.c) (head_with args.h args.c) args.a
     c.in-9.is)
     (steps-inside c.requires.4
@@ -133,32 +123,11 @@ returns-in-9 c =
     c.in-9.is refl)
     c.end_of.ensures
 
-pub returns-in-10 : goal.returns-in-10
-returns-in-10 c = halts c.requires.0 c.halt-in-10.ensures refl
-
-pub returns-in-11 : goal.returns-in-11
-returns-in-11 c = halts c.requires.0 c.halt-in-11.ensures refl
-
-pub returns-in-12 : goal.returns-in-12
-returns-in-12 c = halts c.requires.0 c.halt-in-12.ensures refl
-
-pub returns-in-13 : goal.returns-in-13
-returns-in-13 c = halts c.requires.0 c.halt-in-13.ensures refl
-
-pub returns-in-14 : goal.returns-in-14
-returns-in-14 c = halts c.requires.0 c.halt-in-14.ensures refl
-
-pub returns-in-15 : goal.returns-in-15
-returns-in-15 c = halts c.requires.0 c.halt-in-15.ensures refl
-
-pub returns-in-16 : goal.returns-in-16
-returns-in-16 c = halts c.requires.0 c.halt-in-16.ensures refl
-
 pub returns-in-17 : goal.returns-in-17
 unfolding act_op op_functions
 returns-in-17 c =
     let args = c.args in
-    goes_in
+    went_in
     (by-op args.p.now (laid args.w.now args.h args.c) (head_with args.h args.c) args.a
     c.in-17.is)
     (lands-inside c.requires.4
@@ -171,7 +140,7 @@ pub returns-in-18 : goal.returns-in-18
 unfolding act_op op_functions
 returns-in-18 c =
     let args = c.args in
-    goes_in
+    goes_in _ _ _ _ c.jump_on_false.result _
     (by-op args.p.now (laid args.w.now args.h args.c) (head_with args.h args.c) args.a
     c.in-18.is)
     (λ x y. ⊎_elim (lands-inside c.requires.4
@@ -187,7 +156,7 @@ pub returns-in-19 : goal.returns-in-19
 unfolding act_op op_functions
 returns-in-19 c =
     let args = c.args in
-    goes_in
+    goes_in _ _ _ _ c.add.result _
     (by-op args.p.now (laid args.w.now args.h args.c) (head_with args.h args.c) args.a
     c.in-19.is)
     (steps-inside c.requires.4
@@ -199,7 +168,7 @@ pub returns-in-20 : goal.returns-in-20
 unfolding act_op op_functions
 returns-in-20 c =
     let args = c.args in
-    goes_in
+    goes_in _ _ _ _ c.sub.result _
     (by-op args.p.now (laid args.w.now args.h args.c) (head_with args.h args.c) args.a
     c.in-20.is)
     (steps-inside c.requires.4
@@ -211,7 +180,7 @@ pub returns-in-21 : goal.returns-in-21
 unfolding act_op op_functions
 returns-in-21 c =
     let args = c.args in
-    goes_in
+    goes_in _ _ _ _ c.eq.result _
     (by-op args.p.now (laid args.w.now args.h args.c) (head_with args.h args.c) args.a
     c.in-21.is)
     (steps-inside c.requires.4
@@ -223,7 +192,7 @@ pub returns-in-22 : goal.returns-in-22
 unfolding act_op op_functions
 returns-in-22 c =
     let args = c.args in
-    goes_in
+    goes_in _ _ _ _ c.less.result _
     (by-op args.p.now (laid args.w.now args.h args.c) (head_with args.h args.c) args.a
     c.in-22.is)
     (steps-inside c.requires.4
@@ -235,34 +204,10 @@ pub returns-in-23 : goal.returns-in-23
 unfolding act_op op_functions
 returns-in-23 c =
     let args = c.args in
-    goes_in
+    goes_in _ _ _ _ c.not.result _
     (by-op args.p.now (laid args.w.now args.h args.c) (head_with args.h args.c) args.a
     c.in-23.is)
     (steps-inside c.requires.4
     c.requires.5 23
     c.in-23.is refl)
     c.not.ensures
-
-pub returns-in-24 : goal.returns-in-24
-returns-in-24 c = halts c.requires.0 c.halt-in-24.ensures refl
-
-pub returns-in-25 : goal.returns-in-25
-returns-in-25 c = halts c.requires.0 c.halt-in-25.ensures refl
-
-pub returns-in-26 : goal.returns-in-26
-returns-in-26 c = halts c.requires.0 c.halt-in-26.ensures refl
-
-pub returns-in-27 : goal.returns-in-27
-returns-in-27 c = halts c.requires.0 c.halt-in-27.ensures refl
-
-pub returns-in-28 : goal.returns-in-28
-returns-in-28 c = halts c.requires.0 c.halt-in-28.ensures refl
-
-pub returns-in-29 : goal.returns-in-29
-returns-in-29 c = halts c.requires.0 c.halt-in-29.ensures refl
-
-pub returns-in-30 : goal.returns-in-30
-returns-in-30 c = halts c.requires.0 c.halt-in-30.ensures refl
-
-pub returns-in_default : goal.returns-in_default
-returns-in_default c = halts c.requires.0 c.halt-in_default.ensures refl

@@ -41,4 +41,4 @@ returns c =
     let pre = c.requires in
     steps_on c.args.p.now
     c.args.start pre.0 pre.1
-    pre.4 (op-kept pre.5 pre.6 pre.4) refl c.act.ensures
+    pre.4 (op-kept pre.5 pre.6 pre.4) refl _ _ c.act.result c.act.ensures

@@ -10,7 +10,7 @@ use Rattle.run_transfer.proofs.fork_lines.count_things.Goals.{then-v-ge3, else-v
 
 pub loop-j-init : goal.loop-j-init
 unfolding things_in
-loop-j-init c = (search rules, refl, search rules)
+loop-j-init c = (refl, search rules)
 
 pub loop-j-preserved : goal.loop-j-preserved
 loop-j-preserved c =
@@ -18,16 +18,14 @@ loop-j-preserved c =
     let loop = c.loop-j in
     elim c.if-v-ge3.branch [
       | then-v-ge3 w ↦ (
-        search rules,
         w.count-is
-            ∙ thing-more args.work.now args.n.0 args.args loop.j loop.invariant.1
+            ∙ thing-more args.work.now args.n.0 args.args loop.j loop.invariant.0
             c.operand_of-v.ensures w.if-v-ge3.true,
         search rules,
       )
       | else-v-ge3 w ↦ (
-        search rules,
         w.count-is
-            ∙ thing-passed args.work.now args.n.0 args.args loop.j loop.invariant.1
+            ∙ thing-passed args.work.now args.n.0 args.args loop.j loop.invariant.0
             c.operand_of-v.ensures w.if-v-ge3.false,
         search rules,
       )
@@ -38,7 +36,7 @@ returns c =
     let args = c.args in
     let loop = c.loop-j in
     let e : loop.j ≡ args.args = omega arith in (
-      subst (λ (i : ℕ). loop.count ≡ things_in args.work.now args.n.0 args.args i) e loop.invariant.1,
+      subst (λ (i : ℕ). loop.count ≡ things_in args.work.now args.n.0 args.args i) e loop.invariant.0,
       search
           rules,
     )

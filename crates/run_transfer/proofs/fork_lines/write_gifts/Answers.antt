@@ -9,19 +9,18 @@ use Rattle.run_transfer.proofs.fork_lines.write_gifts.Goals as goal
 
 pub loop-j-init : goal.loop-j-init
 unfolding gifts_added
-loop-j-init c = (search rules, refl, search rules, refl)
+loop-j-init c = (refl, search rules, refl)
 
 pub loop-j-preserved : goal.loop-j-preserved
 loop-j-preserved c =
     let args = c.args in
     let loop = c.loop-j in (
-      search rules,
       gift-more (gifts args.line args.trace.now) args.work.now args.entry args.from.0
-          args.to.0 args.args loop.j loop.invariant.1 c.operand_of-v.ensures
+          args.to.0 args.args loop.j loop.invariant.0 c.operand_of-v.ensures
           c.write_gift-next.ensures.0,
       search rules,
       c.write_gift-next.auto.trace
-          ∙ loop.invariant.3,
+          ∙ loop.invariant.2,
     )
 
 pub returns : goal.returns
@@ -31,4 +30,4 @@ returns c =
     let e : loop.j ≡ args.args = omega arith in
     subst
     (λ (i : ℕ). gifts loop.next loop.trace ≡ gifts_added (gifts args.line args.trace.now) args.work.now
-    args.entry args.from.0 args.to.0 args.args i) e loop.invariant.1
+    args.entry args.from.0 args.to.0 args.args i) e loop.invariant.0

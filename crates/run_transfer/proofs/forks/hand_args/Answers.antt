@@ -4,22 +4,20 @@ use Rattle.run_transfer.specs.TransferCode.{args_handed}
 use native.Mathlib.Omega.{arith}
 use mathlib.Core.Path.{◌≡◌, refl, ◌∙◌, subst}
 use Prim.Native.Nat.{ℕ, ◌-◌}
-use borrow.Author.Rules.{rules}
 use Rattle.run_transfer.proofs.forks.hand_args.Goals as goal
 
 pub loop-j-init : goal.loop-j-init
 unfolding args_handed
-loop-j-init c = (search rules, refl, refl)
+loop-j-init c = (refl, refl)
 
 pub loop-j-preserved : goal.loop-j-preserved
 loop-j-preserved c =
     let args = c.args in
     let loop = c.loop-j in (
-      search rules,
-      handed-more args.work.now args.n.0 args.child.0 args.args loop.j loop.invariant.1
+      handed-more args.work.now args.n.0 args.child.0 args.args loop.j loop.invariant.0
           c.hand_arg.ensures,
       c.hand_arg.auto.work
-          ∙ loop.invariant.2,
+          ∙ loop.invariant.1,
     )
 
 pub returns : goal.returns
@@ -28,4 +26,4 @@ returns c =
     let loop = c.loop-j in
     let e : loop.j ≡ args.args = omega arith in
     subst (λ (i : ℕ). loop.work ≡ args_handed args.work.now args.n.0 args.child.0 args.args i) e
-    loop.invariant.1
+    loop.invariant.0

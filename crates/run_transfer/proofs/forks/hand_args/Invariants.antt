@@ -2,11 +2,7 @@
 use Rattle.run_transfer.specs.TransferCode.{args_handed}
 use lib.ListN.{length}
 use mathlib.Core.Path.{◌≡◌}
-use Prim.Native.Nat.{◌≤◌, ◌-◌}
 use Rattle.run_transfer.proofs.forks.hand_args.Given as goal
 
 abbrev pub invariant-loop-j : goal.invariant-loop-j
-invariant-loop-j l = (l.j ≤ l.args) × (l.work ≡ args_handed l.initial.work l.n.0 l.child.0 l.args l.j) × (length l.work ≡ length l.initial.work)
-
-abbrev pub decreases-loop-j : goal.decreases-loop-j
-decreases-loop-j l = l.args - l.j
+invariant-loop-j l = (l.work ≡ args_handed l.initial.work l.n.0 l.child.0 l.args l.j) × (length l.work ≡ length l.initial.work)

@@ -1,58 +1,44 @@
 -- `declarations`: what is entered from each declaration on is entered from the first.
 use native.Mathlib.Omega.{arith}
-use Prim.Native.Nat.{suc, ◌-◌, ◌≤◌}
-use mathlib.Core.Bool.{true}
-use mathlib.Core.Path.{sym, ap, ◌∙◌}
-use borrow.Author.Tests.{not-true, not-false}
+use Prim.Native.Nat.{suc, ◌≤◌}
+use mathlib.Core.Path.{refl, sym, ap, ◌∙◌}
 use lib.ListN.{length}
 use Rattle.text_types.specs.SaysCode.{starts_kind}
 use Rattle.text_types.proofs.TypeLaws.{not-both}
-use Rattle.text_declare.specs.Entered.{tables}
+use Rattle.text_declare.proofs.ReadingLaws.{not-ok}
 use Rattle.text_declare.proofs.DeclarationLaws.{declarations-end, declarations-on}
 use Rattle.text_declare.proofs.declarations.declarations.Goals as goal
 
-pub loop-more-init : goal.loop-more-init
-loop-more-init c = (c.starts_type-more.ensures ∙ ap starts_kind c.next_kind-first.ensures, (λ ok a τ s. s))
+pub loop-scope-init : goal.loop-scope-init
+loop-scope-init c = λ ok a τ s. s
 
-pub returns-then-not-d : goal.returns-then-not-d
-returns-then-not-d c =
+pub returns-in_err-d : goal.returns-in_err-d
+returns-in_err-d c =
     let g = c.args in
-    let l = c.loop-more in
-    let d = c.declaration-d in
-    let starts = sym l.invariant.0 ∙ c.loop-more-test.true in
-    let left = not-true d.result.ok c.if-not-d.true in
-    let τ = tables d.new.scope d.result.n d.new.row d.result.used in
-    l.invariant.1 _ _ τ
-    (declarations-on g.text.now l.at (tables l.scope l.many l.row l.given) τ τ starts d.ensures
-    (λ o. o) (λ o. not-both o left))
+    let l = c.loop-scope in
+    let starts = ap starts_kind (sym c.next_kind.ensures) ∙ sym c.starts_type.ensures ∙ c.loop-scope-test.true in
+    l.invariant _ _ _
+    (declarations-on g.text.now l.d.at _ _ _ starts c.in_err-d.ensures (λ o. not-ok _ c.from_residual.ensures.0)
+    (λ o. not-both o refl))
 
-pub loop-more-smaller : goal.loop-more-smaller
-loop-more-smaller c =
-    let g = c.args in
-    let l = c.loop-more in
-    let d = c.declaration-d in
-    let bounds = d.ensures.onward (not-false d.result.ok c.if-not-d.false) in
-    let more : suc l.at ≤ d.result.at = bounds.0 in
-    let within : d.result.at ≤ length g.text.now = bounds.1 in omega arith
+pub loop-scope-smaller : goal.loop-scope-smaller
+loop-scope-smaller c =
+    let l = c.loop-scope in
+    let bounds = c.in_ok-d.ensures.onward refl in
+    let more : suc l.d.at ≤ c.in_ok-d.d.at = bounds.0 in
+    let within : c.in_ok-d.d.at ≤ length c.args.text.now = bounds.1 in omega arith
 
-pub loop-more-preserved : goal.loop-more-preserved
-loop-more-preserved c =
+pub loop-scope-preserved : goal.loop-scope-preserved
+loop-scope-preserved c =
     let g = c.args in
-    let l = c.loop-more in
-    let d = c.declaration-d in
-    let starts = sym l.invariant.0 ∙ c.loop-more-test.true in
-    let there = not-false d.result.ok c.if-not-d.false in
-    let υ = tables d.new.scope d.result.n d.new.row d.result.used in (
-      c.starts_type-more-in-loop-more.ensures ∙ ap starts_kind c.next_kind-kind.ensures,
-      (λ ok a τ s. l.invariant.1 ok a τ
-          (declarations-on g.text.now l.at (tables l.scope l.many l.row l.given) υ τ starts
-          d.ensures (λ o. not-both there o) (λ o. s))),
-    )
+    let l = c.loop-scope in
+    let starts = ap starts_kind (sym c.next_kind.ensures) ∙ sym c.starts_type.ensures ∙ c.loop-scope-test.true in
+    λ ok a τ s. l.invariant ok a τ
+    (declarations-on g.text.now l.d.at _ _ τ starts c.in_ok-d.ensures (λ o. not-both refl o) (λ o. s))
 
 pub returns : goal.returns
 returns c =
     let g = c.args in
-    let l = c.loop-more in
-    let σ = tables l.scope l.many l.row l.given in
-    l.invariant.1 true l.at σ
-    (declarations-end g.text.now l.at σ (sym l.invariant.0 ∙ c.loop-more-test.false))
+    let l = c.loop-scope in
+    let starts = ap starts_kind (sym c.next_kind.ensures) ∙ sym c.starts_type.ensures ∙ c.loop-scope-test.false in
+    l.invariant _ _ _ (declarations-end g.text.now l.d.at _ starts)

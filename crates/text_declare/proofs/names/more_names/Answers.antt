@@ -1,62 +1,53 @@
 -- `more_names`: what is entered from each comma on is entered from the first.
 use native.Mathlib.Omega.{arith}
-use Prim.Native.Nat.{◌-◌, ◌<◌}
-use mathlib.Core.Path.{sym, ◌∙◌}
-use borrow.Author.Tests.{not-true, not-false}
+use Prim.Native.Nat.{◌<◌}
+use mathlib.Core.Path.{refl}
 use lib.ListN.{length}
+use Rattle.text_types.proofs.Answers.{ok-found, ok-missing}
 use Rattle.text_types.proofs.TypeLaws.{not-both}
-use Rattle.text_declare.specs.Entered.{tables}
-use Rattle.text_declare.proofs.ReadingLaws.{comma-further}
-use Rattle.text_declare.proofs.NameLaws.{names-end, names-on}
+use Rattle.text_declare.proofs.ReadingLaws.{comma-further, not-ok}
+use Rattle.text_declare.proofs.NameLaws.{names-end, names-left, names-on}
 use Rattle.text_declare.proofs.names.more_names.Goals as goal
 
-pub loop-kind-init : goal.loop-kind-init
-loop-kind-init c = (c.next_kind-kind.ensures, (λ ok a τ s. s))
+pub loop-comma-init : goal.loop-comma-init
+loop-comma-init c = λ ok a τ s. s
 
-pub returns-then-not-name : goal.returns-then-not-name
-returns-then-not-name c =
+pub returns-in_err-e : goal.returns-in_err-e
+returns-in_err-e c =
     let g = c.args in
-    let l = c.loop-kind in
-    let e = c.enter_name-name in
-    let kind = sym l.invariant.0 ∙ c.loop-kind-test.true in
-    let left = not-true e.result.ok c.if-not-name.true in
-    let τ = tables e.new.scope e.result.n e.new.row e.result.used in
-    l.invariant.1 _ _ τ
-    (names-on g.text.now l.at g.code (tables l.scope l.many l.row l.given) τ τ kind
-    c.expect-comma.ensures e.ensures (λ o. o) (λ o. not-both o left))
+    let l = c.loop-comma in
+    l.invariant _ _ _
+    (names-on g.text.now l.e.at g.code _ _ _ (ok-found g.text.now l.e.at 25 refl c.in-Ok.ensures)
+    c.in-Ok.ensures c.in_err-e.ensures (λ o. not-ok _ c.from_residual.ensures.0) (λ o. not-both o refl))
 
-pub loop-kind-smaller : goal.loop-kind-smaller
-loop-kind-smaller c =
+pub loop-comma-smaller : goal.loop-comma-smaller
+loop-comma-smaller c =
     let g = c.args in
-    let l = c.loop-kind in
-    let e = c.enter_name-name in
-    let kind = sym l.invariant.0 ∙ c.loop-kind-test.true in
-    let further = comma-further g.text.now l.at kind
-    c.expect-comma.ensures (λ o. (e.ensures.on o).onward)
-    (not-false e.result.ok c.if-not-name.false) in
-    let more : l.at < e.result.at = further.0 in
-    let begun : l.at < length g.text.now = further.1 in omega arith
+    let l = c.loop-comma in
+    let further = comma-further g.text.now l.e.at (ok-found g.text.now l.e.at 25 refl c.in-Ok.ensures)
+    c.in-Ok.ensures (λ o. c.in_ok-e.ensures.onward) refl in
+    let more : l.e.at < c.in_ok-e.e.at = further.0 in
+    let begun : l.e.at < length g.text.now = further.1 in omega arith
 
-pub loop-kind-preserved : goal.loop-kind-preserved
-loop-kind-preserved c =
+pub loop-comma-preserved : goal.loop-comma-preserved
+loop-comma-preserved c =
     let g = c.args in
-    let l = c.loop-kind in
-    let e = c.enter_name-name in
-    let kind = sym l.invariant.0 ∙ c.loop-kind-test.true in
-    let there = not-false e.result.ok c.if-not-name.false in
-    let υ = tables e.new.scope e.result.n e.new.row e.result.used in (
-      c.next_kind-kind-in-loop-kind.ensures,
-      (λ ok a τ s. l.invariant.1 ok a τ
-          (names-on g.text.now l.at g.code (tables l.scope l.many l.row l.given) υ τ kind
-          c.expect-comma.ensures e.ensures (λ o. not-both there o)
-          (λ o. s))),
-    )
+    let l = c.loop-comma in
+    λ ok a τ s. l.invariant ok a τ
+    (names-on g.text.now l.e.at g.code _ _ τ (ok-found g.text.now l.e.at 25 refl c.in-Ok.ensures)
+    c.in-Ok.ensures c.in_ok-e.ensures (λ o. not-both refl o) (λ o. s))
+
+pub returns-in_err-at : goal.returns-in_err-at
+returns-in_err-at c =
+    let g = c.args in
+    let l = c.loop-comma in
+    l.invariant _ _ _
+    (names-left g.text.now l.e.at g.code _ _ (ok-missing g.text.now l.e.at 25 refl c.in_default.ensures) c.in_err-at.ensures
+    (not-ok _ c.from_residual-in_err-at.ensures.0))
 
 pub returns : goal.returns
 returns c =
     let g = c.args in
-    let l = c.loop-kind in
-    let σ = tables l.scope l.many l.row l.given in
-    l.invariant.1 _ _ σ
-    (names-end g.text.now l.at g.code σ (λ e. c.loop-kind-test.false (l.invariant.0 ∙ e))
-    c.expect-last.ensures)
+    let l = c.loop-comma in
+    l.invariant _ _ _
+    (names-end g.text.now l.e.at g.code _ (ok-missing g.text.now l.e.at 25 refl c.in_default.ensures) c.in_ok-at.ensures)

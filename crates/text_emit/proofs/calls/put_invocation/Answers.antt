@@ -1,8 +1,13 @@
 -- `put_invocation`: a method or a gate.
 use native.Mathlib.Omega.{arith}
 use mathlib.Core.List.{[]}
-use borrow.Author.Tests.{not-true, not-false}
-use Rattle.text_emit.proofs.PutLaws.{invoke-gate, invoke-void, invoke-value}
+use mathlib.Core.Path.{◌≡◌, refl}
+use lib.Seq.{slice}
+use Rattle.text_types.specs.Answer.{type_code_in}
+use Rattle.text_methods.specs.MethodSays.{MethodOf}
+use Rattle.text_methods.proofs.Looking.{missing}
+use Rattle.text_emit.specs.Reached.{there}
+use Rattle.text_emit.proofs.PutLaws.{invoke-gate, invoke-stuck, invoke-void, invoke-value}
 use Rattle.text_emit.proofs.calls.put_invocation.Goals as goal
 
 pub returns-then-end-start : goal.returns-then-end-start
@@ -11,27 +16,31 @@ returns-then-end-start c = λ ms x k place s l w. absurd (omega (arith, l, c.if-
 pub returns-then-text-end : goal.returns-then-text-end
 returns-then-text-end c = λ ms x k place s l w. absurd (omega (arith, w, c.if-text-end.true))
 
-pub returns-then-not-m : goal.returns-then-not-m
-returns-then-not-m c =
-    let m = c.method_indexed-m.result in
-    invoke-gate _ _ _ m.found m.index m.at m.params _ _ _ _ _ (not-true m.found
-    c.if-not-m.true)
-    c.method_indexed-m.ensures
+pub returns-in_default : goal.returns-in_default
+returns-in_default c =
+    let text = c.args.text.now in
+    invoke-gate _ _ _ _ _ _ _ _
+    (missing (MethodOf text (slice c.args.start c.args.end text)) _ c.in_default.not-Some c.method_indexed.ensures)
     c.gate_number-gate.ensures c.put.ensures
 
-pub returns-then-t-eq0 : goal.returns-then-t-eq0
-returns-then-t-eq0 c =
-    let m = c.method_indexed-m.result in
-    invoke-void _ _ _ m.found m.index m.at m.params _ _ _ c.args.e _ _ []
-    (not-false m.found c.if-not-m.false)
-    c.method_indexed-m.ensures
-    c.return_type-t.ensures c.put-called.ensures
-    c.if-t-eq0.true
+pub returns-in_err-called : goal.returns-in_err-called
+returns-in_err-called c =
+    rw c.from_residual.ensures (invoke-stuck _ _ _ (there c.args.e) _ _ _ c.in-Some.ensures c.in_err-called.ensures)
 
-pub returns : goal.returns
-returns c =
-    let m = c.method_indexed-m.result in
-    invoke-value _ _ _ m.found m.index m.at m.params _ _ _ _ _ _ _ (not-false m.found
-    c.if-not-m.false)
-    c.method_indexed-m.ensures c.return_type-t.ensures c.put-called.ensures
-    c.if-t-eq0.false c.put-2.ensures
+pub returns-in-Ok : goal.returns-in-Ok
+returns-in-Ok c =
+    let value : type_code_in c.return_type.result ≡ 0 → ⊥ = rw c.in-Ok.is c.if-t-ne0.true in
+    invoke-value _ _ _ _ _ _ _ _ c.return_type.result _ _ c.in-Some.ensures c.return_type.ensures
+    c.in_ok-called.ensures value c.put-in-Ok.ensures
+
+pub returns-in_default-return_type : goal.returns-in_default-return_type
+returns-in_default-return_type c =
+    let void : type_code_in c.return_type.result ≡ 0 = rw c.in-Ok.is c.if-t-ne0.false in
+    invoke-void _ _ _ _ _ _ _ (there c.args.e) c.return_type.result _ [] c.in-Some.ensures c.return_type.ensures
+    c.in_ok-called.ensures void
+
+pub returns-in_default-return_type-2 : goal.returns-in_default-return_type-2
+returns-in_default-return_type-2 c =
+    let void : type_code_in c.return_type.result ≡ 0 = rw c.in_default-return_type.is refl in
+    invoke-void _ _ _ _ _ _ _ (there c.args.e) c.return_type.result _ [] c.in-Some.ensures c.return_type.ensures
+    c.in_ok-called.ensures void

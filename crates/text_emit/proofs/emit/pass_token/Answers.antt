@@ -1,9 +1,10 @@
 -- `pass_token`: the place after the token that was read.
 use mathlib.Core.Path.{ap}
+use mathlib.Core.Bool.{true}
 use Prim.Native.Nat.{ℕ}
 use Rattle.text_emit.proofs.emit.pass_token.Goals as goal
 
 pub returns : goal.returns
 returns c =
     let e = c.args.e in
-    ap (λ (i : ℕ). record { ok = e.ok; at = i; used = e.used; count = e.count }) (ap (λ t. t.end) c.requires.same)
+    ap (λ (i : ℕ). record { ok = true; at = i; used = e.used; count = e.count }) (ap (λ t. t.end) c.requires.same)

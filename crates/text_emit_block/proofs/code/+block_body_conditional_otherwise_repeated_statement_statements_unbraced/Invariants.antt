@@ -2,13 +2,11 @@
 -- goes from block to statements, statement, unbraced, conditional, otherwise and body, and a block or a statement of a
 -- body is one level less.
 use Prim.Native.Nat.{ℕ, ◌+◌, ◌*◌, ◌-◌}
-use mathlib.Core.Bool.{true}
 use mathlib.Core.List.{List}
 use mathlib.Core.Path.{◌≡◌}
 use lib.ListN.{length}
 use Rattle.text_types.specs.SaysCode.{next_kind}
-use Rattle.text_emit.specs.declared.emit.Emit.{Emit}
-use Rattle.text_emit.proofs.EmitLaws.{emit_at}
+use Rattle.text_emit.specs.Reached.{EmitState, there}
 use Rattle.text_emit_block.proofs.StatementsLaws.{StatementsFramed}
 use Rattle.text_emit_block.proofs.code.+block_body_conditional_otherwise_repeated_statement_statements_unbraced.Given as goal
 
@@ -38,11 +36,11 @@ decreases-unbraced l = 7 * l.left + 3
 
 abbrev pub invariant-statements-loop-kind : goal.invariant-statements-loop-kind
 invariant-statements-loop-kind l =
-    (l.kind ≡ next_kind l.text l.at)
+    (l.kind ≡ next_kind l.text l.here.at)
     × (((length l.pending ≡ length l.initial.pending) × (length l.code ≡ length l.initial.code))
-    × ((r : Emit) (scope₁ row₁ code₁ : List ℕ)
-    → StatementsFramed l.left l.text l.n (emit_at true l.at l.used l.count) l.scope l.row l.code r scope₁ row₁ code₁
-    → StatementsFramed l.left l.text l.n (emit_at true l.initial.at l.initial.used l.initial.count) l.initial.scope l.initial.row l.initial.code r scope₁ row₁ code₁))
+    × ((r : EmitState) (scope₁ row₁ code₁ : List ℕ)
+    → StatementsFramed l.left l.text l.n (there l.here) l.scope l.row l.code r scope₁ row₁ code₁
+    → StatementsFramed l.left l.text l.n (there l.initial.here) l.initial.scope l.initial.row l.initial.code r scope₁ row₁ code₁))
 
 abbrev pub decreases-statements-loop-kind : goal.decreases-statements-loop-kind
-decreases-statements-loop-kind l = length l.text - l.at
+decreases-statements-loop-kind l = length l.text - l.here.at

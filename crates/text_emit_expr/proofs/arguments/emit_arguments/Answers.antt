@@ -11,9 +11,7 @@ returns-then-t-eq-CLOSE c =
       no_arguments g.text.now g.scope.now g.n g.from g.code.now g.count _
           c.next_token-t.ensures
           c.if-t-eq-CLOSE.true c.requires.2,
-      reach.0,
-      reach.1,
-      c.requires.2,
+      (reach.0, reach.1, c.requires.2),
     )
 
 pub returns : goal.returns
@@ -23,6 +21,4 @@ returns c =
           c.next_token-t.ensures _
           _ c.if-t-eq-CLOSE.false c.emit_parameters.ensures.0,
       c.emit_parameters.ensures.1,
-      c.emit_parameters.ensures.2,
-      c.emit_parameters.ensures.3,
     )

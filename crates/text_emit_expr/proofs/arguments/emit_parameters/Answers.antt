@@ -1,75 +1,93 @@
 -- `emit_parameters`: every answer from after the last argument is one from the first.
 use native.Mathlib.Omega.{arith}
-use Prim.Native.Nat.{◌-◌, ◌≤◌, ◌<◌}
+use Prim.Native.Nat.{◌≤◌, ◌<◌}
+use mathlib.Core.Path.{refl}
 use lib.ListN.{length}
-use borrow.Author.Rules.{rules}
-use Rattle.text_emit_expr.proofs.ArgumentLaws.{later-here, later-then, continued-by, comma-later, comma-follows, comma-onward, parameters-emitted, token-reach}
+use borrow.Author.Tests.{ne_eqb}
+use Rattle.std.specs.Prelude.{Some, None}
+use Rattle.text_emit_expr.specs.Emitted.{Said, said}
+use Rattle.text_emit_expr.proofs.ArgumentLaws.{later-here, later-then, continued-by, comma-later, comma-onward, parameters-emitted, parameters-refused, token-reach}
 use Rattle.text_emit_expr.proofs.arguments.emit_parameters.Goals as goal
 
-pub emit_expression-r-requires : goal.emit_expression-r-requires
-emit_expression-r-requires c = (c.requires.0, c.requires.1, c.requires.2)
-
-pub loop-r-init : goal.loop-r-init
-loop-r-init c =
-    let g = c.args in (
-      c.next_token-t.ensures,
-      later-here g.text.now g.scope.now g.n _ _,
-      c.emit_expression-r.ensures.2,
-      c.emit_expression-r.ensures.3,
-      search rules,
-      search rules,
-      c.emit_expression-r.ensures.1,
+pub returns-in_err-r : goal.returns-in_err-r
+returns-in_err-r c =
+    let g = c.args in
+    rw c.from_residual.ensures (
+      parameters-refused g.text.now g.scope.now g.n g.from g.code.now g.count _
+          (continued-by g.text.now g.scope.now g.n g.from g.code.now g.count _ (said None) _ (said None)
+          c.in_err-r.ensures.0 (later-here g.text.now g.scope.now g.n _ (said None))),
+      tt,
     )
 
-pub emit_expression-u-requires : goal.emit_expression-u-requires
-emit_expression-u-requires c =
+pub loop-t-init : goal.loop-t-init
+loop-t-init c =
     let g = c.args in
-    let l = c.loop-r in
-    let both = comma-follows l.r.ok l.t.kind c.loop-r-test.true in
-    let on = comma-onward g.text.now g.scope.now g.n l.code l.r l.t l.invariant.0 both.1 in
-    (on.1, omega (arith, l.invariant.4, c.emit_expression-r.auto.pending, c.requires.1), l.invariant.3)
+    let r = c.in_ok-r.ensures in (
+      c.next_token-t.ensures,
+      later-here g.text.now g.scope.now g.n _ _,
+      r.1.1,
+      r.1.2,
+      refl,
+      refl,
+      r.1.0,
+    )
 
-pub loop-r-smaller : goal.loop-r-smaller
-loop-r-smaller c =
+pub returns-in_err-r-2 : goal.returns-in_err-r-2
+returns-in_err-r-2 c =
     let g = c.args in
-    let l = c.loop-r in
-    let both = comma-follows l.r.ok l.t.kind c.loop-r-test.true in
-    let on = comma-onward g.text.now g.scope.now g.n l.code l.r l.t l.invariant.0 both.1 in
+    let l = c.loop-t in
+    let first : Said = said (Some c.in_ok-r.r) in
+    let last : Said = said (Some l.r) in
+    rw c.from_residual-in_err-r-2.ensures (
+      parameters-refused g.text.now g.scope.now g.n g.from g.code.now g.count _
+          (continued-by g.text.now g.scope.now g.n g.from g.code.now g.count _ first _ (said None)
+          c.in_ok-r.ensures.0
+          (later-then g.text.now g.scope.now g.n _ first l.code last _ (said None) l.invariant.1
+          (comma-later g.text.now g.scope.now g.n l.code last l.t l.invariant.0 _ (said None) refl c.loop-t-test.true
+          c.in_err-r-2.ensures.0))),
+      tt,
+    )
+
+pub loop-t-smaller : goal.loop-t-smaller
+loop-t-smaller c =
+    let g = c.args in
+    let l = c.loop-t in
+    let on = comma-onward g.text.now g.scope.now g.n l.code (said (Some l.r)) l.t l.invariant.0 c.loop-t-test.true in
     let a : l.r.at < l.t.end = on.0 in
-    let b : l.t.end ≤ c.emit_expression-u.result.at = c.emit_expression-u.ensures.1 in
-    let d : c.emit_expression-u.result.at ≤ length g.text.now = c.emit_expression-u.ensures.2
+    let b : l.t.end ≤ c.in_ok-r-2.r.at = c.in_ok-r-2.ensures.1.0 in
+    let d : c.in_ok-r-2.r.at ≤ length g.text.now = c.in_ok-r-2.ensures.1.1
     in omega arith
 
-pub loop-r-preserved : goal.loop-r-preserved
-loop-r-preserved c =
+pub loop-t-preserved : goal.loop-t-preserved
+loop-t-preserved c =
     let g = c.args in
-    let l = c.loop-r in
-    let both = comma-follows l.r.ok l.t.kind c.loop-r-test.true in
-    let on = comma-onward g.text.now g.scope.now g.n l.code l.r l.t l.invariant.0 both.1 in
+    let l = c.loop-t in
+    let next = c.in_ok-r-2.ensures in
+    let last : Said = said (Some l.r) in
+    let on = comma-onward g.text.now g.scope.now g.n l.code last l.t l.invariant.0 c.loop-t-test.true in
     let a : l.r.at < l.t.end = on.0 in
-    let b : l.t.end ≤ c.emit_expression-u.result.at = c.emit_expression-u.ensures.1 in
+    let b : l.t.end ≤ c.in_ok-r-2.r.at = next.1.0 in
     let f : g.from ≤ l.r.at = l.invariant.6 in (
-      c.next_token-v.ensures,
-      later-then g.text.now g.scope.now g.n _ _ l.code l.r _ _ l.invariant.1
-          (comma-later g.text.now g.scope.now g.n l.code l.r l.t l.invariant.0 _ _
-          c.loop-r-test.true c.emit_expression-u.ensures.0),
-      c.emit_expression-u.ensures.2,
-      c.emit_expression-u.ensures.3,
-      omega (arith, l.invariant.4, c.emit_expression-u.auto.pending),
-      omega (arith, l.invariant.5, c.emit_expression-u.auto.code),
+      c.next_token-t-in-loop-t.ensures,
+      later-then g.text.now g.scope.now g.n _ _ l.code last _ _ l.invariant.1
+          (comma-later g.text.now g.scope.now g.n l.code last l.t l.invariant.0 _ _ refl c.loop-t-test.true next.0),
+      next.1.1,
+      next.1.2,
+      omega (arith, l.invariant.4, c.emit_expression-in-loop-t.auto.pending),
+      omega (arith, l.invariant.5, c.emit_expression-in-loop-t.auto.code),
       omega arith,
     )
 
 pub returns : goal.returns
 returns c =
     let g = c.args in
-    let l = c.loop-r in
+    let l = c.loop-t in
+    let first : Said = said (Some c.in_ok-r.r) in
+    let last : Said = said (Some l.r) in
     let reach = token-reach g.text.now g.from l.r.at l.t l.invariant.0 l.invariant.6 l.invariant.2 in (
-      parameters-emitted g.text.now g.scope.now g.n g.from g.code.now g.count l.code l.r
+      parameters-emitted g.text.now g.scope.now g.n g.from g.code.now g.count l.code last
           l.t l.invariant.0
-          (continued-by g.text.now g.scope.now g.n g.from g.code.now g.count _ _ l.code l.r
-          c.emit_expression-r.ensures.0 l.invariant.1) c.loop-r-test.false l.invariant.2 l.invariant.3,
-      reach.0,
-      reach.1,
-      l.invariant.3,
+          (continued-by g.text.now g.scope.now g.n g.from g.code.now g.count _ first l.code last
+          c.in_ok-r.ensures.0 l.invariant.1) (ne_eqb l.t.kind 25 c.loop-t-test.false) l.invariant.2 l.invariant.3,
+      (reach.0, reach.1, l.invariant.3),
     )

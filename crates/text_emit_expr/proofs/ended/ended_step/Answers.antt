@@ -8,5 +8,4 @@ returns-then-s-eq1 c =
     let text = g.text.now in
     let p = g.pending.now in
     λ scope n. operator-steps text scope n p g.code.now g.s g.t c.requires.3 _ _ _ c.if-s-eq1.true
-    c.operator_op-op.ensures
-    c.if-op-eq0.false c.push.ensures
+    c.in-Some.ensures.0 c.in-Some.ensures.1 c.push.ensures

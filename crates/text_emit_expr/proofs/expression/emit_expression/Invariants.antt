@@ -1,5 +1,5 @@
 -- `emit_expression`: every answer from the state reached is one from the beginning.
-use Prim.Native.Nat.{◌-◌, ◌≤◌}
+use Prim.Native.Nat.{◌≤◌}
 use mathlib.Core.Path.{◌≡◌}
 use lib.ListN.{length}
 use Rattle.text_emit_expr.specs.EndsCode.{Standing}

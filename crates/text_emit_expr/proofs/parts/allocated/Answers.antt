@@ -1,6 +1,6 @@
 -- `allocated` by the type after new.
 use native.Mathlib.Omega.{arith}
-use borrow.Author.Tests.{not-true, not-false}
+use mathlib.Core.Path.{refl}
 use Rattle.text_emit_expr.proofs.PartLaws.{qubit-up-to, channel-up-to, end-up-to, bad-up-to, reach_here, reach-next, reach-then, reach-said}
 use Rattle.text_emit_expr.proofs.parts.allocated.Goals as goal
 
@@ -14,12 +14,12 @@ returns-then-t-eq-QBIT c =
       (λ e. omega arith),
     )
 
-pub returns-then-not-carried : goal.returns-then-not-carried
-returns-then-not-carried c =
+pub returns-in_default : goal.returns-in_default
+returns-in_default c =
     let text = c.args.text.now in
     let i = c.args.from in (
       bad-up-to text i _ c.next_token-t.ensures _ _ _ _ _ _ c.if-t-eq-QBIT.false
-          (not-true c.bracketed-carried.result.ok c.if-not-carried.true) c.bracketed-carried.ensures,
+          refl c.in_default.ensures,
       reach-next text i i _ (reach_here text i) c.next_token-t.ensures,
       (λ e. omega arith),
     )
@@ -29,11 +29,10 @@ returns-then-t-eq-CHANNEL c =
     let text = c.args.text.now in
     let i = c.args.from in (
       channel-up-to text i _ c.next_token-t.ensures _ _ _ _ c.if-t-eq-CHANNEL.true
-          c.bracketed-carried.ensures c.brackets-end.ensures.0,
+          c.in-Ok.ensures c.brackets-end.ensures.0,
       reach-then text i _ _ (reach-next text i i _ (reach_here text i) c.next_token-t.ensures)
-          (reach-then text _ _ _ (reach-said text _ _ _ _ _ (not-false c.bracketed-carried.result.ok
-          c.if-not-carried.false)
-          c.bracketed-carried.ensures) c.brackets-end.ensures.1),
+          (reach-then text _ _ _ (reach-said text _ _ _ _ _ refl
+          c.in-Ok.ensures) c.brackets-end.ensures.1),
       (λ e. omega arith),
     )
 
@@ -42,11 +41,10 @@ returns c =
     let text = c.args.text.now in
     let i = c.args.from in (
       end-up-to text i _ c.next_token-t.ensures _ _ _ _ c.if-t-eq-QBIT.false c.if-t-eq-CHANNEL.false
-          c.bracketed-carried.ensures
+          c.in-Ok.ensures
           c.brackets-end.ensures.0,
       reach-then text i _ _ (reach-next text i i _ (reach_here text i) c.next_token-t.ensures)
-          (reach-then text _ _ _ (reach-said text _ _ _ _ _ (not-false c.bracketed-carried.result.ok
-          c.if-not-carried.false)
-          c.bracketed-carried.ensures) c.brackets-end.ensures.1),
+          (reach-then text _ _ _ (reach-said text _ _ _ _ _ refl
+          c.in-Ok.ensures) c.brackets-end.ensures.1),
       (λ e. omega arith),
     )

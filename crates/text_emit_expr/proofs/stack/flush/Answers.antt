@@ -1,6 +1,6 @@
 -- `flush` goes on while the op on top waits for the end of an expression.
 use native.Mathlib.Omega.{arith}
-use Prim.Native.Nat.{ℕ, ◌-◌, ◌≤◌, ◌<◌}
+use Prim.Native.Nat.{ℕ, ◌≤◌, ◌<◌}
 use mathlib.Core.Path.{refl, sym, ap, ◌∙◌}
 use Rattle.text_emit_expr.specs.EndsCode.{goes}
 use Rattle.text_emit_expr.proofs.FlushLaws.{going-begun, going-some, going_on, going-phase, flush-full, flush-done}

@@ -1,5 +1,5 @@
 -- `flush` goes on while the op on top waits for the end of an expression.
-use Prim.Native.Nat.{◌-◌, ◌≤◌}
+use Prim.Native.Nat.{◌≤◌}
 use mathlib.Core.Path.{◌≡◌}
 use lib.ListN.{length}
 use Rattle.text_emit_expr.specs.EndsCode.{top_of, goes}

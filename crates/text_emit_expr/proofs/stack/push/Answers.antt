@@ -13,7 +13,7 @@ returns c =
     pushed c.if-s-ge4096.false refl
     (cc (
       three-words g.pending.now g.s.entries g.op g.argument g.s.unclosed,
-      c.write.ensures,
-      c.write-2.ensures,
-      c.write-3.ensures,
+      c.put.ensures,
+      c.put-2.ensures,
+      c.put-3.ensures,
     ))

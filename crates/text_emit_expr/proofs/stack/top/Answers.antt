@@ -11,4 +11,4 @@ pub returns-then-s-eq0 : goal.returns-then-s-eq0
 returns-then-s-eq0 c = top-nothing c.args.pending.now c.args.s c.if-s-eq0.true
 
 pub returns : goal.returns
-returns c = c.word.ensures ∙ top-entry c.args.pending.now c.args.s (omega arith) c.if-s-eq0.false
+returns c = c.at_or.ensures ∙ top-entry c.args.pending.now c.args.s (omega arith) c.if-s-eq0.false

@@ -1,7 +1,8 @@
 -- `begin` has judged nothing.
-use mathlib.Core.Path.{refl}
+use mathlib.Core.Path.{refl, ap, ◌∙◌}
+use mathlib.Core.Option.{some}
 use Rattle.text_judge.proofs.Resuming.{begins-right}
 use Rattle.text_judge.proofs.code.begin.Goals as goal
 
 pub returns : goal.returns
-returns c = (refl, c.nothing.ensures.1, λ s. begins-right s _ c.nothing.ensures.0)
+returns c = (refl, λ s. ap some c.nothing.ensures ∙ begins-right s)

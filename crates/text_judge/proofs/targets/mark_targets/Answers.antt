@@ -1,15 +1,14 @@
 -- `mark_targets` marks the targets of the first `i` instructions.
-use Prim.Native.Nat.{◌+◌, ◌*◌, ◌-◌}
+use Prim.Native.Nat.{◌+◌, ◌*◌}
 use mathlib.Core.Path.{ap, ◌∙◌}
 use lib.ListN.{length}
 use Rattle.text_judge.specs.RowsCode.{op_in, arg_in}
 use Rattle.text_judge.proofs.Marking.{marked-none, marked_more, marked-long, marked-ends}
-use borrow.Author.Rules.{rules}
 use native.Mathlib.Omega.{arith}
 use Rattle.text_judge.proofs.targets.mark_targets.Goals as goal
 
 pub loop-i-init : goal.loop-i-init
-loop-i-init c = (omega arith, marked-none _ _)
+loop-i-init c = marked-none _ _
 
 pub overflow_cast-code : goal.overflow_cast-code
 overflow_cast-code c =
@@ -28,10 +27,10 @@ unfolding op_in arg_in
 loop-i-preserved c =
     let mark-jump = c.mark_jump in
     let loop = c.loop-i in
-    (search rules, mark-jump.ensures ∙ marked_more _ _ _ _ loop.invariant.1)
+    mark-jump.ensures ∙ marked_more _ _ _ _ loop.invariant
 
 pub shape_of-targets : goal.shape_of-targets
-shape_of-targets c = ap length c.loop-i.invariant.1 ∙ marked-long _ _ _
+shape_of-targets c = ap length c.loop-i.invariant ∙ marked-long _ _ _
 
 pub returns : goal.returns
-returns c = marked-ends _ _ _ _ _ c.loop-i.invariant.1 c.loop-i.invariant.0 c.loop-i-test.false
+returns c = marked-ends _ _ _ _ _ c.loop-i.invariant (omega arith) c.loop-i-test.false

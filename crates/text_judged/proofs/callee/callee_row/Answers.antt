@@ -1,16 +1,16 @@
 -- `callee_row` reads the header of the first method of the name.
 use native.Mathlib.Omega.{arith}
-use Rattle.text_judged.proofs.Stepping.{header_at}
+use Rattle.text_judged.proofs.Stepping.{header_at, no-header}
 use Rattle.text_judged.proofs.callee.callee_row.Goals as goal
 
-pub method_indexed-m-requires : goal.method_indexed-m-requires
-method_indexed-m-requires c = (
-  c.requires.1,
+pub method_indexed-requires : goal.method_indexed-requires
+method_indexed-requires c = (
   omega (arith, c.next_token-t.ensures.ends),
   omega (arith, c.next_token-t.ensures.ends, c.next_token-t.ensures.within c.requires.0),
 )
 
-pub returns : goal.returns
-returns c =
-    header_at _ _ _ c.next_token-t.ensures _ _ _ _ c.method_indexed-m.ensures _
-    c.header_row.ensures
+pub returns-in-Some : goal.returns-in-Some
+returns-in-Some c = header_at _ _ _ c.next_token-t.ensures _ c.in-Some.ensures _ c.header_row.ensures
+
+pub returns-in-None : goal.returns-in-None
+returns-in-None c = no-header _ _ _ c.next_token-t.ensures c.in-None.ensures _

@@ -4,15 +4,7 @@ use Rattle.text_judged.proofs.Stepping.{at-hand, up-to-call}
 use Rattle.text_judged.proofs.method.to_call.Goals as goal
 
 pub judge-requires : goal.judge-requires
-judge-requires c = (
-  c.requires.method,
-  at-hand _ _
-      c.requires.known,
-  omega (arith, c.begin.ensures.0),
-  c.begin.ensures.1,
-)
+judge-requires c = (at-hand _ _ c.requires.known, omega (arith, c.begin.ensures.0))
 
 pub returns : goal.returns
-returns c =
-    up-to-call _ _ _ _ _ _ c.requires _ _ _
-    c.begin.ensures.2 c.judge.ensures
+returns c = up-to-call _ _ _ _ _ c.requires _ _ _ c.begin.ensures.1 c.judge.ensures

@@ -1,5 +1,5 @@
 -- `number_calls` copies instruction by instruction.
-use Prim.Native.Nat.{◌+◌, ◌*◌, ◌-◌}
+use Prim.Native.Nat.{◌+◌, ◌*◌}
 use native.Mathlib.Omega.{arith}
 use mathlib.Core.Path.{refl, ◌∙◌}
 use lib.ListN.{set, length-set}
@@ -7,47 +7,29 @@ use Rattle.text_judged.proofs.Stepping.{none-numbered, one-numbered, all-numbere
 use Rattle.text_judged.proofs.words.number_calls.Goals as goal
 
 pub loop-i-init : goal.loop-i-init
-loop-i-init c = (omega arith, refl, none-numbered _ _)
+loop-i-init c = (refl, none-numbered _ _)
 
 pub bounds-words-i : goal.bounds-words-i
-bounds-words-i c =
-    omega (
-      arith,
-      c.loop-i.invariant.1,
-      c.requires.1,
-    )
+bounds-words-i c = omega (arith, c.loop-i.invariant.0, c.requires.1)
 
 pub bounds-words-i-in-loop-i : goal.bounds-words-i-in-loop-i
 bounds-words-i-in-loop-i c =
-    omega (
-      arith,
-      c.loop-i.invariant.1,
-      c.requires.1,
-      length-set
-          c.loop-i.words (2 *
-          c.loop-i.i) c.as_word.result,
-    )
+    let loop = c.loop-i in
+    omega (arith, loop.invariant.0, c.requires.1, length-set loop.words (2 * loop.i) c.as_word.result)
 
 pub loop-i-preserved : goal.loop-i-preserved
-loop-i-preserved c = (
-  omega arith,
-  length-set (set c.loop-i.words (2 *
-      c.loop-i.i) c.as_word.result) (2 *
-      c.loop-i.i + 1) c.argument_word.result
-      ∙ length-set c.loop-i.words (2 *
-      c.loop-i.i) c.as_word.result ∙
-      c.loop-i.invariant.1,
-  one-numbered _ _ _ _ _ c.loop-i.invariant.2 (omega (
-    arith,
-    c.loop-i.invariant.1,
-    c.requires.1,
-  ))
-      c.as_word.ensures
-      c.argument_word.ensures,
-)
+loop-i-preserved c =
+    let loop = c.loop-i in
+    let word = c.as_word in (
+      length-set (set loop.words (2 * loop.i) word.result) (2 * loop.i + 1) c.argument_word.result
+          ∙ length-set loop.words (2 * loop.i) word.result
+          ∙ loop.invariant.0,
+      one-numbered _ _ _ _ _ loop.invariant.1 (omega (arith, loop.invariant.0, c.requires.1)) word.ensures
+          c.argument_word.ensures,
+    )
 
 pub shape_of-words : goal.shape_of-words
-shape_of-words c = c.loop-i.invariant.1
+shape_of-words c = c.loop-i.invariant.0
 
 pub returns : goal.returns
-returns c = all-numbered _ _ _ _ c.loop-i.invariant.2 c.loop-i.invariant.0 c.loop-i-test.false
+returns c = all-numbered _ _ _ _ c.loop-i.invariant.1 (omega arith) c.loop-i-test.false

@@ -1,30 +1,22 @@
--- `keep_code` copies word by word.
-use Prim.Native.Nat.{◌-◌}
+-- `keep_code` replaces a part.
+use Prim.Native.Nat.{ℕ, ◌+◌, ◌-◌}
 use native.Mathlib.Omega.{arith}
-use borrow.Author.Rules.{rules}
-use Rattle.text_judge.proofs.Copying.{copied_none, copied_more, copied-long, copied-ends}
+use mathlib.Core.Path.{sym, ap, ◌∙◌}
+use mathlib.Core.List.{◌++◌, append_assoc}
+use lib.ListN.{take, drop}
+use lib.Seq.{drop-drop}
+use borrow.Rule.Slice.PartMut.{put_mid}
+use Rattle.text_judge.specs.RowsCode.{copied}
 use Rattle.text_limits.proofs.limits.keep_code.Goals as goal
 
-pub loop-i-init : goal.loop-i-init
-loop-i-init c = (omega arith, copied_none _ _ _)
-
-pub bounds-kept-at : goal.bounds-kept-at
-bounds-kept-at c =
-    let loop = c.loop-i in
-    let pre = c.requires in
-    omega (arith, pre.0, copied-long _ _ _ _ _ loop.invariant.1 (omega (arith, pre.0)) (omega (arith, pre.1)))
-
-pub loop-i-preserved : goal.loop-i-preserved
-loop-i-preserved c =
-    let loop = c.loop-i in
-    let pre = c.requires in
-    (search rules, copied_more _ _ _ _ _ loop.invariant.1 (omega (arith, pre.0)) (omega (arith, pre.1)))
-
-pub shape_of-kept : goal.shape_of-kept
-shape_of-kept c =
-    let loop = c.loop-i in
-    let pre = c.requires in
-    copied-long _ _ _ _ _ loop.invariant.1 (omega (arith, pre.0)) (omega (arith, pre.1))
-
 pub returns : goal.returns
-returns c = copied-ends _ _ _ _ _ _ c.loop-i.invariant.1 c.loop-i.invariant.0 c.loop-i-test.false
+unfolding copied
+returns c =
+    let at = c.args.at in
+    let n = c.args.n in
+    let kept = c.args.kept.now in
+    let code = c.args.code.now in
+    ap (put_mid at (at + n - at) kept) c.copy_from_slice.ensures.after
+    ∙ ap (λ (k : ℕ). take at kept ++ (take n code ++ drop k (drop at kept))) {x = at + n - at} {y = n} (omega arith)
+    ∙ ap (λ xs. take at kept ++ (take n code ++ xs)) (drop-drop n at kept)
+    ∙ sym (append_assoc (take at kept) (take n code) (drop (at + n) kept))

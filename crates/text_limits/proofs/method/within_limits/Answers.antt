@@ -32,7 +32,7 @@ returns-then-not-main_kept c =
     (sym c.main_kept.ensures ∙ not-true _ c.if-not-main_kept.true-raw)
 
 pub method_kept-requires : goal.method_kept-requires
-method_kept-requires c = (method-here _ _ _ _ _ _ c.requires.0 0 0 c.if-row-gt8.false, c.requires.3)
+method_kept-requires c = (method-here _ _ _ _ _ _ c.requires.0 0 0 c.if-row-gt8.false, c.args.methods.now.indexed)
 
 pub returns : goal.returns
 returns c =

@@ -1,10 +1,8 @@
 -- `find_row`: at each place the search comes to the same.
 use native.Mathlib.Omega.{arith}
-use Prim.Native.Nat.{◌-◌, ◌*◌, ◌≤◌, ◌<◌, ◌^◌}
-use mathlib.Core.Path.{sym, subst}
+use Prim.Native.Nat.{◌*◌, ◌≤◌, ◌<◌, ◌^◌}
 use lib.ListN.{length}
-use mathlib.Core.Bool.{false}
-use Rattle.text_methods.specs.RowsCode.{Agrees, no-row}
+use Rattle.text_methods.proofs.Tests.{one-if, one-most}
 use Rattle.text_methods.proofs.Finding.{search-begins, search-ends, search-passes, search-found, search-goes}
 use Rattle.text_methods.proofs.find.find_row.Goals as goal
 
@@ -20,8 +18,8 @@ returns-then-named-same c =
     c.loop-kind-test.true _ _ c.next_token-t.ensures c.next_token-u.ensures _ _
     c.names_method-named.ensures c.is_word-same.ensures c.if-named-same.true _ c.count_arguments.ensures
 
-pub add_if-index-requires : goal.add_if-index-requires
-add_if-index-requires c =
+pub overflow_add-index : goal.overflow_add-index
+overflow_add-index c =
     let text = c.args.text.now in
     let x = c.args.word.now in
     let l = c.loop-kind in
@@ -30,6 +28,7 @@ add_if-index-requires c =
     let begun : l.at < length text = p.begun in
     let short : length text * 1 < 2 ^ 63 = c.well_formed.0.1 in
     let low : l.index ≤ l.at = l.invariant.index-low in
+    let one = one-most _ c.from-index.ensures in
     omega arith
 
 pub braces_after-braces-requires : goal.braces_after-braces-requires
@@ -62,14 +61,11 @@ loop-kind-preserved c =
     let l = c.loop-kind in
     search-goes text x l.at l.header l.braces l.index l.kind l.invariant
     c.loop-kind-test.true _ _ c.next_token-t.ensures c.next_token-u.ensures _ _
-    c.names_method-named.ensures c.is_word-same.ensures c.if-named-same.false _ _ _ c.add_if-index.ensures
+    c.names_method-named.ensures c.is_word-same.ensures c.if-named-same.false _ _ _ (one-if _ l.index c.from-index.ensures)
     c.header_after-header.ensures c.braces_after-braces.ensures
 
 pub returns : goal.returns
 returns c =
-    let text = c.args.text.now in
-    let x = c.args.word.now in
     let l = c.loop-kind in
-    let p = search-ends text x l.at l.header l.braces l.index l.kind l.invariant
-    c.loop-kind-test.false in
-    (p.1, subst (λ o. Agrees text o false 0 0) (sym p.0) no-row)
+    search-ends c.args.text.now c.args.word.now l.at l.header l.braces l.index l.kind l.invariant
+    c.loop-kind-test.false

@@ -1,8 +1,8 @@
 -- `index_methods`: at each token the methods before it are written down.
 use native.Mathlib.Omega.{arith}
-use Prim.Native.Nat.{◌-◌}
 use mathlib.Core.Path.{refl}
 use borrow.Author.Rules.{rules}
+use Rattle.text_methods.proofs.Tests.{one-if, one-most}
 use Rattle.text_methods.proofs.Indexing.{index-begins, index-ends, index-turn, index_goes}
 use Rattle.text_methods.proofs.index.index_methods.Goals as goal
 
@@ -15,8 +15,8 @@ loop-t-init c = (
 pub enter-requires : goal.enter-requires
 enter-requires c = c.loop-t.invariant.0.long
 
-pub add_if-i-requires : goal.add_if-i-requires
-add_if-i-requires c = omega (arith, (index-turn c.loop-t.invariant.0 c.loop-t-test.true).index-less, c.well_formed.0.1)
+pub overflow_add-i : goal.overflow_add-i
+overflow_add-i c = omega (arith, one-most _ c.from-i.ensures, (index-turn c.loop-t.invariant.0 c.loop-t-test.true).index-less, c.well_formed.0.1)
 
 pub braces_after-braces-requires : goal.braces_after-braces-requires
 braces_after-braces-requires c = omega (arith, (index-turn c.loop-t.invariant.0 c.loop-t-test.true).braces-less, c.well_formed.0.1)
@@ -29,7 +29,7 @@ loop-t-smaller c =
 pub loop-t-preserved : goal.loop-t-preserved
 loop-t-preserved c = (
   index_goes c.loop-t.invariant.0 c.loop-t-test.true _ c.next_token-u.ensures _
-      c.names_method-named.ensures _ c.enter.ensures _ _ _ c.add_if-i.ensures
+      c.names_method-named.ensures _ c.enter.ensures _ _ _ (one-if _ c.loop-t.i c.from-i.ensures)
       c.header_after-header.ensures c.braces_after-braces.ensures,
   search rules,
 )

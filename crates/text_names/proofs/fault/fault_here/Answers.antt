@@ -1,62 +1,36 @@
 -- `fault_here` by the role.
-use mathlib.Core.Path.{refl, ap, ◌∙◌}
-use borrow.Author.Tests.{eq-eqb, ne_eqb}
+use mathlib.Core.Path.{ap, ◌∙◌}
 use Prim.Native.Nat.{ℕ}
 use mathlib.Core.Bool.{not}
-use lib.Dec.{eqb}
+use lib.Dec.{eqb, ltb}
+use borrow.Author.Rules.{rules}
 use Rattle.text_names.specs.FaultCode.{is_known_at, fault_here}
 use Rattle.text_names.proofs.fault.fault_here.Goals as goal
 
-pub returns-then-r-eq1 : goal.returns-then-r-eq1
+pub returns-in-1 : goal.returns-in-1
 unfolding fault_here
-returns-then-r-eq1 c = λ h. rw (eq-eqb c.args.r 1 c.if-r-eq1.true) c.is_repeated.ensures
+returns-in-1 c = λ h. rw c.in-1.is (ap (λ (k : ℕ). ltb k c.args.i) c.index_of.ensures)
 
-pub returns-then-r-eq2 : goal.returns-then-r-eq2
+pub returns-in-2 : goal.returns-in-2
 unfolding fault_here
-returns-then-r-eq2 c =
+returns-in-2 c =
     let g = c.args in
-    λ h. rw (ne_eqb g.r 1 c.if-r-eq1.false, eq-eqb g.r 2 c.if-r-eq2.true)
-    (c.is_known.ensures (h (ap (λ (j : ℕ). eqb j 0) c.if-r-eq2.true))
-    ∙ ap (λ (k : ℕ). is_known_at g.text.now g.from k g.start g.end) c.level_of-level.ensures)
+    λ h. rw c.in-2.is
+    (c.is_known.ensures (h (ap (λ (j : ℕ). eqb j 0) c.in-2.is))
+    ∙ ap (λ (k : ℕ). is_known_at g.methods.now.text.now g.from k g.start g.end) c.level_of.ensures)
 
-pub returns-then-r-eq3 : goal.returns-then-r-eq3
+pub returns-in-3 : goal.returns-in-3
 unfolding fault_here
-returns-then-r-eq3 c =
-    let g = c.args in
-    λ h. rw (ne_eqb g.r 1 c.if-r-eq1.false, ne_eqb g.r 2 c.if-r-eq2.false, eq-eqb g.r 3 c.if-r-eq3.true)
-    (ap not (c.is_known-known.ensures (h (ap (λ (j : ℕ). eqb j 0) c.if-r-eq3.true))))
+returns-in-3 c = λ h. rw c.in-3.is (ap not (c.is_known-in-3.ensures (h (ap (λ (j : ℕ). eqb j 0) c.in-3.is))))
 
-pub returns-then-r-eq4 : goal.returns-then-r-eq4
+pub returns-in-4 : goal.returns-in-4
 unfolding fault_here
-returns-then-r-eq4 c =
-    let g = c.args in
-    λ h. rw (
-      ne_eqb g.r 1 c.if-r-eq1.false,
-      ne_eqb g.r 2 c.if-r-eq2.false,
-      ne_eqb g.r 3 c.if-r-eq3.false,
-      eq-eqb g.r 4 c.if-r-eq4.true,
-    ) (ap not c.is_call-call.ensures)
+returns-in-4 c = λ h. rw c.in-4.is (ap not c.is_call.ensures)
 
-pub returns-then-r-eq5 : goal.returns-then-r-eq5
+pub returns-in-5 : goal.returns-in-5
 unfolding fault_here
-returns-then-r-eq5 c =
-    let g = c.args in
-    λ h. rw (
-      ne_eqb g.r 1 c.if-r-eq1.false,
-      ne_eqb g.r 2 c.if-r-eq2.false,
-      ne_eqb g.r 3 c.if-r-eq3.false,
-      ne_eqb g.r 4 c.if-r-eq4.false,
-      eq-eqb g.r 5 c.if-r-eq5.true,
-    ) (ap not c.is_invocation-invocation.ensures)
+returns-in-5 c = λ h. rw c.in-5.is (ap not c.is_invocation.ensures)
 
-pub returns : goal.returns
+pub returns-in_default : goal.returns-in_default
 unfolding fault_here
-returns c =
-    let g = c.args in
-    λ h. rw (
-      ne_eqb g.r 1 c.if-r-eq1.false,
-      ne_eqb g.r 2 c.if-r-eq2.false,
-      ne_eqb g.r 3 c.if-r-eq3.false,
-      ne_eqb g.r 4 c.if-r-eq4.false,
-      ne_eqb g.r 5 c.if-r-eq5.false,
-    ) refl
+returns-in_default c = search rules

@@ -1,14 +1,9 @@
 -- `is_call`: a method that is found, with its parameters.
-use lib.Seq.{slice}
-use Rattle.text_names.proofs.Calls.{call_at}
+use Rattle.text_names.proofs.Calls.{call-found, call-missing}
 use Rattle.text_names.proofs.fault.is_call.Goals as goal
 
-pub returns : goal.returns
-returns c =
-    let args = c.args in
-    let text = args.text.now in
-    let x = slice args.start args.end text in
-    let found = c.find_indexed-m in
-    let m = found.result in
-    call_at text x args.after _ c.count_arguments-n.ensures m.found m.at m.params
-    found.ensures.1
+pub returns-in-Some : goal.returns-in-Some
+returns-in-Some c = call-found _ _ _ _ c.count_arguments-n.ensures _ c.in-Some.ensures
+
+pub returns-in-None : goal.returns-in-None
+returns-in-None c = call-missing _ _ _ _ c.count_arguments-n.ensures c.in-None.ensures

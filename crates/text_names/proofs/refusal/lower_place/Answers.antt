@@ -1,24 +1,19 @@
--- `lower_place` by its tests.
-use borrow.Author.Tests.{not-true, not-false}
-use Rattle.text_names.proofs.Calls.{lower-unfound, lower-first, lower-kept, lower-new}
+-- `lower_place` by its cases.
+use mathlib.Core.Path.{refl, sym}
+use Rattle.text_names.specs.Answer.{fault_in}
+use Rattle.text_names.specs.FaultsCode.{lower_of}
+use Rattle.text_names.proofs.Calls.{lower-min}
+use Rattle.text_names.proofs.Lowest.{lower-none}
 use Rattle.text_names.proofs.refusal.lower_place.Goals as goal
 
-pub returns-then-not-fault : goal.returns-then-not-fault
-returns-then-not-fault c =
-    lower-unfound c.args.found c.args.low c.args.at c.args.fault
-    (not-true c.args.fault c.if-not-fault.true-raw)
+pub returns-in-Some-Some : goal.returns-in-Some-Some
+unfolding fault_in
+returns-in-Some-Some c = rw (c.min.ensures, c.in-Some-Some.is-0, c.in-Some-Some.is-1) (lower-min _ _)
 
-pub returns-then-not-found : goal.returns-then-not-found
-returns-then-not-found c =
-    lower-first c.args.found c.args.low c.args.at c.args.fault
-    (not-false c.args.fault c.if-not-fault.false-raw) (not-true c.args.found c.if-not-found.true-raw)
+pub returns-in-Some-None : goal.returns-in-Some-None
+unfolding fault_in
+returns-in-Some-None c = rw c.in-Some-None.is-1 (sym (lower-none _))
 
-pub returns-then-low-at : goal.returns-then-low-at
-returns-then-low-at c =
-    lower-kept c.args.found c.args.low c.args.at c.args.fault
-    (not-false c.args.fault c.if-not-fault.false-raw) (not-false c.args.found c.if-not-found.false-raw) c.if-low-at.true
-
-pub returns : goal.returns
-returns c =
-    lower-new c.args.found c.args.low c.args.at c.args.fault
-    (not-false c.args.fault c.if-not-fault.false-raw) (not-false c.args.found c.if-not-found.false-raw) c.if-low-at.false
+pub returns-in-None-default : goal.returns-in-None-default
+unfolding fault_in lower_of
+returns-in-None-default c = rw c.in-None-default.is-0 refl

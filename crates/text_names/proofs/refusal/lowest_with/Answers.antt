@@ -3,5 +3,5 @@ use mathlib.Core.Path.{◌∙◌}
 use Rattle.text_names.proofs.Passes.{all-in-one}
 use Rattle.text_names.proofs.refusal.lowest_with.Goals as goal
 
-pub returns-then-once : goal.returns-then-once
-returns-then-once c = c.lowest_in-once.ensures.0 c.if-once.true ∙ all-in-one c.args.text.now 0
+pub returns-in-Ok : goal.returns-in-Ok
+returns-in-Ok c = c.in-Ok.ensures.0 ∙ all-in-one c.args.methods.now.text.now 0

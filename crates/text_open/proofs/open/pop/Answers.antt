@@ -1,8 +1,8 @@
 -- `pop`: what is left after the block is the same.
 use mathlib.Core.Path.{refl, sym, ap, ◌∙◌}
-use Prim.Native.Nat.{◌-◌, ◌≤◌, ◌<◌}
+use Prim.Native.Nat.{◌-◌, ◌+◌, ◌≤◌, ◌<◌}
 use native.Mathlib.Omega.{arith}
-use Rattle.text_open.specs.OpenCode.{leaving}
+use Rattle.text_open.specs.OpenCode.{open_of, leaving}
 use Rattle.text_open.proofs.OpenLaws.{top-leaves, top-stays, all_left}
 use Rattle.text_open.proofs.open.pop.Goals as goal
 
@@ -12,60 +12,42 @@ returns-then-n-gt1024 c =
     let most : c.args.n ≤ 1025 = c.requires in
     (omega arith, λ text ds h l. absurd (omega arith))
 
-pub loop-left-init : goal.loop-left-init
-loop-left-init c = (omega arith, λ text. refl)
-
-pub overflow_mul-j : goal.overflow_mul-j
-overflow_mul-j c =
-    let most : c.loop-left.left ≤ c.args.n = c.loop-left.invariant.0 in
-    let room : c.args.n ≤ 1025 = c.requires in
-    omega arith
-
-pub overflow_add-j : goal.overflow_add-j
-overflow_add-j c =
-    let most : c.loop-left.left ≤ c.args.n = c.loop-left.invariant.0 in
-    let room : c.args.n ≤ 1025 = c.requires in
-    omega arith
+pub loop-j-init : goal.loop-j-init
+loop-j-init c = λ text. refl
 
 pub returns-then-top-level : goal.returns-then-top-level
 returns-then-top-level c =
     let g = c.args in
     let room : g.n ≤ 1024 = c.if-n-gt1024.false in
-    let some : 0 < c.loop-left.left = c.loop-left-test.true in
-    let most : c.loop-left.left ≤ g.n = c.loop-left.invariant.0 in
-    let top = c.word-top.ensures in
-    let less : c.word-top.result < g.level = c.if-top-level.true in (
+    let some : 0 < c.loop-j.j = c.loop-j-test.true in
+    let most : c.loop-j.j ≤ g.n = c.loop-j.auto.j in
+    let top = c.at_or-top.ensures in
+    let less : c.at_or-top.result < g.level = c.if-top-level.true in (
       omega arith,
       λ text ds h l.
-          sym (ap (leaving g.level) (sym (h room)) ∙ c.loop-left.invariant.1 text
-          ∙ top-stays text g.words.now c.loop-left.left (c.loop-left.left - 1) (omega arith) g.level
+          ap (open_of text g.words.now) {x = c.loop-j.j - 1 + 1} {y = c.loop-j.j} (omega arith)
+          ∙ sym (ap (leaving g.level) (sym (h room)) ∙ c.loop-j.invariant text
+          ∙ top-stays text g.words.now c.loop-j.j (c.loop-j.j - 1) (omega arith) g.level
           (omega arith)),
     )
 
-pub loop-left-smaller : goal.loop-left-smaller
-loop-left-smaller c =
-    let some : 0 < c.loop-left.left = c.loop-left-test.true in
-    omega arith
-
-pub loop-left-preserved : goal.loop-left-preserved
-loop-left-preserved c =
+pub loop-j-preserved : goal.loop-j-preserved
+loop-j-preserved c =
     let g = c.args in
-    let some : 0 < c.loop-left.left = c.loop-left-test.true in
-    let most : c.loop-left.left ≤ g.n = c.loop-left.invariant.0 in
-    let top = c.word-top.ensures in
-    let high : g.level ≤ c.word-top.result = c.if-top-level.false in (
-      omega arith,
-      λ text. c.loop-left.invariant.1 text
-          ∙ top-leaves text g.words.now c.loop-left.left _ (omega arith) g.level (omega arith),
-    )
+    let some : 0 < c.loop-j.j = c.loop-j-test.true in
+    let top = c.at_or-top.ensures in
+    let high : g.level ≤ c.at_or-top.result = c.if-top-level.false in
+    λ text. c.loop-j.invariant text
+    ∙ top-leaves text g.words.now c.loop-j.j _ (omega arith) g.level (omega arith)
 
 pub returns : goal.returns
 returns c =
     let g = c.args in
     let room : g.n ≤ 1024 = c.if-n-gt1024.false in
-    let none : c.loop-left.left ≤ 0 = c.loop-left-test.false in (
+    let none : c.loop-j.j ≤ 0 = c.loop-j-test.false in (
       omega arith,
       λ text ds h l.
-          sym (ap (leaving g.level) (sym (h room)) ∙ c.loop-left.invariant.1 text
-          ∙ all_left text g.words.now c.loop-left.left (omega arith) g.level),
+          ap (open_of text g.words.now) {x = 0} {y = c.loop-j.j} (omega arith)
+          ∙ sym (ap (leaving g.level) (sym (h room)) ∙ c.loop-j.invariant text
+          ∙ all_left text g.words.now c.loop-j.j (omega arith) g.level),
     )

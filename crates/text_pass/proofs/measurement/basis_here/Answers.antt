@@ -9,8 +9,8 @@ returns-then-is_std_basis c =
     basis-stands g.text.now g.from _ c.next_token-t.ensures
     (sym c.is_std_basis.ensures ∙ c.if-is_std_basis.true)
 
-pub returns : goal.returns
-returns c =
+pub returns-else-is_std_basis : goal.returns-else-is_std_basis
+returns-else-is_std_basis c =
     let g = c.args in
     basis-missing g.text.now g.from _ c.next_token-t.ensures
     (sym c.is_std_basis.ensures ∙ c.if-is_std_basis.false)

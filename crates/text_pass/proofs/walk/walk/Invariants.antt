@@ -7,10 +7,10 @@ use Rattle.text_scopes.specs.OpenCode.{Opened}
 use Rattle.text_pass.specs.WalkCode.{Standing}
 use Rattle.text_pass.proofs.walk.walk.Given as goal
 
-abbrev pub invariant-loop-phase : goal.invariant-loop-phase
-invariant-loop-phase l = (length l.counts ≡ length l.initial.counts) × (length l.brackets ≡ length l.initial.counts) × (2 ≤ length l.initial.counts)
+abbrev pub invariant-loop-low : goal.invariant-loop-low
+invariant-loop-low l = (length l.counts ≡ length l.initial.counts) × (length l.brackets ≡ length l.initial.counts) × (2 ≤ length l.initial.counts)
     × ((scopes : Scopes) → Opened l.text l.starts l.n scopes → l.n ≤ 32
     → Standing scopes l.text l.from l.at l.phase (length l.initial.counts) l.low l.depth l.counts l.brackets)
 
-abbrev pub decreases-loop-phase : goal.decreases-loop-phase
-decreases-loop-phase l = length l.text - l.at
+abbrev pub decreases-loop-low : goal.decreases-loop-low
+decreases-loop-low l = length l.text - l.at

@@ -3,17 +3,15 @@ use native.Mathlib.Omega.{arith}
 use Rattle.text_put.proofs.WordLaws.{called-in, called-past}
 use Rattle.text_put.proofs.code.number_at.Goals as goal
 
-pub find_indexed-m-requires : goal.find_indexed-m-requires
-find_indexed-m-requires c = (
-  c.requires,
+pub returns-then-methods-a : goal.returns-then-methods-a
+returns-then-methods-a c = called-past _ _ _ c.if-methods-a.true
+
+pub index_of-requires : goal.index_of-requires
+index_of-requires c = (
   omega (arith, c.next_token-t.ensures.ends),
-  omega (arith, c.next_token-t.ensures.ends, c.next_token-t.ensures.within c.if-a-text.true),
+  omega (arith, c.next_token-t.ensures.ends, c.next_token-t.ensures.within c.if-methods-a.false),
 )
 
-pub returns-then-a-text : goal.returns-then-a-text
-returns-then-a-text c =
-    called-in _ _ _ _ _ _ c.if-a-text.true c.next_token-t.ensures
-    c.find_indexed-m.ensures.0 c.number_in.ensures
-
 pub returns : goal.returns
-returns c = called-past _ _ _ c.if-a-text.false
+returns c =
+    called-in _ _ _ _ _ _ c.if-methods-a.false c.next_token-t.ensures c.index_of.ensures c.number_in.ensures

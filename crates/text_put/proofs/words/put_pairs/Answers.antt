@@ -1,5 +1,5 @@
 -- `put_pairs` goes through the methods in the table's order.
-use Prim.Native.Nat.{ℕ, ◌-◌}
+use Prim.Native.Nat.{ℕ}
 use native.Mathlib.Omega.{arith}
 use mathlib.Core.Path.{◌≡◌, refl, ap, ◌∙◌}
 use lib.ListN.{length, get_or}
@@ -11,9 +11,7 @@ use Rattle.text_put.proofs.words.put_pairs.Goals as goal
 
 pub loop-k-init : goal.loop-k-init
 unfolding pairs_to offset_to
-loop-k-init c =
-    let args = c.args in
-    (omega arith, (omega arith, (refl, words-none args.table.now args.at)))
+loop-k-init c = (omega arith, refl, words-none c.args.table.now c.args.at)
 
 pub put_pair-i-requires : goal.put_pair-i-requires
 put_pair-i-requires c =
@@ -23,16 +21,14 @@ put_pair-i-requires c =
       arith,
       c.requires.0,
       c.requires.2,
-      loop.invariant.0,
-      loop.invariant.1.1.1.1,
+      loop.auto.k-end,
+      loop.invariant.2.1,
       words-length (pairs_to args.lengths.now args.main loop.k),
       pairs-count args.lengths.now args.main loop.k,
     )
 
 pub overflow_add-offset : goal.overflow_add-offset
-overflow_add-offset c =
-    let inv = c.loop-k.invariant in
-    omega (arith, c.requires.0, inv.0, inv.1.0, c.word_at-long.ensures.1)
+overflow_add-offset c = omega (arith, c.requires.0, c.loop-k-test.true, c.loop-k.invariant.0, c.word_at-long.ensures.1)
 
 pub loop-k-preserved : goal.loop-k-preserved
 unfolding word
@@ -43,25 +39,18 @@ loop-k-preserved c =
     let long : c.word_at-long.result ≡ get_or lengths (index_in args.main loop.k) 0 =
     c.word_at-long.ensures.0 ∙ ap (λ (j : ℕ). get_or lengths j 0)
     c.index_in-j.ensures in (
-      omega (arith, c.loop-k-test.true),
-      (
-        omega (arith, loop.invariant.1.0, c.word_at-long.ensures.1),
-        (
-          offset_step lengths args.main loop.k loop.offset
-              c.word_at-long.result loop.invariant.1.1.0 long,
-          pairs-step args.table.now args.at lengths args.main loop.k loop.offset
-              c.word_at-long.result
-              loop.invariant.1.1.0 long loop.invariant.1.1.1 c.put_pair-i.ensures,
-        ),
-      ),
+      omega (arith, loop.invariant.0, c.word_at-long.ensures.1),
+      offset_step lengths args.main loop.k loop.offset c.word_at-long.result loop.invariant.1 long,
+      pairs-step args.table.now args.at lengths args.main loop.k loop.offset c.word_at-long.result
+          loop.invariant.1 long loop.invariant.2 c.put_pair-i.ensures,
     )
 
 pub shape_of-table : goal.shape_of-table
-shape_of-table c = ap length c.loop-k.invariant.1.1.1.0 ∙ simp put_from-length
+shape_of-table c = ap length c.loop-k.invariant.2.0 ∙ simp put_from-length
 
 pub returns : goal.returns
 returns c =
     let args = c.args in
     let loop = c.loop-k in
     words_same args.table.now args.at (ap (pairs_to args.lengths.now args.main)
-    {x = loop.k} {y = args.methods} (omega (arith, loop.invariant.0, c.loop-k-test.false))) loop.invariant.1.1.1
+    {x = loop.k} {y = args.methods} (omega (arith, loop.auto.k-end, c.loop-k-test.false))) loop.invariant.2

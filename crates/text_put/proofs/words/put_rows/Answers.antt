@@ -1,5 +1,5 @@
 -- `put_rows` goes through the methods in the table's order.
-use Prim.Native.Nat.{ℕ, ◌-◌, ◌*◌}
+use Prim.Native.Nat.{ℕ, ◌*◌}
 use native.Mathlib.Omega.{arith}
 use mathlib.Core.Path.{ap, ◌∙◌}
 use lib.ListN.{length}
@@ -11,8 +11,7 @@ use Rattle.text_put.proofs.words.put_rows.Goals as goal
 pub loop-k-init : goal.loop-k-init
 unfolding rows_to
 loop-k-init c =
-    let args = c.args in
-    (omega arith, words-none args.table.now args.at)
+    words-none c.args.table.now c.args.at
 
 pub overflow_mul-j : goal.overflow_mul-j
 overflow_mul-j c =
@@ -36,33 +35,28 @@ put_row-i-requires c =
         arith,
         c.requires.1,
         c.requires.3,
-        loop.invariant.0,
-        loop.invariant.1.1,
+        loop.auto.k-end,
+        loop.invariant.1,
         words-length (rows_to args.rows.now args.main loop.k),
         rows-count args.rows.now args.main loop.k
             c.requires.0
             c.requires.2 (omega
-            (arith, c.requires.1, loop.invariant.0)),
+            (arith, c.requires.1, loop.auto.k-end)),
       ),
     )
 
 pub loop-k-preserved : goal.loop-k-preserved
 loop-k-preserved c =
     let args = c.args in
-    let loop = c.loop-k in (
-      omega (arith, c.loop-k-test.true),
-      rows_step args.table.now args.at args.rows.now args.main loop.k (18
-          * c.index_in-j.result)
-          (ap (λ (j : ℕ). 18 * j) c.index_in-j.ensures) loop.invariant.1
-          c.put_row-i.ensures,
-    )
+    rows_step args.table.now args.at args.rows.now args.main c.loop-k.k (18 * c.index_in-j.result)
+    (ap (λ (j : ℕ). 18 * j) c.index_in-j.ensures) c.loop-k.invariant c.put_row-i.ensures
 
 pub shape_of-table : goal.shape_of-table
-shape_of-table c = ap length c.loop-k.invariant.1.0 ∙ simp put_from-length
+shape_of-table c = ap length c.loop-k.invariant.0 ∙ simp put_from-length
 
 pub returns : goal.returns
 returns c =
     let args = c.args in
     let loop = c.loop-k in
     words_same args.table.now args.at (ap (rows_to args.rows.now args.main)
-    {x = loop.k} {y = args.methods} (omega (arith, loop.invariant.0, c.loop-k-test.false))) loop.invariant.1
+    {x = loop.k} {y = args.methods} (omega (arith, loop.auto.k-end, c.loop-k-test.false))) loop.invariant

@@ -1,27 +1,38 @@
 -- `header_row`: the words of the header, where the text has one.
-use lib.ListN.{replicate}
+use mathlib.Core.Path.{refl}
 use mathlib.Core.List.{◌∷◌}
-use borrow.Author.Tests.{not-true}
+use lib.ListN.{replicate}
+use Rattle.text_types.proofs.Answers.{then, gone}
 use Rattle.text_types.proofs.TypeLaws.{not-both}
 use Rattle.text_types.proofs.Every.{every-at}
 use Rattle.text_rows.proofs.ReadingLaws.{header-noted}
 use Rattle.text_rows.proofs.header.header_row.Goals as goal
 
-pub returns-then-not-open : goal.returns-then-not-open
-returns-then-not-open c =
+pub returns-in_default : goal.returns-in_default
+returns-in_default c =
     let g = c.args in
-    let t = c.return_type-t in
-    let left = not-true c.expect_after-open.result.ok c.if-not-open.true in
     λ m us e. every-at _ m us e
-    (header-noted g.text.now g.at t.result.code (t.result.code ∷ 0 ∷ replicate 16 0) t.ensures
-    c.expect_after-name.ensures c.expect_after-open.ensures
-    (λ o. not-both o left))
+    (header-noted g.text.now g.at 0 (0 ∷ 0 ∷ replicate 16 0) c.in_default.ensures gone gone (λ o. not-both o refl))
+
+pub returns-in_default-expect : goal.returns-in_default-expect
+returns-in_default-expect c =
+    let g = c.args in
+    let t = c.in-Ok.t in
+    λ m us e. every-at _ m us e
+    (header-noted g.text.now g.at t.code (t.code ∷ 0 ∷ replicate 16 0) c.in-Ok.ensures (then c.in_default-expect.ensures)
+    gone (λ o. not-both o refl))
+
+pub returns-in_default-expect-2 : goal.returns-in_default-expect-2
+returns-in_default-expect-2 c =
+    let g = c.args in
+    let t = c.in-Ok.t in
+    λ m us e. every-at _ m us e
+    (header-noted g.text.now g.at t.code (t.code ∷ 0 ∷ replicate 16 0) c.in-Ok.ensures (then c.in-Ok-expect.ensures)
+    (then c.in_default-expect-2.ensures) (λ o. not-both o refl))
 
 pub returns : goal.returns
 returns c =
     let g = c.args in
-    let t = c.return_type-t in
     λ m us e. every-at _ m us e
-    (header-noted g.text.now g.at t.result.code c.parameter_types.new.row t.ensures
-    c.expect_after-name.ensures
-    c.expect_after-open.ensures (λ o. c.parameter_types.ensures))
+    (header-noted g.text.now g.at c.in-Ok.t.code c.parameter_types.new.row c.in-Ok.ensures (then c.in-Ok-expect.ensures)
+    (then c.in-Ok-expect-2.ensures) (λ o. c.parameter_types.ensures))

@@ -1,10 +1,8 @@
 -- The cycle of calls of statements and blocks. Each one's measure is by the nesting left: a call within the same level
 -- goes from block to statements, statement, unbraced and body, and a body or a block of a statement is one level less.
 use mathlib.Core.Bool.{Bool}
-use mathlib.Core.Path.{◌≡◌}
 use lib.ListN.{length}
 use Rattle.text_parse.specs.Equations.{statements_from}
-use Rattle.text_types.specs.SaysCode.{next_kind}
 use Rattle.text_statements.specs.WithinCode.{Within}
 use Prim.Native.Nat.{ℕ, ◌+◌, ◌*◌, ◌-◌}
 use Rattle.text_statements.proofs.code.+block_body_statement_statements_unbraced.Given as goal
@@ -24,11 +22,10 @@ decreases-statements l = 5 * l.left + 3
 abbrev pub decreases-unbraced : goal.decreases-unbraced
 decreases-unbraced l = 5 * l.left + 1
 
-abbrev pub invariant-statements-loop-kind : goal.invariant-statements-loop-kind
-invariant-statements-loop-kind l =
-    (l.kind ≡ next_kind l.text l.at) ×
-    ((ok : Bool) (a : ℕ) → Within l.text l.starts l.n l.at (statements_from l.left) ok a
-    → Within l.text l.starts l.n l.from (statements_from l.left) ok a)
+abbrev pub invariant-statements-loop-at : goal.invariant-statements-loop-at
+invariant-statements-loop-at l =
+    (ok : Bool) (a : ℕ) → Within l.text l.starts l.n l.at (statements_from l.left) ok a
+    → Within l.text l.starts l.n l.from (statements_from l.left) ok a
 
-abbrev pub decreases-statements-loop-kind : goal.decreases-statements-loop-kind
-decreases-statements-loop-kind l = length l.text - l.at
+abbrev pub decreases-statements-loop-at : goal.decreases-statements-loop-at
+decreases-statements-loop-at l = length l.text - l.at

@@ -1,27 +1,24 @@
 -- `offset_of` adds the lengths up.
-use Prim.Native.Nat.{◌-◌}
 use native.Mathlib.Omega.{arith}
 use mathlib.Core.Path.{ap, ◌∙◌}
-use borrow.Author.Rules.{rules}
 use Rattle.text_code.specs.KeptCode.{offset_in}
 use Rattle.text_table.proofs.KeptLaws.{offset-none, offset-next}
 use Rattle.text_table.proofs.code.offset_of.Goals as goal
 
 pub loop-i-init : goal.loop-i-init
-loop-i-init c = (omega arith, offset-none _, omega arith)
+loop-i-init c = (offset-none _, omega arith)
 
 pub overflow_add-n : goal.overflow_add-n
-overflow_add-n c = omega (arith, c.loop-i.invariant.0, c.loop-i.invariant.2, c.word_at-n.ensures.1, c.requires)
+overflow_add-n c = omega (arith, c.loop-i-test.true, c.loop-i.invariant.1, c.word_at-n.ensures.1, c.requires)
 
 pub loop-i-preserved : goal.loop-i-preserved
 loop-i-preserved c = (
-  search rules,
-  offset-next _ _ _ _ c.loop-i.invariant.1 c.word_at-n.ensures.0,
-  omega (arith, c.loop-i.invariant.2, c.word_at-n.ensures.1),
+  offset-next _ _ _ _ c.loop-i.invariant.0 c.word_at-n.ensures.0,
+  omega (arith, c.loop-i.invariant.1, c.word_at-n.ensures.1),
 )
 
 pub returns : goal.returns
 returns c = (
-  c.loop-i.invariant.1 ∙ ap (offset_in _) (omega (arith, c.loop-i.invariant.0, c.loop-i-test.false)),
-  omega (arith, c.loop-i.invariant.0, c.loop-i.invariant.2, c.requires),
+  c.loop-i.invariant.0 ∙ ap (offset_in _) (omega (arith, c.loop-i.auto.i-end, c.loop-i-test.false)),
+  omega (arith, c.loop-i.auto.i-end, c.loop-i.invariant.1, c.requires),
 )

@@ -18,8 +18,8 @@ returns c =
     let w = c.put_code.ensures in
     let a = c.args in
     let n = 2 * a.from + 2 * a.long - 2 * a.from in (
-      all-put a.text.now a.main a.kept.now a.from a.long a.table.now a.at n (omega arith) _ _ w
+      all-put a.methods.now.text.now a.main a.kept.now a.from a.long a.table.now a.at n (omega arith) _ _ w
           a.leave c.if-leave.false,
-      λ l. end_below a.text.now a.main a.kept.now a.from a.long a.table.now a.at n (omega arith)
+      λ l. end_below a.methods.now.text.now a.main a.kept.now a.from a.long a.table.now a.at n (omega arith)
           _ _ w (omega (arith, c.if-from-long-gt4096.false)) c.if-at-ge20000.false,
     )

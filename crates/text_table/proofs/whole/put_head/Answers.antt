@@ -12,7 +12,7 @@ put_pairs-j-requires c =
     let pair = c.put_pair-i in (
       c.requires.1,
       c.requires.2,
-      omega (arith, pair.ensures.1, words-length (args.methods ∷ args.instructions ∷ [])),
+      omega (arith, pair.ensures.1, words-length (args.count ∷ args.instructions ∷ [])),
     )
 
 pub put_rows-requires : goal.put_rows-requires
@@ -20,13 +20,13 @@ put_rows-requires c =
     let pair = c.put_pair-i in
     let args = c.args in
     let few : pair.result ≤ 2 =
-    omega (arith, pair.ensures.1, words-length (args.methods ∷ args.instructions ∷ [])) in (
+    omega (arith, pair.ensures.1, words-length (args.count ∷ args.instructions ∷ [])) in (
       c.requires.0,
       c.requires.1,
       c.requires.2,
       omega (
         arith,
-        pairs_below args.methods args.main args.lengths.now _ c.requires.1 few
+        pairs_below args.count args.main args.lengths.now _ c.requires.1 few
             c.put_pairs-j.ensures,
       ),
     )
@@ -34,6 +34,6 @@ put_rows-requires c =
 pub returns : goal.returns
 returns c =
     let args = c.args in
-    head-put args.methods args.instructions args.main args.lengths.now args.rows.now args.table.now
+    head-put args.count args.instructions args.main args.lengths.now args.rows.now args.table.now
     c.put_pair-i.ensures c.put_pairs-j.ensures
     c.put_rows.ensures

@@ -1,7 +1,6 @@
 -- `declared_in`: what the declarations say where they are read.
-use mathlib.Core.Path.{sym}
+use mathlib.Core.Path.{refl, sym}
 use mathlib.Core.List.{[]}
-use borrow.Author.Tests.{not-true, not-false}
 use lib.Seq.{slice}
 use Rattle.text_types.proofs.LookupLaws.{past-found, among-read, among-left}
 use Rattle.text_types.proofs.lookup.declared_in.Goals as goal
@@ -11,18 +10,14 @@ returns-then-text-from c =
     let g = c.args in sym (past-found g.text.now (slice g.start g.end g.text.now)
     g.from c.if-text-from.true)
 
-pub returns-then-not-d : goal.returns-then-not-d
-returns-then-not-d c =
+pub returns-in-Ok : goal.returns-in-Ok
+returns-in-Ok c =
     let g = c.args in
-    let d = c.declarations-d.result in
-    among-left g.text.now (slice g.start g.end g.text.now) g.from d.ok d.at d.found _
-    (not-true d.ok c.if-not-d.true) (c.declarations-d.ensures
-    c.if-text-from.false [])
+    among-read g.text.now (slice g.start g.end g.text.now) g.from _ _ _ _ refl
+    (c.in-Ok.ensures c.if-text-from.false [])
 
-pub returns : goal.returns
-returns c =
+pub returns-in-Err : goal.returns-in-Err
+returns-in-Err c =
     let g = c.args in
-    let d = c.declarations-d.result in
-    among-read g.text.now (slice g.start g.end g.text.now) g.from d.ok d.at d.found _
-    (not-false d.ok c.if-not-d.false) (c.declarations-d.ensures
-    c.if-text-from.false [])
+    among-left g.text.now (slice g.start g.end g.text.now) g.from _ _ _ _ refl
+    (c.in-Err.ensures c.if-text-from.false [])

@@ -1,22 +1,16 @@
 -- `parameter_in`: what the parameters say where they are read.
 use Prim.Native.Nat.{suc}
-use borrow.Author.Tests.{not-true, not-false}
+use mathlib.Core.Path.{refl}
 use lib.Seq.{slice}
 use Rattle.text_types.proofs.LookupLaws.{parameter-read, parameter-left}
 use Rattle.text_types.proofs.lookup.parameter_in.Goals as goal
 
-pub returns-then-not-p : goal.returns-then-not-p
-returns-then-not-p c =
+pub returns-in-Ok : goal.returns-in-Ok
+returns-in-Ok c =
     let g = c.args in
-    let p = c.parameters-p.result in
-    parameter-left g.text.now (slice g.start g.end g.text.now) (suc g.from) p.ok p.at
-    p.found _
-    (not-true p.ok c.if-not-p.true) c.parameters-p.ensures
+    parameter-read g.text.now (slice g.start g.end g.text.now) (suc g.from) _ _ _ _ refl c.in-Ok.ensures
 
-pub returns : goal.returns
-returns c =
+pub returns-in-Err : goal.returns-in-Err
+returns-in-Err c =
     let g = c.args in
-    let p = c.parameters-p.result in
-    parameter-read g.text.now (slice g.start g.end g.text.now) (suc g.from) p.ok p.at
-    p.found _
-    (not-false p.ok c.if-not-p.false) c.parameters-p.ensures
+    parameter-left g.text.now (slice g.start g.end g.text.now) (suc g.from) _ _ _ _ refl c.in-Err.ensures

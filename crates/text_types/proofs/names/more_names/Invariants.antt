@@ -1,18 +1,16 @@
 -- `more_names`: what is answered from each comma on is answered from the first.
 use Prim.Native.Nat.{ℕ, ◌-◌}
 use mathlib.Core.Bool.{Bool}
-use mathlib.Core.Path.{◌≡◌}
 use lib.ListN.{length}
 use lib.Seq.{slice}
-use Rattle.text_types.specs.SaysCode.{next_kind}
+use Rattle.text_types.specs.Answer.{declared_number}
 use Rattle.text_types.specs.FoundCode.{NamesSay}
 use Rattle.text_types.specs.Found.{or_else}
 use Rattle.text_types.proofs.names.more_names.Given as goal
 
-abbrev pub invariant-loop-kind : goal.invariant-loop-kind
-invariant-loop-kind l = let x = slice l.start l.end l.text in
-    (l.kind ≡ next_kind l.text l.at)
-    × ((ok : Bool) (a f : ℕ) → NamesSay l.text x l.at ok a f → NamesSay l.text x l.from ok a (or_else l.found f))
+abbrev pub invariant-loop-comma : goal.invariant-loop-comma
+invariant-loop-comma l = let x = slice l.start l.end l.text in
+    (ok : Bool) (a f : ℕ) → NamesSay l.text x l.at ok a f → NamesSay l.text x l.from ok a (or_else (declared_number l.found) f)
 
-abbrev pub decreases-loop-kind : goal.decreases-loop-kind
-decreases-loop-kind l = length l.text - l.at
+abbrev pub decreases-loop-comma : goal.decreases-loop-comma
+decreases-loop-comma l = length l.text - l.at

@@ -7,8 +7,8 @@ returns-then-t-kind c =
     found-next c.args.text.now c.args.from _
     c.next_token-t.ensures c.args.kind c.if-t-kind.true
 
-pub returns : goal.returns
-returns c =
+pub returns-else-t-kind : goal.returns-else-t-kind
+returns-else-t-kind c =
     missing-next c.args.text.now
     c.args.from _ c.next_token-t.ensures
     c.args.kind c.if-t-kind.false

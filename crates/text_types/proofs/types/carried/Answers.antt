@@ -16,8 +16,8 @@ returns-then-is_plain c =
     carried-read text g.from true _ _ test refl
     (passed-next text g.from _ n (λ e. plain-bytes text g.from test (same ∙ e))) (sym same)
 
-pub returns : goal.returns
-returns c =
+pub returns-else-is_plain : goal.returns-else-is_plain
+returns-else-is_plain c =
     let g = c.args in
     let n = c.next_token-t.ensures in
     let text = g.text.now in

@@ -1,7 +1,7 @@
 -- `qubit_holder` hands on k, or the number of lines where that is less.
 use mathlib.Core.Path.{◌∙◌}
 use native.Mathlib.Omega.{arith}
-use Rattle.trace.proofs.Held.{look_up-all, count_read-all}
+use Rattle.trace.proofs.Held.{held-all, count_read-all}
 use Rattle.trace.proofs.lookup.qubit_holder.Goals as goal
 
 pub returns : goal.returns
@@ -9,7 +9,7 @@ returns c =
     let args = c.args in
     let n = c.line_count-n.result in (
       c.holder_back-2.ensures.0
-          ∙ look_up-all args.trace.now n args.k args.qubit (omega arith) (omega arith),
+          ∙ held-all args.trace.now n args.k args.qubit (omega arith) (omega arith),
       c.holder_back-2.ensures.1
           ∙ count_read-all args.trace.now n args.k args.qubit (omega arith) (omega arith),
     )

@@ -1,24 +1,22 @@
 -- `on` puts a byte below the others, where there is room.
-use mathlib.Core.Path.{◌∙◌}
-use Rattle.check_types.proofs.Packed.{on_fits, on-found, on-full}
+use Rattle.check_types.proofs.Packed.{on_fits, on-packed, on-found, on-full}
 use native.Mathlib.Omega.{arith}
 use Rattle.check_types.proofs.pending.Pending.on.Goals as goal
 
 pub overflow_mul-result : goal.overflow_mul-result
-overflow_mul-result c =
-    let pre = c.requires in
-    omega (arith, on_fits _ _ pre.0 c.if-self-lt8.true _ pre.1)
+overflow_mul-result c = omega (arith, on_fits _ _ _ c.args.self.packed c.requires c.if-self-lt-MOST.true)
 
 pub overflow_add-result : goal.overflow_add-result
-overflow_add-result c =
-    let pre = c.requires in
-    omega (arith, on_fits _ _ pre.0 c.if-self-lt8.true _ pre.1)
+overflow_add-result c = omega (arith, on_fits _ _ _ c.args.self.packed c.requires c.if-self-lt-MOST.true)
 
-pub returns-then-self-lt8 : goal.returns-then-self-lt8
-returns-then-self-lt8 c =
-    let pre = c.requires in
-    let if1 = c.if-self-lt8 in
-    on-found _ _ pre.0 if1.true _ pre.1
+pub invariant_of-result : goal.invariant_of-result
+invariant_of-result c = record {
+  few = omega (arith, c.if-self-lt-MOST.true);
+  packed = on-packed _ _ _ c.args.self.packed c.requires;
+}
+
+pub returns-then-self-lt-MOST : goal.returns-then-self-lt-MOST
+returns-then-self-lt-MOST c = on-found _ _ _ c.args.self.packed c.requires c.if-self-lt-MOST.true
 
 pub returns : goal.returns
-returns c = (c.fault.ensures.0 ∙ on-full _ _ _ c.if-self-lt8.false, c.fault.ensures.1)
+returns c = on-full _ _ _ c.if-self-lt-MOST.false

@@ -1,21 +1,27 @@
 -- `two` replaces the two lowest bytes by one, where both are 1.
-use mathlib.Core.Path.{◌∙◌}
-use Rattle.check_types.proofs.Packed.{two-some, two-found, two-missing}
+use Rattle.check_types.proofs.Packed.{two-some, two-packed, two-found, two-missing}
+use native.Mathlib.Omega.{arith}
 use Rattle.check_types.proofs.pending.Pending.two.Goals as goal
 
 pub overflow_sub-result : goal.overflow_sub-result
 overflow_sub-result c =
-    let pre = c.requires in
-    let if1 = c.if-self-eq257 in
-    two-some _ _ pre.0 _ pre.1 if1.true
+    let q = c.args.self in
+    two-some _ _ _ q.few q.packed c.requires c.if-self-eq257.true
+
+pub invariant_of-result : goal.invariant_of-result
+invariant_of-result c =
+    let q = c.args.self in
+    record {
+      few = omega (arith, q.few);
+      packed = two-packed _ _ _ q.few q.packed c.requires c.if-self-eq257.true;
+    }
 
 pub returns-then-self-eq257 : goal.returns-then-self-eq257
 returns-then-self-eq257 c =
-    let pre = c.requires in
-    let if1 = c.if-self-eq257 in
-    two-found _ _ pre.0 _ pre.1 if1.true
+    let q = c.args.self in
+    two-found _ _ _ q.few q.packed c.requires c.if-self-eq257.true
 
 pub returns : goal.returns
 returns c =
-    let pre = c.requires in
-    (c.fault.ensures.0 ∙ two-missing _ _ pre.0 _ pre.1 c.if-self-eq257.false, c.fault.ensures.1)
+    let q = c.args.self in
+    two-missing _ _ _ q.few q.packed c.requires c.if-self-eq257.false

@@ -1,7 +1,0 @@
--- `write` past the end changes nothing.
-use mathlib.Core.Path.{sym}
-use lib.Seq.{set_out}
-use Rattle.text_emit_expr.proofs.state.write.Goals as goal
-
-pub returns-else-i-words : goal.returns-else-i-words
-returns-else-i-words c = sym (set_out c.args.words.now c.args.i c.args.v c.if-i-words.false)
