@@ -140,7 +140,7 @@ pub extern "C" fn lanq_run_text(
 }
 
 // The holder by the first k lines of a trace, all if there are fewer, read from the last one backwards.
-#[tactic(auto, unfolding(trace::specs::Trace::look_up, trace::specs::ReadCode::held))]
+#[tactic(auto, unfolding(trace::specs::Trace::look_up, trace::specs::Trace::held))]
 #[unsafe(no_mangle)]
 pub extern "C" fn lanq_holder(trace: &[u16], k: usize, qubit: u16) -> LanqHolder
     ensures { (result.holder ≡ look_up trace.now k qubit)

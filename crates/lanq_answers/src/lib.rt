@@ -6,7 +6,7 @@
 ghost use Rattle.std.specs.Prelude.{◌≡◌};
 ghost use Rattle.std.proofs.Math.Option.{get_or};
 ghost use Rattle.machine.specs.Answer.{ran};
-ghost use Rattle.trace.specs.ReadCode.{found};
+ghost use Rattle.trace.specs.Trace.{found};
 ghost use Rattle.check_questions.specs.Check.{verdict_of};
 ghost use Rattle.lanq_answers.specs.Answers.{check_answer, run_answer};
 

@@ -4,7 +4,7 @@ ghost use Rattle.machine.specs.Answer.{ran};
 ghost use Rattle.trace.specs.Trace.{lines_of};
 ghost use Rattle.print_format.specs.Format.{answer_text};
 ghost use Rattle.lists.specs.Lists.{put_from};
-ghost use Rattle.run_ability.specs.EndingCode.{end_number};
+ghost use Rattle.run_ability.specs.EndNumbers.{end_number};
 ghost use Rattle.run.specs.Answers.{answer_numbers, lines_no};
 
 use check_questions::Refusal;

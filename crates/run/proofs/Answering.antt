@@ -8,7 +8,7 @@ use Rattle.machine.specs.Run.{run}
 use Rattle.machine.specs.Answer.{refusal, ran, result_answer, answer_of, lines_in, trace_after}
 use Rattle.machine.specs.Answer as machine
 use Rattle.layout.specs.Holders.{store_after}
-use Rattle.run_ability.specs.EndingCode.{end_number}
+use Rattle.run_ability.specs.EndNumbers.{end_number}
 use Rattle.run_schedule.specs.declared.entries.RunSummary.{RunSummary}
 use Rattle.run_schedule.specs.SummaryCode.{AfterRun, after_run, run_leaves}
 use Rattle.run.specs.Answers.{kept_if_refused, trace_left, store_left}

@@ -10,7 +10,7 @@ use Rattle.layout.specs.Holders.{store_after}
 use Rattle.trace.specs.Trace.{lines_of}
 use Rattle.check_questions.specs.declared.Refusal.{Refusal}
 use Rattle.check_questions.specs.Check.{number_of, place_of}
-use Rattle.run_ability.specs.EndingCode.{end_number}
+use Rattle.run_ability.specs.EndNumbers.{end_number}
 use Rattle.run_schedule.specs.declared.entries.RunSummary.{RunSummary}
 
 -- "A refusal gives number and place"; "A run answers end, entries used (idle ones too), lines written, outcomes used."

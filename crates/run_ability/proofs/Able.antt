@@ -46,7 +46,8 @@ use Rattle.run_ability.specs.PartnerCode.{opposite_of, Partner, waits, ready, is
 use Rattle.run_ability.specs.PartnerCode as code
 use Rattle.std.specs.Prelude as std
 use Rattle.run_ability.specs.declared.ends.End.TheVariants.{AllOver, NoneAble}
-use Rattle.run_ability.specs.EndingCode.{end_number, end_or_none, ability_by, ability_of, ability_op, some_is, ending_op}
+use Rattle.run_ability.specs.EndNumbers.{end_number}
+use Rattle.run_ability.specs.EndingCode.{end_or_none, ability_by, ability_of, ability_op, some_is, ending_op}
 
 module _ {p outcomes : List ℕ} {s : State} (reached : Reachable p outcomes s) (rest : List ℕ) where
   abbrev config : Config

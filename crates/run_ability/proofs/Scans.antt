@@ -12,7 +12,8 @@ use Rattle.std.specs.Prelude.{Option, Some, None}
 use native.Mathlib.Omega.{arith}
 use Rattle.run_ability.specs.declared.ends.End.{End}
 use Rattle.run_ability.specs.declared.ends.End.TheVariants.{ScheduleUsed, AllOver, NoneAble}
-use Rattle.run_ability.specs.EndingCode.{end_number, ability_op, some_is, ending_op}
+use Rattle.run_ability.specs.EndNumbers.{end_number}
+use Rattle.run_ability.specs.EndingCode.{ability_op, some_is, ending_op}
 
 or-false : (b : Bool) → (b || false) ≡ b
 or-false true = refl

@@ -4,20 +4,14 @@ use Rattle.run_parts.specs.PartsCode.{part_of}
 use Rattle.run_parts.specs.declared.readiness.Readiness.{Readiness}
 use Rattle.run_parts.specs.declared.readiness.Readiness.TheVariants.{Idle, Moves, Sends, Receives}
 use Rattle.run_parts.specs.ReadinessCode.{readiness_op}
+use Rattle.run_ability.specs.EndNumbers.{end_number}
 use Rattle.run_ability.specs.PartnerCode.{Partner, is_moving, partner_op}
 use Rattle.run_ability.specs.declared.ends.End.{End}
-use Rattle.run_ability.specs.declared.ends.End.TheVariants.{ScheduleUsed, AllOver, NoneAble, TraceFull}
+use Rattle.run_ability.specs.declared.ends.End.TheVariants.{AllOver, NoneAble}
 use Rattle.run_ability.specs.declared.ends.Ability.{Ability}
 use Rattle.run_ability.specs.declared.ends.Ability.TheVariants.{Over, Able, Waiting}
 
--- document 01's number of an end
-unfoldable pub end_number : End → ℕ
-end_number ScheduleUsed = 0
-end_number AllOver = 1
-end_number NoneAble = 2
-end_number TraceFull = 3
-
--- the same, and 0 where the run goes on
+-- an end's number, and 0 where the run goes on
 unfoldable pub end_or_none : Option End → ℕ
 end_or_none None = 0
 end_or_none (Some e) = end_number e

@@ -1,3 +1,4 @@
+pub mod EndNumbers
 pub mod ReadsCode
 pub mod PartnerCode
 pub mod PairingCode

@@ -1,6 +1,6 @@
 // Why a run ends, and what a process can do about it.
 ghost use Rattle.std.specs.Prelude.{◌≡◌};
-ghost use Rattle.run_ability.specs.EndingCode.{end_number};
+ghost use Rattle.run_ability.specs.EndNumbers.{end_number};
 
 // Why a run ends: the schedule is used up, every process is over, none is able to move, or the trace is full.
 #[derive(Clone, Copy, PartialEq, Eq)]
@@ -13,7 +13,7 @@ pub enum End {
 
 impl End {
     // The number that an answer has for it.
-    #[tactic(auto, unfolding(crate::specs::EndingCode::end_number))]
+    #[tactic(auto, unfolding(crate::specs::EndNumbers::end_number))]
     pub fn number(self) -> u32
         ensures { result ≡ end_number self }
     {

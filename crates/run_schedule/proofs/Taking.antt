@@ -23,7 +23,8 @@ use Rattle.run_ability.specs.declared.pairing.Pairing.{Pairing}
 use Rattle.std.specs.Prelude.{Option, Some, None}
 use Rattle.run_ability.specs.declared.ends.End.{End}
 use Rattle.run_ability.specs.declared.ends.End.TheVariants.{ScheduleUsed, AllOver, NoneAble, TraceFull}
-use Rattle.run_ability.specs.EndingCode.{end_number, end_or_none, ending_op}
+use Rattle.run_ability.specs.EndNumbers.{end_number}
+use Rattle.run_ability.specs.EndingCode.{end_or_none, ending_op}
 use Rattle.run_ability.proofs.Scans.{ending-other}
 use Rattle.run_single.specs.declared.result.Count.{Count}
 use Rattle.run_burst.specs.declared.turn.Turn.{Turn}

@@ -27,7 +27,8 @@ use Rattle.std.specs.Prelude.{Option, Some, None, unwrap_or}
 use Rattle.run_ability.specs.PairingCode.{Near}
 use Rattle.run_ability.specs.declared.ends.End.{End}
 use Rattle.run_ability.specs.declared.ends.End.TheVariants.{ScheduleUsed}
-use Rattle.run_ability.specs.EndingCode.{end_number, end_or_none, ending_op}
+use Rattle.run_ability.specs.EndNumbers.{end_number}
+use Rattle.run_ability.specs.EndingCode.{end_or_none, ending_op}
 use Rattle.run_entry.specs.EntryCode.{offer_at}
 use Rattle.run_burst.specs.declared.burst.Burst.{Burst}
 use Rattle.run_burst.specs.declared.turn.Turn.{Turn}

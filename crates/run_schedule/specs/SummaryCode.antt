@@ -4,7 +4,7 @@ use Rattle.std.specs.Prelude.{ℕ, List, length}
 use Rattle.machine.specs.Run.{Result}
 use Rattle.machine.specs.Answer.{trace_after}
 use Rattle.layout.specs.Holders.{store_after}
-use Rattle.run_ability.specs.EndingCode.{end_number}
+use Rattle.run_ability.specs.EndNumbers.{end_number}
 use Rattle.run_schedule.specs.declared.entries.RunSummary.{RunSummary}
 
 pub record AfterRun : Type 0 where

@@ -7,7 +7,7 @@ use Rattle.layout.specs.Layout.{decode}
 use Rattle.trace.specs.Trace.{lines_of}
 use Rattle.run.specs.Answers.{trace_left, store_left, lines_no, used_no}
 use Rattle.check_questions.specs.Check as questions
-use Rattle.run_ability.specs.EndingCode.{end_number}
+use Rattle.run_ability.specs.EndNumbers.{end_number}
 use Rattle.run_schedule.specs.declared.entries.RunSummary.{RunSummary}
 use Rattle.text.specs.Statement.{text_table}
 use Rattle.text_parse.specs.Text.{Text, refused_text, translated_text}

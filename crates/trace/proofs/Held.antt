@@ -4,6 +4,7 @@ use mathlib.Core.Path.{◌≡◌, refl, sym, ◌∙◌, ap}
 use mathlib.Core.Bool.{Bool, true, false, cond, ◌&&◌, true≢false}
 use mathlib.Core.List.{List, [], ◌∷◌, ◌++◌, reverse, reverse-append}
 use mathlib.Core.Option.{Option, none, some}
+use mathlib.Core.Option as logic
 use native.Mathlib.Omega.{arith}
 use borrow.Author.Tests.{eqb-true, ne_eqb}
 use lib.Dec.{eqb}
@@ -13,8 +14,13 @@ use Rattle.machine.specs.Value.{qubit, covers}
 use Rattle.machine.specs.State.{Line}
 use Rattle.machine.specs.Owner.{given_thing, holder, holder_after, no_line}
 use Rattle.machine.proofs.Holder.{holder-append}
-use Rattle.trace.specs.Trace.{lines_of, decides, read_back, count_read}
-use Rattle.trace.specs.ReadCode.{named, held}
+use Rattle.trace.specs.Trace.{lines_of, look_up, held, decides, read_back, count_read}
+use Rattle.trace.specs.ReadCode.{named}
+
+-- the look-up is the holder, and 65535 where there is none
+pub look_up-held : (ws : List ℕ) (k q : ℕ) {o : Option ℕ} → o ≡ held ws k q → logic.get_or o 65535 ≡ look_up ws k q
+unfolding look_up held
+look_up-held ws k q e = ap (λ (o : Option ℕ). logic.get_or o 65535) e
 
 -- a giving is of qubit q where its thing is 3 and its number is q
 pub given_thing-qubit : (b c q : ℕ) → given_thing b c (qubit q) ≡ (eqb b 3 && eqb c q)

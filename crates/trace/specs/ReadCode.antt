@@ -1,12 +1,10 @@
 -- A line as it is read from words, and what is asked of it. These definitions follow the code.
-use Rattle.std.specs.Prelude.{ℕ, ◌+◌, Bool, true, cond, ◌&&◌, Option, None, Some, List, take, eqb, ltb, get_or, length}
-use Rattle.std.proofs.Math.Option.{none, some}
-use Rattle.std.proofs.Math.Option as logic
-use Rattle.machine.specs.Value.{qubit, eq_z}
+use Rattle.std.specs.Prelude.{ℕ, ◌+◌, Bool, true, cond, ◌&&◌, List, eqb, ltb, get_or, length}
+use Rattle.machine.specs.Value.{eq_z}
 use Rattle.machine.specs.State.{Line}
-use Rattle.machine.specs.Owner.{no_line, holder}
+use Rattle.machine.specs.Owner.{no_line}
 use Rattle.trace_lines.specs.declared.TraceLine.{TraceLine}
-use Rattle.trace.specs.Trace.{lines_of, same_line, gap}
+use Rattle.trace.specs.Trace.{same_line, gap}
 
 -- the line of the definitions that a line of the code is
 abbrev pub as_line : TraceLine → Line
@@ -26,15 +24,6 @@ line_from ws i = record {
 -- the process that a line which decides names as holder: the maker of a qubit, or the one it is given to
 unfoldable pub named : Line → ℕ
 named l = cond (eqb l.kind 1) l.process l.a
-
--- who holds qubit q by the first k lines (all, if fewer): `Trace.look_up` is this holder, and 65535 where there is none
-unfoldable pub held : List ℕ → ℕ → ℕ → logic.Option ℕ
-held ws k q = holder (take k (lines_of ws)) (qubit q)
-
--- the holder that the code has found, as the definitions have it
-abbrev pub found : Option ℕ → logic.Option ℕ
-found None = none
-found (Some p) = some p
 
 -- the gap from line i to the next is the same in both
 unfoldable pub same_gap_at : List Line → List Line → ℕ → Bool

@@ -1,6 +1,7 @@
 -- Traces read by themselves: any words are lines. "Six words make a line, and a part of one at the end is ignored."
 use Rattle.std.specs.Prelude.{ℕ, suc, Bool, true, false, cond, ◌&&◌, List, [], ◌∷◌, reverse, ℤ, pos, ◌-ℤ◌, take, eqb}
-use Rattle.std.proofs.Math.Option.{get_or}
+use Rattle.std.specs.Prelude as P
+use Rattle.std.proofs.Math.Option.{Option, none, some, get_or}
 use Rattle.machine.specs.Value.{qubit, covers, eq_z}
 use Rattle.machine.specs.State.{Line}
 use Rattle.machine.specs.Owner.{given_thing, holder}
@@ -19,6 +20,15 @@ lines_of (e ∷ n ∷ k ∷ a ∷ b ∷ c ∷ ws) = record { entry = e; process 
 -- if there is neither." That is the qubit's holder by those lines.
 unfoldable pub look_up : List ℕ → ℕ → ℕ → ℕ
 look_up ws k q = get_or (holder (take k (lines_of ws)) (qubit q)) 65535
+
+-- the same holder, and none "if there is neither"
+unfoldable pub held : List ℕ → ℕ → ℕ → Option ℕ
+held ws k q = holder (take k (lines_of ws)) (qubit q)
+
+-- an answer of the code that may be missing, as the definitions have it
+abbrev pub found : P.Option ℕ → Option ℕ
+found P.None = none
+found (P.Some p) = some p
 
 -- "the line that decides" who holds qubit q, by the rule of `Owner.holder_after`: a kind 1 line of the qubit, or a kind
 -- 6 line with thing 3 and its number

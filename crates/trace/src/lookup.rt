@@ -1,8 +1,9 @@
 // The holder of a qubit by the lines of a trace: any words, any number of lines, any qubit number. The lines are read
 // from the last one backwards, up to the line that decides.
 ghost use Rattle.std.specs.Prelude.{◌≡◌, ◌≤◌, length};
-ghost use Rattle.trace.specs.Trace.{lines_of, decides, count_read};
-ghost use Rattle.trace.specs.ReadCode.{as_line, named, found, held};
+ghost use Rattle.std.proofs.Math.Option.{get_or};
+ghost use Rattle.trace.specs.Trace.{lines_of, look_up, held, found, decides, count_read};
+ghost use Rattle.trace.specs.ReadCode.{as_line, named};
 
 use super::read::{line_at, line_count};
 use trace_lines::TraceLine;
@@ -55,8 +56,10 @@ fn holder_back(trace: &[u16], n: usize, q: u16) -> QubitHolder
 }
 
 // The answer by the first k lines, all if there are fewer.
+#[tactic(auto, unfolding(crate::specs::Trace::look_up, crate::specs::Trace::held))]
 pub fn qubit_holder(trace: &[u16], k: usize, qubit: u16) -> QubitHolder
     ensures { (found result.holder ≡ held trace.now k qubit)
+        × (get_or (found result.holder) 65535 ≡ look_up trace.now k qubit)
         × (result.read ≡ count_read trace.now k qubit) }
 {
     let n = line_count(trace);

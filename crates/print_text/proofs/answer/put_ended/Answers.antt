@@ -4,7 +4,7 @@ use lib.ListN.{take}
 use Rattle.trace.specs.Trace.{lines_of}
 use Rattle.print_format.specs.Format.{lines_text}
 use Rattle.print_lines.specs.TextsCode.{end_text}
-use Rattle.run_ability.specs.EndingCode.{end_number}
+use Rattle.run_ability.specs.EndNumbers.{end_number}
 use Rattle.lists.proofs.Put.{put_then, put_same}
 use Rattle.print_lines.proofs.TraceText.{first-length}
 use Rattle.print_text.proofs.Output.{from_start, ran-text}

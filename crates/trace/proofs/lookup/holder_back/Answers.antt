@@ -3,8 +3,7 @@ use Prim.Native.Nat.{ℕ}
 use mathlib.Core.Path.{◌≡◌, sym, ◌∙◌, ap}
 use native.Mathlib.Omega.{arith}
 use mathlib.Core.Option.{some}
-use Rattle.trace.specs.Trace.{count_read}
-use Rattle.trace.specs.ReadCode.{held}
+use Rattle.trace.specs.Trace.{held, count_read}
 use Rattle.trace.proofs.Held.{held-none, held-decided, held-passed, count_read-none, count_read-decided, count_read-passed}
 use Rattle.trace.proofs.lookup.holder_back.Goals as goal
 

@@ -1,8 +1,7 @@
 -- `holder_back` reads from line n - 1 backwards: none of the lines from `at` on decides.
 use Prim.Native.Nat.{◌+◌, ◌-◌}
 use mathlib.Core.Path.{◌≡◌}
-use Rattle.trace.specs.Trace.{count_read}
-use Rattle.trace.specs.ReadCode.{held}
+use Rattle.trace.specs.Trace.{held, count_read}
 use Rattle.trace.proofs.lookup.holder_back.Given as goal
 
 abbrev pub invariant-loop-at : goal.invariant-loop-at
