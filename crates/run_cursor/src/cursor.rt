@@ -6,10 +6,11 @@ ghost use Rattle.run_cursor.specs.CursorCode.{HeadFits, TopRead, TwoRead};
 use run_store::head::Head;
 use run_store::values::Val;
 
-// The place and the number of pending values. A step that is not taken here answers none, and leaves the words.
+// The place and the number of pending values. A step that is not taken here answers none, and leaves the words. With a
+// place of four bytes the two would be packed into eight, and taken apart again, at every step.
 #[derive(Clone, Copy)]
 pub struct Cursor {
-    pub place: u32,
+    pub place: usize,
     pub pending: u32,
 }
 

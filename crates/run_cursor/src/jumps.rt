@@ -14,7 +14,7 @@ pub fn jump(p: &[u16], w: &mut [u32], h: Head, c: Cursor, offset: u32, a: u16) -
         a)) h w.new result }
 {
     Cursor {
-        place: offset + a as u32,
+        place: (offset + a as u32) as usize,
         pending: c.pending,
     }
 }
@@ -34,7 +34,7 @@ pub fn jump_on_false(
 {
     let v = read_top(w, h, c)?;
     if v.number == 0 {
-        return Some(discard_to(w, h, c, offset + a as u32));
+        return Some(discard_to(w, h, c, (offset + a as u32) as usize));
     }
     Some(discard_to(w, h, c, c.place + 1))
 }

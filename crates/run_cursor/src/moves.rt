@@ -39,7 +39,7 @@ pub fn replace(w: &mut [u32], h: Head, c: Cursor, v: Val) -> Cursor
 }
 
 // The top value off, and the frame at instruction `to`.
-pub fn discard_to(w: &mut [u32], h: Head, c: Cursor, to: u32) -> Cursor
+pub fn discard_to(w: &mut [u32], h: Head, c: Cursor, to: usize) -> Cursor
     requires { HeadFits h w.old c × (1 ≤ c.pending) }
     ensures { CursorWent (after_step WentOn (drop_to (laid w.old h c) (head_with h c) to)) (Only to) h w.new result }
 {

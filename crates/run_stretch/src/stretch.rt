@@ -43,7 +43,8 @@ fn run_frame(
         schedule.now) }
     ensures { PlainSteps p.now schedule.now n from (laid w.old h c) result.at (laid w.new h result.cursor)
         × HeadFits h w.new result.cursor × (result.at ≤ length schedule.now)
-        × (result.halted ≡ true → Halts p.now schedule.now n h.method result.at result.cursor.place) }
+        × (result.halted ≡ true → Halts p.now schedule.now n h.method result.at result.cursor.place)
+        × Inside p.now h.method result.cursor.place }
 {
     let mut cursor = c;
     for at in from..schedule.len() {
@@ -96,15 +97,15 @@ fn span_of(p: &[u16], m: u32) -> Option<Span>
     })
 }
 
-// The head put back, and then CALL or RET: whether it was done. The op is read before anything is written, so that what
-// the loop has found out about it is still known, and an op of neither kind costs nothing here.
-fn change_frame(p: &[u16], start: usize, w: &mut [u32], h: Head) -> bool
-    requires { (length w.old ≡ 512) × (h.frames ≤ 8) × (h.pending ≤ 8) × (h.status ≡ 1) × (start ≡ 2 + 20 *
-        methods p.now)
+// The head put back, and then CALL or RET, where its instruction stands at word `at`: whether it was done. The op is read
+// before anything is written, so that what the loop has found out about it is still known, and an op of neither kind
+// costs nothing here.
+fn change_frame(p: &[u16], at: usize, w: &mut [u32], h: Head) -> bool
+    requires { (length w.old ≡ 512) × (h.frames ≤ 8) × (h.pending ≤ 8) × (h.status ≡ 1) × (at ≡ 2 + 20 * methods p.now
+        + 2 * h.place)
         × Kept p.now × Inside p.now h.method h.place × (head_of (put_top w.old h) ≡ h) }
     ensures { Does result (step_op p.now (put_top w.old h)) (put_top w.old h) w.new }
 {
-    let at = start + 2 * (h.place as usize);
     let op = p[at] % 32;
     let a = p[at + 1];
     put_top(w, h);
@@ -134,12 +135,12 @@ fn run_head(
     ensures { FrameRun p.now schedule.now n from w.old w.exit.now result }
 {
     let c = Cursor {
-        place: h.place,
+        place: h.place as usize,
         pending: h.pending,
     };
     let r = run_frame(p, start, w, h, first, schedule, from, n, c);
     let g = Head {
-        place: r.cursor.place,
+        place: r.cursor.place as u32,
         pending: r.cursor.pending,
         ..h
     };
@@ -147,7 +148,7 @@ fn run_head(
         put_top(w, g);
         return ControlFlow::Break(r.at);
     }
-    if change_frame(p, start, w, g) {
+    if change_frame(p, start + 2 * r.cursor.place, w, g) {
         return ControlFlow::Continue(r.at + 1);
     }
     ControlFlow::Break(r.at)

@@ -15,8 +15,8 @@ use run_moves::moves::extend;
 use run_store::head::Head;
 use run_store::values::{Val, empty};
 
-// The op's function; none where the op is not done here. All numbers below 32 have an arm, so that no test of the number
-// is compiled.
+// The op's function; none where the op is not done here. All numbers below 32 have an arm, and each its own, so that no test
+// of the number is compiled.
 pub fn act(
     p: &[u16],
     w: &mut [u32],
@@ -44,9 +44,16 @@ pub fn act(
         4 => put(w, h, c, a),
         5 => drop_top(w, h, c),
         6 => Some(store_slot(w, h, c, a, empty())),
-        7 | 8 => None,
+        7 => None,
+        8 => None,
         9 => end_of(w, h, c, a),
-        10 | 11 | 12 | 13 | 14 | 15 | 16 => None,
+        10 => None,
+        11 => None,
+        12 => None,
+        13 => None,
+        14 => None,
+        15 => None,
+        16 => None,
         17 => Some(jump(p, w, h, c, offset, a)),
         18 => jump_on_false(p, w, h, c, offset, a),
         19 => add(w, h, c),
@@ -54,7 +61,13 @@ pub fn act(
         21 => eq(w, h, c),
         22 => less(w, h, c),
         23 => not(w, h, c),
-        24 | 25 | 26 | 27 | 28 | 29 | 30 => None,
+        24 => None,
+        25 => None,
+        26 => None,
+        27 => None,
+        28 => None,
+        29 => None,
+        30 => None,
         _ => None,
     }
 }
@@ -73,7 +86,7 @@ pub fn step_on(
         × (start ≡ 2 + 20 * methods p.now) × Kept p.now × Inside p.now h.method c.place }
     ensures { CursorStep (step_op p.now (laid w.old h c)) (Inside p.now h.method) h w.old w.new result }
 {
-    let at = start + 2 * (c.place as usize);
+    let at = start + 2 * c.place;
     let op = (p[at] % 32) as usize;
     act(p, w, h, c, offset, op, p[at + 1])
 }

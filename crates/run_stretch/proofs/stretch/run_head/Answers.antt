@@ -2,8 +2,19 @@
 use mathlib.Core.Path.{◌∙◌}
 use borrow.Author.Tests.{not-false}
 use Rattle.run_cursor.specs.CursorCode.{head_with}
+use native.Mathlib.Omega.{arith}
+use Rattle.run_stretch.proofs.Within.{low-place, words-there}
 use Rattle.run_stretch.proofs.Runs.{ran-top, head-there, ran-changed, ran-left}
 use Rattle.run_stretch.proofs.stretch.run_head.Goals as goal
+
+pub overflow_cast-g : goal.overflow_cast-g
+overflow_cast-g c = omega (arith, low-place c.requires.6 c.run_frame-r.ensures.4)
+
+pub overflow_mul-r : goal.overflow_mul-r
+overflow_mul-r c = omega (arith, low-place c.requires.6 c.run_frame-r.ensures.4)
+
+pub overflow_add-start : goal.overflow_add-start
+overflow_add-start c = omega (arith, words-there c.requires.6 c.run_frame-r.ensures.4 c.requires.5)
 
 pub returns-then-not-r : goal.returns-then-not-r
 unfolding head_with
@@ -22,7 +33,7 @@ change_frame-requires c =
       s.most,
       s.few,
       c.requires.2,
-      c.requires.5,
+      omega (arith, c.requires.5),
       c.requires.6,
       (c.run_frame-r.ensures.3 (not-false ran.halted c.if-not-r.false)).inside,
       head-there c.args.h c.run_frame-r.new.w ran.cursor s,

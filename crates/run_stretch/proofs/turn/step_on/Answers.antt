@@ -6,6 +6,21 @@ use Rattle.run_stretch.proofs.Runs.{steps_on}
 use Rattle.run_stretch.proofs.Within.{words-there, low-place, at_place, op-kept}
 use Rattle.run_stretch.proofs.turn.step_on.Goals as goal
 
+pub overflow_mul-at : goal.overflow_mul-at
+overflow_mul-at c = omega (arith, low-place c.requires.5 c.requires.6)
+
+pub overflow_add-at : goal.overflow_add-at
+overflow_add-at c = omega (arith, words-there c.requires.5 c.requires.6 c.requires.4)
+
+pub offset_bounds-p-at : goal.offset_bounds-p-at
+offset_bounds-p-at c = omega (arith, words-there c.requires.5 c.requires.6 c.requires.4)
+
+pub overflow_add-at-2 : goal.overflow_add-at-2
+overflow_add-at-2 c = omega (arith, words-there c.requires.5 c.requires.6 c.requires.4)
+
+pub offset_bounds-p-at-2 : goal.offset_bounds-p-at-2
+offset_bounds-p-at-2 c = omega (arith, words-there c.requires.5 c.requires.6 c.requires.4)
+
 pub bounds-p-at : goal.bounds-p-at
 bounds-p-at c =
     omega (
