@@ -1,5 +1,5 @@
 -- Declarations, entered.
-use Prim.Native.Nat.{ℕ, zero, suc, ◌+◌, ◌≤◌}
+use Prim.Native.Nat.{ℕ, zero, suc, ◌≤◌}
 use native.Mathlib.Omega.{arith}
 use mathlib.Core.Path.{◌≡◌, refl, sym, ap, ◌∙◌, subst}
 use mathlib.Core.Bool.{Bool, true, false, ◌&&◌}
@@ -10,7 +10,7 @@ use lib.Seq.{slice}
 use Rattle.text.specs.Tree.{Name, NonVoidType, plain, channel_type, end_type, Declaration, plainly, declared_in, declared_by}
 use Rattle.text.specs.Translation.{type_code, truth_word}
 use Rattle.text_parse.specs.Tokens.{Token, name_of}
-use Rattle.text_parse.specs.Grammar.{read, first, non_void_type, starts_type, end_names, declarations, enough}
+use Rattle.text_parse.specs.Grammar.{first, non_void_type, starts_type, end_names, declarations, enough}
 use Rattle.text_parse.specs.Equations.{more_names_from, variables_rule, declaration_from, declaration_rule, declarations_from, declarations_rule}
 use Rattle.text_parse.proofs.Equations.{grammar}
 use Rattle.text_tokens.specs.Places.{tokens_at}

@@ -20,10 +20,6 @@ use Rattle.text_types.proofs.Finding.{map-append}
 use Rattle.text_types.specs.Every.{every-read}
 use Rattle.text_types.proofs.Every.{every-leaves, every-choice, every-expect, every-name, every_of}
 use Rattle.text_types.proofs.TypeLaws.{not-both}
-use Rattle.std.specs.Prelude.{Result, Ok, Err, is_ok, IfOk}
-use Rattle.text_declare.specs.declared.entry.EnteredAt.{EnteredAt}
-use Rattle.text_declare.specs.declared.entry.EntryError.{EntryError}
-use Rattle.text_declare.specs.EntryAnswer.{entered_place}
 use Rattle.text_declare.specs.Entered.{Tables, Entered, Entering}
 use Rattle.text_declare.specs.EnterCode.{NameStands, Enters, enters, VariableEnters, ThreeEnter, a_name, NameEnters, NamesEnter, EndsEnter}
 use Rattle.text_declare.proofs.EnteredLaws.{entering-then, entering-fits}
@@ -54,12 +50,6 @@ unfolding more_names_from
 names-least t xs ts =
     subst (λ (k : ℕ). AtLeast k declared_in (more_names (enough ts) t xs ts)) (sym (map-length (plainly t) xs))
     (bounded-least (enough ts) t xs ts)
-
--- the place of a variable that is entered
-pub entered-at : (r : Result EnteredAt EntryError) {place : ℕ} → IfOk r (λ d. d.at ≡ place) → is_ok r ≡ true
-    → entered_place r ≡ place
-entered-at (Ok d) e o = e
-entered-at (Err d) e o = not-both o refl
 
 module _ (text : List ℕ) where
   -- one name

@@ -1,5 +1,5 @@
 // One variable more in scope, and its type in the method's row.
-ghost use Rattle.std.specs.Prelude.{◌≡◌, is_ok, IfOk};
+ghost use Rattle.std.specs.Prelude.{◌≡◌, is_ok};
 ghost use Rattle.text_declare.specs.Entered.{tables};
 ghost use Rattle.text_declare.specs.EntryAnswer.{name_start, name_end, entered_place, tables_after};
 ghost use Rattle.text_declare.specs.EnterCode.{NameStands, VariableEnters, NameEnters};
@@ -12,7 +12,8 @@ use text_types::place::GrammarError;
 #[derive(Clone, Copy, Debug, PartialEq, Eq)]
 pub enum EntryError {
     Grammar(GrammarError),
-    Full,
+    // the method needs more than 16 slots, at the name that ends here
+    Full(usize),
 }
 
 impl From<GrammarError> for EntryError {
@@ -62,14 +63,14 @@ pub fn enter(
     flag: usize,
     code: u8,
 ) -> Result<EnteredAt, EntryError>
-    ensures { IfOk result (λ e. e.at ≡ name.at) × VariableEnters name.start name.at flag code
+    ensures { (entered_place result ≡ name.at) × VariableEnters name.start name.at flag code
         (tables scope.old n row.old used) (is_ok result) (tables_after scope.new row.new result) }
 {
     if 15 < n {
-        return Err(EntryError::Full);
+        return Err(EntryError::Full(name.at));
     }
     if 15 < used {
-        return Err(EntryError::Full);
+        return Err(EntryError::Full(name.at));
     }
     scope[4 * n] = name.start;
     scope[4 * n + 1] = name.at;

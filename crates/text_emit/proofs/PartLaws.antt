@@ -26,7 +26,11 @@ use Rattle.text_code.proofs.Outcomes.{outcome-then, outcome-stuck}
 use Rattle.text_code.proofs.Forms.{outcome-same}
 use Rattle.text_emit.specs.Reached.{EmitState}
 use Rattle.text_emit.specs.EmitCode.{tables_of, Emits}
-use Rattle.std.specs.Prelude.{None}
+use Rattle.std.specs.Prelude.{Some, None, Result, Ok, Err}
+use Rattle.std.specs.Result.{result_ok}
+use Rattle.std.proofs.lemmas.Option.{none-some, same_Some}
+use Rattle.text_emit_expr.specs.declared.expression.EmitAt.{EmitAt}
+use Rattle.text_emit_expr.specs.declared.expression.Unfit.{Unfit}
 use Rattle.text_emit.proofs.EmitLaws.{lost, elsewhere}
 use Rattle.text_emit.proofs.SimpleLaws.{holds_read}
 
@@ -112,10 +116,23 @@ module _ (text : List ℕ) (n : ℕ) (scope : List ℕ) {A : Type 0} (rule : Sco
           (all-written o l i u q w) (alone row es vs sc x w.room (m few scopes sc pl x vs (sym (ap (rule scopes) u) ∙
           f)))))
 
-    -- the part does not fit
-    pub part-refused : e.ok ≡ true
+    -- the part fits
+    pub part-fits : (r : Result EmitAt Unfit) (a : EmitAt) → Some a ≡ result_ok r → e.ok ≡ true
         → (n ≤ 16 → (scopes : Scopes) (sc : Scope) → Placing text scope n sc → (x : A) (us : List Token)
         → rule scopes (tokens_at text e.at) ≡ read x us
-        → Emitted text e.at code e.count (c sc x) (numbers x) us code' (said None))
+        → Emitted text e.at code e.count (c sc x) (numbers x) us code' (said r))
+        → Emits rule c text scope n e code (after (said (Ok a))) code'
+    part-fits (Err x) a some on m = absurd (none-some a (sym some))
+    part-fits (Ok b) a some on m =
+        subst (λ x. Emits rule c text scope n e code (after (said (Ok x))) code') (sym (same_Some a b some))
+        (part-emits (said (Ok b)) on m)
+
+    -- the part does not fit
+    pub part-refused : (r : Result EmitAt Unfit) → None ≡ result_ok r → e.ok ≡ true
+        → (n ≤ 16 → (scopes : Scopes) (sc : Scope) → Placing text scope n sc → (x : A) (us : List Token)
+        → rule scopes (tokens_at text e.at) ≡ read x us
+        → Emitted text e.at code e.count (c sc x) (numbers x) us code' (said r))
         → Emits rule c text scope n e code lost code'
-    part-refused on m = emits-lost rule c text n scope e (after (said None)) code code' refl (part-emits (said None) on m)
+    part-refused (Ok b) none on m = absurd (none-some b none)
+    part-refused (Err x) none on m =
+        emits-lost rule c text n scope e (after (said (Err x))) code code' refl (part-emits (said (Err x)) on m)

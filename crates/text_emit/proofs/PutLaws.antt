@@ -21,6 +21,7 @@ use Rattle.std.specs.Prelude as P
 use Rattle.text_types.specs.declared.place.GrammarError.{GrammarError}
 use Rattle.text_types.specs.Answer.{type_code_in}
 use Rattle.text_methods.specs.declared.find.MethodAt.{MethodAt}
+use Rattle.text_methods.specs.declared.find.NoSuchMethod.{NoSuchMethod}
 use Rattle.text_slots.specs.Placing.{Placing, nothing_placed, one_placed}
 use Rattle.text_scan.proofs.Holding.{Holds, holds, off, held, then-holds, expect-holds, name-holds}
 use Rattle.text_methods.specs.MethodSays.{MethodSays, stands, absent, MethodOf}
@@ -130,37 +131,37 @@ returns-first text at t m us says e =
 
 module _ (text : List ℕ) (start end : ℕ) (e : EmitState) (code : List ℕ) where
   -- the method of a name, by its bytes
-  method-of : (ms : Program) (x : Name) (k : MethodsOf text ms) {o : P.Option MethodAt}
-      → x.spelling ≡ slice start end text → MethodOf text (slice start end text) o → MethodSays text k.in_text x o
-  method-of ms x k {o} s f =
-      subst (λ (b : List ℕ). MethodSays text k.in_text (record { spelling = b; at = x.at }) o)
+  method-of : (ms : Program) (x : Name) (k : MethodsOf text ms) {r : P.Result MethodAt NoSuchMethod}
+      → x.spelling ≡ slice start end text → MethodOf text (slice start end text) r → MethodSays text k.in_text x r
+  method-of ms x k {r} s f =
+      subst (λ (b : List ℕ). MethodSays text k.in_text (record { spelling = b; at = x.at }) r)
       (sym s)
       (f k.in_text k.after x.at k.reading)
 
-  pub invoke-gate : (g : ℕ) (r : EmitState) (code' : List ℕ) → MethodOf text (slice start end text) P.None
-      → g ≡ numbered 1 (slice start end text) gate_names → PutsOne 10 g e code r code'
-      → PutsInvocation text start end e code r code'
+  pub invoke-gate : (g : ℕ) (r : EmitState) (code' : List ℕ) {n : NoSuchMethod}
+      → MethodOf text (slice start end text) (P.Err n) → g ≡ numbered 1 (slice start end text) gate_names
+      → PutsOne 10 g e code r code' → PutsInvocation text start end e code r code'
   unfolding invoke_by number_fits gate_of
-  invoke-gate g r code' f number p ms x k place s l w = by (method-of ms x k s f)
+  invoke-gate g r code' {n} f number p ms x k place s l w = by (method-of ms x k s f)
     where
-      by : MethodSays text k.in_text x P.None → Puts (invoke_by place_of x (method_of ms x)) e code r code'
-      by (absent none') =
+      by : MethodSays text k.in_text x (P.Err n) → Puts (invoke_by place_of x (method_of ms x)) e code r code'
+      by (absent none' c) =
           rw (ap (λ (q : Program). method_of q x) k.ordered ∙ none', s, sym number) (p refl)
 
   -- the call itself does not fit
-  pub invoke-stuck : (a : MethodAt) (code' : List ℕ) → MethodOf text (slice start end text) (P.Some a)
+  pub invoke-stuck : (a : MethodAt) (code' : List ℕ) → MethodOf text (slice start end text) (P.Ok a)
       → PutsOne 12 start e code lost code' → PutsInvocation text start end e code lost code'
   unfolding invoke_by number_fits
   invoke-stuck a code' says p ms x k place s l w = by (method-of ms x k s says)
     where
-      by : MethodSays text k.in_text x (P.Some a) → Puts (invoke_by place_of x (method_of ms x)) e code lost code'
+      by : MethodSays text k.in_text x (P.Ok a) → Puts (invoke_by place_of x (method_of ms x)) e code lost code'
       by (stands m us there reading _ _) =
           rw (ap (λ (q : Program). method_of q x) k.ordered ∙ there, place)
           (puts_then (instruction 12 start ∷ []) (drop_code m.returns) e lost lost code code' code' (p refl)
           (puts-stuck (drop_code m.returns) lost lost code' code' refl refl))
 
   module _ (a : MethodAt) (f r : EmitState) (t : P.Result TypeAt GrammarError) (code₁ code₂ : List ℕ)
-      (says : MethodOf text (slice start end text) (P.Some a))
+      (says : MethodOf text (slice start end text) (P.Ok a))
       (type : ReturnSays text a.at t (return_type (tokens_at text a.at))) (p : PutsOne 12 start e code f code₁) where
     -- a call of a method, and what is done with what it returns
     call-then : (d : List Instruction) (r : EmitState) (code' : List ℕ)
@@ -169,7 +170,7 @@ module _ (text : List ℕ) (start end : ℕ) (e : EmitState) (code : List ℕ) w
     unfolding invoke_by number_fits
     call-then d r code' drops q ms x k place s l w = by (method-of ms x k s says)
       where
-        by : MethodSays text k.in_text x (P.Some a) → Puts (invoke_by place_of x (method_of ms x)) e code r code'
+        by : MethodSays text k.in_text x (P.Ok a) → Puts (invoke_by place_of x (method_of ms x)) e code r code'
         by (stands m us there reading _ _) =
             rw (
               ap (λ (q : Program). method_of q x) k.ordered ∙ there,

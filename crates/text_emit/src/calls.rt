@@ -30,7 +30,7 @@ pub fn put_invocation(
         text,
         index: methods,
     };
-    let Some(m) = methods.method_indexed(start, end) else {
+    let Ok(m) = methods.method_indexed(start, end) else {
         let gate = gate_number(text, start, end);
         return put(code, e, 10, gate as usize);
     };

@@ -27,7 +27,7 @@ pub fn expression(
     if 4096 < e.count {
         return None;
     }
-    let a = emit_expression(text, e.at, scope, n, pending, code, e.count)?;
+    let a = emit_expression(text, e.at, scope, n, pending, code, e.count).ok()?;
     Some(Emit {
         at: a.at,
         used: e.used,
@@ -53,7 +53,7 @@ pub fn arguments(
     if 4096 < e.count {
         return None;
     }
-    let a = emit_arguments(text, e.at, scope, n, pending, code, e.count)?;
+    let a = emit_arguments(text, e.at, scope, n, pending, code, e.count).ok()?;
     Some(Emit {
         at: a.at,
         used: e.used,

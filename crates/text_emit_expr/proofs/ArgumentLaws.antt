@@ -7,7 +7,6 @@ use mathlib.Core.List.{List, [], ◌∷◌, ◌++◌}
 use borrow.Author.Tests.{eqb-true, ne_eqb, le-leb, lt-leb, leb-false}
 use lib.Dec.{eqb, leb}
 use lib.ListN.{length, length-append}
-use Rattle.std.specs.Prelude.{None}
 use Rattle.lists.specs.Lists.{every, put_from}
 use Rattle.lists.proofs.Tests.{passes, clash}
 use Rattle.text.specs.Tree.{Expr, Exprs, no_more, also}
@@ -29,7 +28,7 @@ use Rattle.text_expr.proofs.Steps.{expect-then, and_then-assoc, and_then-same}
 use Rattle.text_numbering.specs.CodeBy.{code_by, arguments_by, place_of, number_fits}
 use Rattle.text_emit_expr.specs.RestCode.{prefixed}
 use Rattle.text_emit_expr.specs.EndsCode.{Answer, Outcome, Ends}
-use Rattle.text_emit_expr.specs.Emitted.{Said, said, Emitted, ExpressionEmitted, ArgumentsEmitted, ParametersEmitted}
+use Rattle.text_emit_expr.specs.Emitted.{Said, Emitted, ExpressionEmitted, ArgumentsEmitted, ParametersEmitted}
 use Rattle.text_numbering.proofs.CodeLaws.{numbers_fit, arguments-fit, every_append}
 use Rattle.text_emit_expr.proofs.RestLaws.{prefixed-twice, prefixed-then, prefixed-expect}
 use Rattle.text_emit_expr.proofs.EndedRest.{not_left, expect-read}
@@ -298,24 +297,24 @@ module _ (text scope : List ℕ) (n from : ℕ) (code : List ℕ) (count : ℕ) 
       }
 
 -- an argument does not fit
-pub parameters-refused : (text scope : List ℕ) (n from : ℕ) (code : List ℕ) (count : ℕ) (code₁ : List ℕ)
-    → Continued text scope n from code count code₁ (said None)
-    → ParametersEmitted text scope n from code count code₁ (said None)
+pub parameters-refused : (text scope : List ℕ) (n from : ℕ) (code : List ℕ) (count : ℕ) (code₁ : List ℕ) (r : Said)
+    → r.ok ≡ false → Continued text scope n from code count code₁ r
+    → ParametersEmitted text scope n from code count code₁ r
 unfolding parameters_rest and_then
-parameters-refused text scope n from code count code₁ so_far le scopes sc pl es us q =
+parameters-refused text scope n from code count code₁ r refused so_far le scopes sc pl es us q =
     let o : Outcome text (suc from) count code (arguments_by place_of sc es) us
-    (record { ok = false; at = 0; count = 0; code = code₁ }) =
-    so_far le scopes sc pl (record { ok = false; at = 0; count = 0; code = code₁ })
-    (record { fits = λ b. absurd (passes b); not = λ b. refl }) (arguments_by place_of sc es) us
+    (record { ok = r.ok; at = r.at; count = r.count; code = code₁ }) =
+    so_far le scopes sc pl (record { ok = r.ok; at = r.at; count = r.count; code = code₁ })
+    (record { fits = λ b. absurd (clash refused (passes b)); not = λ b. b }) (arguments_by place_of sc es) us
     (ap (λ m. and_then m (λ es us. read (arguments_by place_of sc es) us)) q) in record {
       judged = o.judged
           ∙ ap (λ (b : Bool). leb (count + length (arguments_by place_of sc es)) 4096 && b)
           (sym (arguments-fit place_of sc es));
-      left = λ b. absurd (passes b);
-      onward = λ b. absurd (passes b);
-      inside = λ b. absurd (passes b);
-      counted = λ b. absurd (passes b);
-      written = λ b. absurd (passes b);
+      left = o.left;
+      onward = o.onward;
+      inside = o.inside;
+      counted = o.counted;
+      written = o.written;
     }
 
 -- Arguments: none, or these

@@ -4,7 +4,6 @@ use native.Mathlib.Omega.{arith}
 use mathlib.Core.Path.{◌≡◌, refl, sym, ap, ◌∙◌, subst}
 use mathlib.Core.Bool.{Bool, true, false, cond, ◌&&◌}
 use mathlib.Core.List.{List, [], ◌∷◌, append-nil}
-use Rattle.std.specs.Prelude.{None}
 use borrow.Author.Tests.{eqb-true, eq-eqb, ne_eqb, lt-ltb, le-leb, ltb-true}
 use lib.Dec.{eqb, leb, ltb}
 use lib.ListN.{length}
@@ -20,7 +19,7 @@ use Rattle.text_slots.specs.Placing.{Placing}
 use Rattle.text_numbering.specs.CodeBy.{code_by, place_of, number_fits}
 use Rattle.text_emit_expr.specs.RestCode.{prefixed, ended_rest, operand_rest, rest_of, frames_in}
 use Rattle.text_emit_expr.specs.EndsCode.{Answer, Outcome, lowest, EndsFrom, Leads, Standing, Steps}
-use Rattle.text_emit_expr.specs.Emitted.{said, ExpressionEmitted}
+use Rattle.text_emit_expr.specs.Emitted.{ExpressionEmitted}
 use Rattle.text_emit_expr.specs.declared.state.StateAt.{StateAt}
 use Rattle.text_numbering.proofs.CodeLaws.{numbers_fit}
 use Rattle.text_emit_expr.proofs.StackLaws.{frames-none}
@@ -156,13 +155,11 @@ module _ (text scope : List ℕ) (n from count : ℕ) (p code p' code' : List �
         count = s.count;
       })) (eq-eqb s.phase 3 e) (expression-emitted text scope n from count p code p' code' s st (omega (arith, e)) f)
 
-  pub expression-refused : 3 ≤ s.phase → (s.phase ≡ 3 → ⊥) → ExpressionEmitted text scope n from code count code' (said None)
-  expression-refused h g le scopes sc pl e us q =
-      let m = expression-emitted text scope n from count p code p' code' s st h f le scopes sc pl e us q in record {
-        judged = sym (ne_eqb s.phase 3 g) ∙ m.judged;
-        left = λ b. absurd (passes b);
-        onward = λ b. absurd (passes b);
-        inside = λ b. absurd (passes b);
-        counted = λ b. absurd (passes b);
-        written = λ b. absurd (passes b);
-      }
+  pub expression-refused : 3 ≤ s.phase → (s.phase ≡ 3 → ⊥)
+      → ExpressionEmitted text scope n from code count code' (record { ok = false; at = s.at; count = s.count })
+  expression-refused h g =
+      subst (λ (b : Bool). ExpressionEmitted text scope n from code count code' (record {
+        ok = b;
+        at = s.at;
+        count = s.count;
+      })) (ne_eqb s.phase 3 g) (expression-emitted text scope n from count p code p' code' s st h f)

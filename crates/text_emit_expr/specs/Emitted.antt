@@ -1,6 +1,6 @@
 -- What is asked of the code of an expression, and of the arguments of a call, in a lent buffer: instruction k stands at
 -- words 2 k and 2 k + 1.
-use Rattle.std.specs.Prelude.{ℕ, ◌+◌, ◌*◌, ◌≤◌, ◌<◌, ◌≡◌, Bool, true, false, ◌&&◌, List, leb, length, Option, Some, None, IfSome}
+use Rattle.std.specs.Prelude.{ℕ, ◌+◌, ◌*◌, ◌≤◌, ◌<◌, ◌≡◌, Bool, true, false, ◌&&◌, List, leb, length, Result, Ok, Err}
 use Rattle.lists.specs.Lists.{every, put_from}
 use Rattle.text.specs.Tree.{Expr, Exprs}
 use Rattle.text.specs.Translation.{Instruction, code_words, Scope}
@@ -12,20 +12,23 @@ use Rattle.text_tokens.specs.Places.{tokens_at}
 use Rattle.text_slots.specs.Placing.{Placing}
 use Rattle.text_numbering.specs.CodeBy.{code_by, arguments_by, place_of}
 use Rattle.text_emit_expr.specs.declared.expression.EmitAt.{EmitAt}
+use Rattle.text_emit_expr.specs.declared.expression.Unfit.{Unfit}
 
--- What an answer says: whether the code fits, and then the place after it and the instructions in the buffer.
+-- What an answer says: whether the code fits, the place after what is read of it, and the instructions in the buffer.
 pub record Said : Type 0 where
   pub ok : Bool
   pub at : ℕ
   pub count : ℕ
 
-abbrev pub said : Option EmitAt → Said
-said None = record { ok = false; at = 0; count = 0 }
-said (Some r) = record { ok = true; at = r.at; count = r.count }
+abbrev pub said : Result EmitAt Unfit → Said
+said (Ok r) = record { ok = true; at = r.at; count = r.count }
+said (Err e) = record { ok = false; at = e.at; count = e.count }
 
--- the place is in the text, after `from`, and no more instructions are in the buffer than a table has
-abbrev pub EndsWithin : List ℕ → ℕ → Option EmitAt → Type 0
-EndsWithin text from r = IfSome r (λ a. (from ≤ a.at) × (a.at ≤ length text) × (a.count ≤ 4096))
+-- whether the code fits or not, the place is in the text, not before `from`, and no more instructions are in the buffer
+-- than a table has
+abbrev pub EndsWithin : List ℕ → ℕ → Result EmitAt Unfit → Type 0
+EndsWithin text from (Ok r) = (from ≤ r.at) × (r.at ≤ length text) × (r.count ≤ 4096)
+EndsWithin text from (Err e) = (from ≤ e.at) × (e.at ≤ length text) × (e.count ≤ 4096)
 
 -- The code c with these numbers is emitted: ok says that it fits the 4096 instructions of a table and that no number is
 -- above 32767. Then the text is read up to the answer's place, and the code stands in the buffer from instruction

@@ -2,7 +2,7 @@
 ghost use Rattle.std.specs.Prelude.{◌≡◌, ◌&&◌, ◌≤◌, length};
 ghost use Rattle.text_emit_expr.specs.Emitted.{ArgumentsEmitted, EndsWithin, ParametersEmitted, said};
 
-use crate::expression::{EmitAt, emit_expression};
+use crate::expression::{EmitAt, Unfit, emit_expression};
 use text_tokens::kinds::{CLOSE, COMMA};
 use text_tokens::next::next_token;
 
@@ -15,7 +15,7 @@ fn emit_parameters(
     pending: &mut [usize],
     code: &mut [usize],
     count: usize,
-) -> Option<EmitAt>
+) -> Result<EmitAt, Unfit>
     requires { (from ≤ length text.now) × (12288 ≤ length pending.old) × (count ≤ 4096) }
     ensures { ParametersEmitted text.now scope.now n from code.old count
         code.new (said result) × EndsWithin text.now from result }
@@ -26,7 +26,7 @@ fn emit_parameters(
         r = emit_expression(text, t.end, scope, n, pending, code, r.count)?;
         t = next_token(text, r.at);
     }
-    Some(EmitAt {
+    Ok(EmitAt {
         at: t.end,
         count: r.count,
     })
@@ -41,14 +41,14 @@ pub fn emit_arguments(
     pending: &mut [usize],
     code: &mut [usize],
     count: usize,
-) -> Option<EmitAt>
+) -> Result<EmitAt, Unfit>
     requires { (from ≤ length text.now) × (12288 ≤ length pending.old) × (count ≤ 4096) }
     ensures { ArgumentsEmitted text.now scope.now n from code.old count
         code.new (said result) × EndsWithin text.now from result }
 {
     let t = next_token(text, from);
     if t.kind == CLOSE {
-        return Some(EmitAt { at: t.end, count });
+        return Ok(EmitAt { at: t.end, count });
     }
     emit_parameters(text, from, scope, n, pending, code, count)
 }

@@ -15,6 +15,13 @@ pub struct EmitAt {
     pub count: usize,
 }
 
+// The code does not fit: where its writing stopped, and the instructions in the buffer.
+#[derive(Clone, Copy)]
+pub struct Unfit {
+    pub at: usize,
+    pub count: usize,
+}
+
 // One token, or one part that holds no other.
 fn step(
     text: &[u8],
@@ -35,8 +42,7 @@ fn step(
     ended_step(text, pending, code, s, t)
 }
 
-// The code of the expression at `from`, after the `count` instructions that stand in the buffer; none where it does not
-// fit.
+// The code of the expression at `from`, after the `count` instructions that stand in the buffer, if it fits.
 pub fn emit_expression(
     text: &[u8],
     from: usize,
@@ -45,7 +51,7 @@ pub fn emit_expression(
     pending: &mut [usize],
     code: &mut [usize],
     count: usize,
-) -> Option<EmitAt>
+) -> Result<EmitAt, Unfit>
     requires { (from ≤ length text.now) × (12288 ≤ length pending.old) × (count ≤ 4096) }
     ensures { ExpressionEmitted text.now scope.now n from code.old count
         code.new (said result) × EndsWithin text.now from result }
@@ -61,9 +67,12 @@ pub fn emit_expression(
         s = step(text, scope, n, pending, code, s);
     }
     if s.phase != 3 {
-        return None;
+        return Err(Unfit {
+            at: s.at,
+            count: s.count,
+        });
     }
-    Some(EmitAt {
+    Ok(EmitAt {
         at: s.at,
         count: s.count,
     })

@@ -24,6 +24,7 @@ use Rattle.text_tokens.specs.NextCode.{NextToken}
 use Rattle.text_tokens.specs.declared.next.TokenAt.{TokenAt}
 use Rattle.text_scan.proofs.EventsText.{same-tree}
 use Rattle.text_methods.specs.declared.find.MethodAt.{MethodAt}
+use Rattle.text_methods.specs.declared.find.NoSuchMethod.{NoSuchMethod}
 use Rattle.text_methods.specs.MethodSays.{MethodSays, stands, absent, MethodOf}
 use Rattle.text_judge.specs.RowsCode.{Subject, IsRow, calls, op_in, arg_in}
 use Rattle.text_judge.specs.JudgeCode.{subject_in, Knows, wanted}
@@ -108,7 +109,7 @@ method-words text code own words n h e = record {
 -- The row of a method that is called
 
 pub header_at : (text : List ℕ) (place : ℕ) (t : TokenAt) → NextToken text place t → (a : MethodAt)
-    → MethodOf text (slice t.start t.end text) (P.Some a) → (row : List ℕ)
+    → MethodOf text (slice t.start t.end text) (P.Ok a) → (row : List ℕ)
     → ((m : Method) (us : List Token) → method_from (tokens_at text a.at) ≡ read m us → row ≡ header_words m)
     → HeaderAt text place row
 unfolding name_at
@@ -117,23 +118,24 @@ header_at text place t h a says row reads ns us m e f = by (says ns us t.start e
     named : name_of (first (tokens_at text place)) ≡ record { spelling = slice t.start t.end text; at = t.start }
     named = ap (λ ts. name_of (first ts)) h.reads
 
-    by : MethodSays text ns (record { spelling = slice t.start t.end text; at = t.start }) (P.Some a)
+    by : MethodSays text ns (record { spelling = slice t.start t.end text; at = t.start }) (P.Ok a)
         → row ≡ header_words m
     by (stands k vs q r p i) =
         reads k vs r
         ∙ ap header_words (some-injective k m (sym q ∙ ap (method_of (main_first ns)) (sym named) ∙ f))
 
 -- no method has the name, and nothing is asked
-pub no-header : (text : List ℕ) (place : ℕ) (t : TokenAt) → NextToken text place t
-    → MethodOf text (slice t.start t.end text) P.None → (row : List ℕ) → HeaderAt text place row
+pub no-header : (text : List ℕ) (place : ℕ) (t : TokenAt) → NextToken text place t → {n : NoSuchMethod}
+    → MethodOf text (slice t.start t.end text) (P.Err n) → (row : List ℕ) → HeaderAt text place row
 unfolding name_at
-no-header text place t h says row ns us m e f = by (says ns us t.start e)
+no-header text place t h {n} says row ns us m e f = by (says ns us t.start e)
   where
     named : name_of (first (tokens_at text place)) ≡ record { spelling = slice t.start t.end text; at = t.start }
     named = ap (λ ts. name_of (first ts)) h.reads
 
-    by : MethodSays text ns (record { spelling = slice t.start t.end text; at = t.start }) P.None → row ≡ header_words m
-    by (absent q) = absurd (none-ne-some m (sym q ∙ ap (method_of (main_first ns)) (sym named) ∙ f))
+    by : MethodSays text ns (record { spelling = slice t.start t.end text; at = t.start }) (P.Err n)
+        → row ≡ header_words m
+    by (absent q c) = absurd (none-ne-some m (sym q ∙ ap (method_of (main_first ns)) (sym named) ∙ f))
 
 -- From call to call
 

@@ -17,7 +17,7 @@ pub fn callee_row(text: &[u8], methods: &[usize], place: usize) -> [u16; 18]
         index: methods,
     };
     match methods.method_indexed(t.start, t.end) {
-        Some(m) => header_row(text, m.at),
-        None => [0; 18],
+        Ok(m) => header_row(text, m.at),
+        Err(_) => [0; 18],
     }
 }

@@ -186,13 +186,15 @@ module _ (text x : List ℕ) where
   }
 
   module _ (at h b i k : ℕ) (s : SearchSoFar text x at h b i k) where
-    pub search-ends : k ≡ 32 → FirstNamed text x P.None
-    unfolding row_of
+    pub search-ends : k ≡ 32 → FirstNamed text x (P.Err (record { methods = i }))
+    unfolding row_of row_index
     search-ends e =
         let last : next_kind text at ≡ 32 = sym s.kind-is ∙ e in
         let over : rows_at text h b at ≡ [] =
         rows_end (tokens_at text h) b (tokens_at text at) last (end-alone text at last) in
-        subst (λ o. Agrees text (row_index x (rows_of text)) o P.None) (sym (s.row_is ∙ ap (row_of x) over)) no-row
+        let index : row_index x (rows_of text) ≡ i + 0 = s.index_is ∙ ap (λ rs. i + row_index x rs) over in
+        subst (λ o. Agrees text (row_index x (rows_of text)) o (P.Err (record { methods = i })))
+        (sym (s.row_is ∙ ap (row_of x) over)) (no-row (omega arith))
 
     module _ (f : k ≡ 32 → ⊥) (t u : TokenAt) (n : NextToken text at t) (m : NextToken text t.end u) where
       further : next_kind text at ≡ 32 → ⊥
@@ -213,7 +215,7 @@ module _ (text x : List ℕ) where
         names = sym (e ∙ ap (λ (j : ℕ). names_method b j u.kind) same_kind)
 
         pub search-found : (named && is) ≡ true → (params : ℕ) → params ≡ argument_count (tokens_at text u.end)
-            → FirstNamed text x (P.Some (record { index = i; at = h; params = params }))
+            → FirstNamed text x (P.Ok (record { index = i; at = h; params = params }))
         unfolding row_of row_index row
         search-found q params p =
             let yes : named ≡ true = passed named (and_left named is (passes q)) in
@@ -226,7 +228,7 @@ module _ (text x : List ℕ) where
             s.row_is ∙ ap (row_of x) here ∙ rw spelled refl in
             let total : row_index x (rows_of text) ≡ i + row_index x (rows_at text h b at) = s.index_is in
             subst (λ o. Agrees text (row_index x (rows_of text)) o
-            (P.Some (record { index = i; at = h; params = params }))) (sym at_row) (agrees (omega arith) refl p)
+            (P.Ok (record { index = i; at = h; params = params }))) (sym at_row) (agrees (omega arith) refl p)
 
         pub search-goes : (named && is) ≡ false → (i' h' b' : ℕ) → i' ≡ cond named (suc i) i
             → h' ≡ cond (ends_method b k) t.end h → b' ≡ braces_after b k

@@ -23,9 +23,11 @@ use Rattle.text_scan.specs.FaultsCode.{each_method}
 use Rattle.text_scan.specs.Standing.{Stand, none-stand, stand}
 use Rattle.text_scan.proofs.Methods.{each-method, first_named, first_of}
 use Rattle.text_scan.proofs.EventsText.{text-events}
-use Rattle.text_methods.specs.RowsCode.{Row, ends_method, rows_from, rows_of, row_of, row_index, Agrees, agrees, no-row, FirstNamed}
+use Rattle.text_methods.specs.RowsCode.{Row, ends_method, rows_from, rows_of, row_of, row_index, Agrees, agrees, FirstNamed}
 use Rattle.text_methods.specs.declared.find.MethodAt.{MethodAt}
+use Rattle.text_methods.specs.declared.find.NoSuchMethod.{NoSuchMethod}
 use Rattle.text_methods.specs.MethodSays.{MethodSays, stands, absent}
+use Rattle.text_methods.proofs.Looking.{none-index, missing-index}
 
 abbrev pub row_for : List Token → Name → ℕ → Row
 row_for hs x n = record { name = x; count = n; tokens = hs }
@@ -159,6 +161,17 @@ text-rows text ms us e =
     ∙ ap (λ ts. rows_from ts 0 ts) (tokens-at-start text))
     (stand-listed (tokens_of text) ms t.ends t.stands)
 
+-- there are as many rows as methods
+rows-counted : (ms : Program) (rs : List Row) → RowsFor ms rs → length rs ≡ length ms
+rows-counted [] (r ∷ rs) h = elim h [ ]
+rows-counted (m ∷ ms) [] h = elim h [ ]
+rows-counted [] [] none-listed = refl
+rows-counted (m ∷ ms) (r ∷ rs) (listed us e c f l) = ap suc (rows-counted ms rs l)
+
+pub counts-methods : (text : List ℕ) (ms : Program) (us : List Token) → program_of (tokens_of text) ≡ read ms us
+    → length (rows_of text) ≡ length ms
+counts-methods text ms us e = rows-counted ms (rows_of text) (text-rows text ms us e)
+
 -- the first of a name
 module _ (text : List ℕ) (x : Name) where
   data Same : Option Method → Option Row → Type 0 where
@@ -190,31 +203,25 @@ module _ (text : List ℕ) (x : Name) where
       ap (λ (y : Name). cond (same x.spelling y.spelling) 0 (suc (row_index x.spelling rs))) e
       ∙ ap (λ (n : ℕ). cond (spells x m.name) 0 (suc n)) (index_same ms rs l)
 
-  answers : (ms : Program) (f : Option Method) (o : Option Row) (found : P.Option MethodAt) → Same f o
+  answers : (ms : Program) (f : Option Method) (o : Option Row) (found : P.Result MethodAt NoSuchMethod) → Same f o
       → Agrees text (row_index x.spelling (rows_of text)) o found → first_named x ms ≡ f
-      → row_index x.spelling (rows_of text) ≡ number_of ms x → MethodSays text ms x found
-  answers ms none (some r) found h _ e i = elim h [ ]
-  answers ms (some m) none found h _ e i = elim h [ ]
-  answers ms none none (P.Some a) neither h e i = elim h [ ]
-  answers ms none none P.None neither no-row e i = absent (first_of ms x ∙ e)
-  answers ms (some m) (some r) P.None (both us c f) h e i = elim h [ ]
-  answers ms (some m) (some r) (P.Some a) (both us c f) (agrees k t n) e i =
+      → row_index x.spelling (rows_of text) ≡ number_of ms x
+      → ((n : NoSuchMethod) → found ≡ P.Err n → n.methods ≡ length ms) → MethodSays text ms x found
+  answers ms none (some r) found h _ e i counted = elim h [ ]
+  answers ms (some m) none found h _ e i counted = elim h [ ]
+  answers ms none none (P.Ok a) neither h e i counted = elim h [ ]
+  answers ms none none (P.Err n) neither h e i counted = absent (first_of ms x ∙ e) (counted n refl)
+  answers ms (some m) (some r) (P.Err n) (both us c f) h e i counted = elim h [ ]
+  answers ms (some m) (some r) (P.Ok a) (both us c f) (agrees k t n) e i counted =
       stands m us (first_of ms x ∙ e) (ap method_from t ∙ f) (n ∙ c) (k ∙ i)
 
   pub method-says : (ms : Program) (us : List Token) → program_of (tokens_of text) ≡ read ms us
-      → {found : P.Option MethodAt} → FirstNamed text x.spelling found → MethodSays text ms x found
+      → {found : P.Result MethodAt NoSuchMethod} → FirstNamed text x.spelling found → MethodSays text ms x found
   method-says ms us e {found} a =
       let l = text-rows text ms us e in
       answers ms (first_named x ms) (row_of x.spelling (rows_of text)) found (first-same ms (rows_of text) l) a refl
-      (index_same ms (rows_of text) l)
-
--- there are as many rows as methods
-rows-counted : (ms : Program) (rs : List Row) → RowsFor ms rs → length rs ≡ length ms
-rows-counted [] (r ∷ rs) h = elim h [ ]
-rows-counted (m ∷ ms) [] h = elim h [ ]
-rows-counted [] [] none-listed = refl
-rows-counted (m ∷ ms) (r ∷ rs) (listed us e c f l) = ap suc (rows-counted ms rs l)
-
-pub counts-methods : (text : List ℕ) (ms : Program) (us : List Token) → program_of (tokens_of text) ≡ read ms us
-    → length (rows_of text) ≡ length ms
-counts-methods text ms us e = rows-counted ms (rows_of text) (text-rows text ms us e)
+      (index_same ms (rows_of text) l) (λ n q. counted n (subst (FirstNamed text x.spelling) q a))
+    where
+      counted : (n : NoSuchMethod) → FirstNamed text x.spelling (P.Err n) → n.methods ≡ length ms
+      counted n b =
+          missing-index text x.spelling n b ∙ none-index text x.spelling b ∙ counts-methods text ms us e

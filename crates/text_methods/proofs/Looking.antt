@@ -13,6 +13,7 @@ use lib.Seq.{slice}
 use Rattle.lists.specs.Lists.{same}
 use Rattle.text_methods.specs.RowsCode.{Row, rows_of, row_of, row_index, Agrees, agrees, no-row, FirstNamed}
 use Rattle.text_methods.specs.declared.find.MethodAt.{MethodAt}
+use Rattle.text_methods.specs.declared.find.NoSuchMethod.{NoSuchMethod}
 use Rattle.text_methods.specs.IndexCode.{Entry, Indexed, entry_name}
 use Rattle.text_methods.proofs.Slices.{part_slice}
 
@@ -60,7 +61,7 @@ module _ (text index x : List ℕ) (ix : Indexed text index) where
   module _ (i : ℕ) (u : Unlike x (rows_of text) i) where
     -- entry i has the name, or another
     pub look-found : i < get_or index 0 0 → i < 32 → same x (entry_name text index i) ≡ true
-        → FirstNamed text x (P.Some (record {
+        → FirstNamed text x (P.Ok (record {
           index = i;
           at = get_or index (4 * i + 3) 0;
           params = get_or index (4 * i + 4) 0;
@@ -70,11 +71,11 @@ module _ (text index x : List ℕ) (ix : Indexed text index) where
         a : MethodAt
         a = record { index = i; at = get_or index (4 * i + 3) 0; params = get_or index (4 * i + 4) 0 }
 
-        by : There (rows_of text) i → FirstNamed text x (P.Some a)
+        by : There (rows_of text) i → FirstNamed text x (P.Ok a)
         by (there r e) =
             let n : Entry text index i r = ix.entries i r room e in
             let f = first-there x (rows_of text) i r u e (ap (same x) (sym n.spelled) ∙ s) in
-            subst (λ o. Agrees text (row_index x (rows_of text)) o (P.Some a)) (sym f.0)
+            subst (λ o. Agrees text (row_index x (rows_of text)) o (P.Ok a)) (sym f.0)
             (agrees (sym f.1) n.stands n.counted)
 
     pub look-on : i < 32 → same x (entry_name text index i) ≡ false → Unlike x (rows_of text) (i + 1)
@@ -89,16 +90,18 @@ module _ (text index x : List ℕ) (ix : Indexed text index) where
             let apart : j ≡ i → ⊥ = eqb-false j i q in
             u j r (omega arith) e
 
-    pub look-ends : get_or index 0 0 ≤ i → FirstNamed text x P.None
+    pub look-ends : get_or index 0 0 ≤ i → FirstNamed text x (P.Err (record { methods = get_or index 0 0 }))
     look-ends h =
         let size : get_or index 0 0 ≡ length (rows_of text) = ix.count in
         let f = none-there x (rows_of text) (λ j r l e. u j r (omega arith) e) in
-        subst (λ o. Agrees text (row_index x (rows_of text)) o P.None) (sym f.0) no-row
+        subst (λ o. Agrees text (row_index x (rows_of text)) o (P.Err (record { methods = get_or index 0 0 })))
+        (sym f.0) (no-row (ix.count ∙ sym f.1))
 
 -- where no method has the name, its index is the number of methods
-pub none-index : (text x : List ℕ) → FirstNamed text x P.None → row_index x (rows_of text) ≡ length (rows_of text)
+pub none-index : (text x : List ℕ) {n : NoSuchMethod} → FirstNamed text x (P.Err n)
+    → row_index x (rows_of text) ≡ length (rows_of text)
 unfolding row_of row_index
-none-index text x a = by (row_of x (rows_of text)) refl a
+none-index text x {n} a = by (row_of x (rows_of text)) refl a
   where
     rows : (rs : List Row) → row_of x rs ≡ none → row_index x rs ≡ length rs
     rows [] e = refl
@@ -110,25 +113,29 @@ none-index text x a = by (row_of x (rows_of text)) refl a
         cases true q later = absurd (none-ne-some r (sym q))
         cases false q later = ap suc (later q)
 
-    by : (o : Option Row) → row_of x (rows_of text) ≡ o → Agrees text (row_index x (rows_of text)) o P.None
+    by : (o : Option Row) → row_of x (rows_of text) ≡ o → Agrees text (row_index x (rows_of text)) o (P.Err n)
         → row_index x (rows_of text) ≡ length (rows_of text)
     by none e h = rows (rows_of text) e
     by (some r) e h = elim h [ ]
 
-pub some-index : (text x : List ℕ) (m : MethodAt) → FirstNamed text x (P.Some m) → m.index ≡ row_index x (rows_of text)
+pub some-index : (text x : List ℕ) (m : MethodAt) → FirstNamed text x (P.Ok m) → m.index ≡ row_index x (rows_of text)
 some-index text x m a = by (row_of x (rows_of text)) a
   where
-    by : (o : Option Row) → Agrees text (row_index x (rows_of text)) o (P.Some m)
+    by : (o : Option Row) → Agrees text (row_index x (rows_of text)) o (P.Ok m)
         → m.index ≡ row_index x (rows_of text)
     by none h = elim h [ ]
     by (some r) (agrees i t n) = i
 
+pub missing-index : (text x : List ℕ) (n : NoSuchMethod) → FirstNamed text x (P.Err n)
+    → n.methods ≡ row_index x (rows_of text)
+missing-index text x n a = by (row_of x (rows_of text)) a
+  where
+    by : (o : Option Row) → Agrees text (row_index x (rows_of text)) o (P.Err n)
+        → n.methods ≡ row_index x (rows_of text)
+    by none (no-row i) = i
+    by (some r) h = elim h [ ]
+
 -- a part of the text that is lent as a word
-pub lent-word : (text : List ℕ) (s e : ℕ) → s ≤ e → {found : P.Option MethodAt}
+pub lent-word : (text : List ℕ) (s e : ℕ) → s ≤ e → {found : P.Result MethodAt NoSuchMethod}
     → FirstNamed text (take (e - s) (drop s text)) found → FirstNamed text (slice s e text) found
 lent-word text s e h {found} a = subst (λ x. FirstNamed text x found) (part_slice s e text h) a
-
--- what is said of an option that holds nothing
-pub missing : {A : Type 0} (Q : P.Option A → Type 0) (o : P.Option A) → ((x : A) → o ≡ P.Some x → ⊥) → Q o → Q P.None
-missing Q P.None f q = q
-missing Q (P.Some x) f q = absurd (f x refl)

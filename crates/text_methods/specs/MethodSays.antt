@@ -9,20 +9,22 @@ use Rattle.text_parse.specs.Grammar.{read, program_of}
 use Rattle.text_parse.specs.Equations.{method_from}
 use Rattle.text_tokens.specs.Places.{tokens_at}
 use Rattle.text_methods.specs.declared.find.MethodAt.{MethodAt}
+use Rattle.text_methods.specs.declared.find.NoSuchMethod.{NoSuchMethod}
 
 -- whether there is a method of the name x; its index in text order, a place from which on its tokens stand, and how
--- many parameters it has
-pub data MethodSays (text : List ℕ) (ms : Program) (x : Name) : P.Option MethodAt → Type 0 where
+-- many parameters it has; where there is none, how many methods there are
+pub data MethodSays (text : List ℕ) (ms : Program) (x : Name) : P.Result MethodAt NoSuchMethod → Type 0 where
   stands : (m : Method) (us : List Token) {a : MethodAt} → method_of (main_first ms) x ≡ some m
       → method_from (tokens_at text a.at) ≡ read m us → a.params ≡ length m.parameters → a.index ≡ number_of ms x
-      → MethodSays text ms x (P.Some a)
-  absent : method_of (main_first ms) x ≡ none → MethodSays text ms x P.None
+      → MethodSays text ms x (P.Ok a)
+  absent : {n : NoSuchMethod} → method_of (main_first ms) x ≡ none → n.methods ≡ length ms
+      → MethodSays text ms x (P.Err n)
 
 -- the name is given by its bytes
-abbrev pub MethodOf : List ℕ → List ℕ → P.Option MethodAt → Type 0
-MethodOf text x o =
+abbrev pub MethodOf : List ℕ → List ℕ → P.Result MethodAt NoSuchMethod → Type 0
+MethodOf text x r =
     (ms : Program) (us : List Token) (p : ℕ) → program_of (tokens_of text) ≡ read ms us
-    → MethodSays text ms (record { spelling = x; at = p }) o
+    → MethodSays text ms (record { spelling = x; at = p }) r
 
 abbrev pub MethodCount : List ℕ → ℕ → Type 0
 MethodCount text n = (ms : Program) (us : List Token) → program_of (tokens_of text) ≡ read ms us → n ≡ length ms

@@ -11,6 +11,7 @@ use Rattle.text_tokens.specs.Places.{tokens_at}
 use Rattle.text_tokens.specs.KindsCode.{kind_of}
 use Rattle.text_scan.specs.ScanCode.{kind_at, braces_after, argument_count}
 use Rattle.text_methods.specs.declared.find.MethodAt.{MethodAt}
+use Rattle.text_methods.specs.declared.find.NoSuchMethod.{NoSuchMethod}
 
 -- A method's name, how many parameters it has, and the tokens from its first on.
 pub record Row : Type 0 where
@@ -46,13 +47,13 @@ unfoldable pub row_index : List ℕ → List Row → ℕ
 row_index x [] = 0
 row_index x (r ∷ rs) = cond (same x r.name.spelling) 0 (suc (row_index x rs))
 
--- What is answered of a method before which so many stand: nothing where there is none, and else their number, a place
--- from which on its tokens stand, and how many parameters it has.
-pub data Agrees (text : List ℕ) (before : ℕ) : Option Row → P.Option MethodAt → Type 0 where
+-- What is answered of a method before which so many stand: their number, a place from which on its tokens stand, and
+-- how many parameters it has. Where no method has the name all stand before it, and their number alone is answered.
+pub data Agrees (text : List ℕ) (before : ℕ) : Option Row → P.Result MethodAt NoSuchMethod → Type 0 where
   agrees : {r : Row} {m : MethodAt} → m.index ≡ before → tokens_at text m.at ≡ r.tokens → m.params ≡ r.count
-      → Agrees text before (some r) (P.Some m)
-  no-row : Agrees text before none P.None
+      → Agrees text before (some r) (P.Ok m)
+  no-row : {n : NoSuchMethod} → n.methods ≡ before → Agrees text before none (P.Err n)
 
 -- of the first method of the name x
-abbrev pub FirstNamed : List ℕ → List ℕ → P.Option MethodAt → Type 0
+abbrev pub FirstNamed : List ℕ → List ℕ → P.Result MethodAt NoSuchMethod → Type 0
 FirstNamed text x = Agrees text (row_index x (rows_of text)) (row_of x (rows_of text))

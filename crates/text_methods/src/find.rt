@@ -18,6 +18,12 @@ pub struct MethodAt {
     pub params: usize,
 }
 
+// No method has the name; so many methods stand in the text.
+#[derive(Clone, Copy, Debug, PartialEq, Eq)]
+pub struct NoSuchMethod {
+    pub methods: usize,
+}
+
 // Outside any brace a name before ( is a method's.
 pub fn names_method(braces: usize, kind: u8, following: u8) -> bool
     ensures { result ≡ names_method braces kind following }
@@ -36,7 +42,7 @@ pub fn header_after(braces: usize, kind: u8, header: usize, end: usize) -> usize
 }
 
 // The first method with this name, of any text.
-pub fn find_row(text: &[u8], word: &[u8]) -> Option<MethodAt>
+pub fn find_row(text: &[u8], word: &[u8]) -> Result<MethodAt, NoSuchMethod>
     ensures { FirstNamed text.now word.now result }
 {
     let mut at = 0;
@@ -50,7 +56,7 @@ pub fn find_row(text: &[u8], word: &[u8]) -> Option<MethodAt>
         let named = names_method(braces, kind, u.kind);
         let same = is_word(text, t.start, t.end, word);
         if named & same {
-            return Some(MethodAt {
+            return Ok(MethodAt {
                 index,
                 at: header,
                 params: count_arguments(text, u.end),
@@ -62,5 +68,5 @@ pub fn find_row(text: &[u8], word: &[u8]) -> Option<MethodAt>
         at = t.end;
         kind = u.kind;
     }
-    None
+    Err(NoSuchMethod { methods: index })
 }

@@ -7,7 +7,7 @@ ghost use Rattle.text_methods.specs.RowsCode.{rows_of, row_index, FirstNamed};
 ghost use Rattle.text_methods.specs.MethodSays.{MethodOf, MethodCount};
 ghost use Rattle.text_methods.specs.IndexCode.{entry_name, Indexed};
 
-use crate::find::{MethodAt, find_row};
+use crate::find::{MethodAt, NoSuchMethod, find_row};
 use text_tokens::bytes::is_word;
 
 // The text and its index.
@@ -50,23 +50,23 @@ impl<'a> Methods<'a> {
 
     // The first method with this name, of any text: an entry of the index, or where there are more methods than entries
     // what is found in the text.
-    pub fn find_word(&self, word: &[u8]) -> Option<MethodAt>
+    pub fn find_word(&self, word: &[u8]) -> Result<MethodAt, NoSuchMethod>
         ensures { FirstNamed self.now.text.now word.now result }
     {
         let count = self.index[0];
         for i in 0..count.min(32) {
             if self.is_entry(i, word) {
-                return Some(self.entry(i));
+                return Ok(self.entry(i));
             }
         }
         if 32 < count {
             return find_row(self.text, word);
         }
-        None
+        Err(NoSuchMethod { methods: count })
     }
 
     // The first method with the name that stands at start up to end.
-    pub fn find_indexed(&self, start: usize, end: usize) -> Option<MethodAt>
+    pub fn find_indexed(&self, start: usize, end: usize) -> Result<MethodAt, NoSuchMethod>
         requires { (start ≤ end) × (end ≤ length self.now.text.now) }
         ensures { FirstNamed self.now.text.now (slice start end self.now.text.now) result }
     {
@@ -79,13 +79,13 @@ impl<'a> Methods<'a> {
         ensures { result ≡ row_index (slice start end self.now.text.now) (rows_of self.now.text.now) }
     {
         match self.find_indexed(start, end) {
-            Some(m) => m.index,
-            None => self.method_count(),
+            Ok(m) => m.index,
+            Err(n) => n.methods,
         }
     }
 
     // The first method with that name, in a text of the grammar.
-    pub fn method_indexed(&self, start: usize, end: usize) -> Option<MethodAt>
+    pub fn method_indexed(&self, start: usize, end: usize) -> Result<MethodAt, NoSuchMethod>
         requires { (start ≤ end) × (end ≤ length self.now.text.now) }
         ensures { MethodOf self.now.text.now (slice start end self.now.text.now) result }
     {
@@ -93,7 +93,7 @@ impl<'a> Methods<'a> {
     }
 
     // The first method called main, in a text of the grammar.
-    pub fn find_main(&self) -> Option<MethodAt>
+    pub fn find_main(&self) -> Result<MethodAt, NoSuchMethod>
         ensures { MethodOf self.now.text.now (ascii "main") result }
     {
         self.find_word(b"main")

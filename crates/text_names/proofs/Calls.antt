@@ -17,6 +17,7 @@ use Rattle.text_scan.specs.ScanCode.{argument_count}
 use Rattle.text_scan.specs.FaultsCode.{callable, invocable}
 use Rattle.text_methods.specs.RowsCode.{Row, rows_of, row_of, row_index, Agrees, agrees, no-row, FirstNamed}
 use Rattle.text_methods.specs.declared.find.MethodAt.{MethodAt}
+use Rattle.text_methods.specs.declared.find.NoSuchMethod.{NoSuchMethod}
 use Rattle.text_names.specs.Answer.{fault_in}
 use Rattle.text_names.specs.FaultsCode.{lower_of, place_if}
 use Rattle.text_names.specs.FaultCode.{row_count, bare, is_call_at, is_invocation_at}
@@ -24,42 +25,42 @@ use Rattle.text_names.specs.FaultCode.{row_count, bare, is_call_at, is_invocatio
 -- methods
 module _ (text x : List ℕ) (after n : ℕ) (e : n ≡ argument_count (tokens_at text after)) where
   -- a method that is found, with its parameters
-  pub call-found : (m : MethodAt) → FirstNamed text x (P.Some m) → eqb n m.params ≡ is_call_at text x after
+  pub call-found : (m : MethodAt) → FirstNamed text x (P.Ok m) → eqb n m.params ≡ is_call_at text x after
   unfolding is_call_at callable
   call-found m a = by (row_of x (rows_of text)) a
     where
-      by : (o : Option Row) → Agrees text (row_index x (rows_of text)) o (P.Some m)
+      by : (o : Option Row) → Agrees text (row_index x (rows_of text)) o (P.Ok m)
           → eqb n m.params ≡ callable (argument_count (tokens_at text after)) (row_count o)
       by none h = elim h [ ]
       by (some r) (agrees i t c) = ap (eqb n) c ∙ ap (λ (k : ℕ). eqb k r.count) e
 
-  pub invoke-found : (m : MethodAt) → FirstNamed text x (P.Some m) → eqb n m.params ≡ is_invocation_at text x after
+  pub invoke-found : (m : MethodAt) → FirstNamed text x (P.Ok m) → eqb n m.params ≡ is_invocation_at text x after
   unfolding is_invocation_at invocable
   invoke-found m a = by (row_of x (rows_of text)) a
     where
-      by : (o : Option Row) → Agrees text (row_index x (rows_of text)) o (P.Some m)
+      by : (o : Option Row) → Agrees text (row_index x (rows_of text)) o (P.Ok m)
           → eqb n m.params ≡ invocable (bare x) (argument_count (tokens_at text after)) (row_count o)
       by none h = elim h [ ]
       by (some r) (agrees i t c) = ap (eqb n) c ∙ ap (λ (k : ℕ). eqb k r.count) e
 
   -- where none is found
-  pub call-missing : FirstNamed text x P.None → false ≡ is_call_at text x after
+  pub call-missing : {m : NoSuchMethod} → FirstNamed text x (P.Err m) → false ≡ is_call_at text x after
   unfolding is_call_at callable
-  call-missing a = by (row_of x (rows_of text)) a
+  call-missing {m} a = by (row_of x (rows_of text)) a
     where
-      by : (o : Option Row) → Agrees text (row_index x (rows_of text)) o P.None
+      by : (o : Option Row) → Agrees text (row_index x (rows_of text)) o (P.Err m)
           → false ≡ callable (argument_count (tokens_at text after)) (row_count o)
-      by none no-row = refl
+      by none (no-row i) = refl
       by (some r) h = elim h [ ]
 
-  pub gate-found : {g : ℕ} {r : Bool} → FirstNamed text x P.None → g ≡ numbered 1 x gate_names
+  pub gate-found : {m : NoSuchMethod} {g : ℕ} {r : Bool} → FirstNamed text x (P.Err m) → g ≡ numbered 1 x gate_names
       → r ≡ cond (ltb 0 g) (eqb n (gate_qubits g)) false → r ≡ is_invocation_at text x after
   unfolding is_invocation_at invocable gate_of
-  gate-found {r = r} a i s = by (row_of x (rows_of text)) a
+  gate-found {m = m} {r = r} a i s = by (row_of x (rows_of text)) a
     where
-      by : (o : Option Row) → Agrees text (row_index x (rows_of text)) o P.None
+      by : (o : Option Row) → Agrees text (row_index x (rows_of text)) o (P.Err m)
           → r ≡ invocable (bare x) (argument_count (tokens_at text after)) (row_count o)
-      by none no-row =
+      by none (no-row c) =
           s ∙ ap (λ (k : ℕ). cond (ltb 0 k) (eqb n (gate_qubits k)) false) i
           ∙ ap (λ (k : ℕ). cond (ltb 0 (numbered 1 x gate_names)) (eqb k (gate_qubits (numbered 1 x gate_names))) false) e
       by (some r) h = elim h [ ]

@@ -6,7 +6,7 @@ use mathlib.Core.List.{List, [], ◌∷◌, map}
 use mathlib.Core.Option.{Option, none, some}
 use lib.ListN.{length}
 use Rattle.std.specs.Prelude as P
-use Rattle.std.specs.Prelude.{is_some}
+use Rattle.std.specs.Prelude.{is_ok}
 use Rattle.lists.specs.Lists.{same, any}
 use Rattle.text.specs.Tree.{ascii}
 use Rattle.text.specs.Names.{lower, lowest}
@@ -19,6 +19,7 @@ use Rattle.text_scan.specs.FaultsCode.{Entry, each_method, entry, entries_of, na
 use Rattle.text_scan.proofs.Methods.{same-comm}
 use Rattle.text_methods.specs.RowsCode.{Row, rows_of, row_of, row_index, Agrees, agrees, no-row, FirstNamed}
 use Rattle.text_methods.specs.declared.find.MethodAt.{MethodAt}
+use Rattle.text_methods.specs.declared.find.NoSuchMethod.{NoSuchMethod}
 use Rattle.text_methods.proofs.Found.{row_for, rows-scanned}
 use Rattle.text_names.specs.FaultsCode.{all_faults, lower_of}
 use Rattle.text_names.specs.FaultCode.{row_entry, methods_of, lowest_fault, Refuses}
@@ -61,28 +62,28 @@ main-there (r ∷ rs) =
     by true e = refl
     by false e = e
 
-found-there : (text : List ℕ) (n : ℕ) (o : Option Row) (found : P.Option MethodAt) → Agrees text n o found
-    → there o ≡ is_some found
-found-there text n none P.None no-row = refl
-found-there text n none (P.Some a) h = elim h [ ]
-found-there text n (some r) P.None h = elim h [ ]
-found-there text n (some r) (P.Some a) (agrees i t c) = refl
+found-there : (text : List ℕ) (n : ℕ) (o : Option Row) (found : P.Result MethodAt NoSuchMethod) → Agrees text n o found
+    → there o ≡ is_ok found
+found-there text n none (P.Err e) (no-row c) = refl
+found-there text n none (P.Ok a) h = elim h [ ]
+found-there text n (some r) (P.Err e) h = elim h [ ]
+found-there text n (some r) (P.Ok a) (agrees i t c) = refl
 
-module _ (text : List ℕ) {found : P.Option MethodAt} (a : FirstNamed text (ascii "main") found) where
-  main-fault : lowest (main_fault_of (length text) (methods_of text)) ≡ cond (is_some found) none (some (length text))
+module _ (text : List ℕ) {found : P.Result MethodAt NoSuchMethod} (a : FirstNamed text (ascii "main") found) where
+  main-fault : lowest (main_fault_of (length text) (methods_of text)) ≡ cond (is_ok found) none (some (length text))
   unfolding main_fault_of methods_of lowest lower
   main-fault =
       ap (λ (b : Bool). lowest (cond b [] (length text ∷ [])))
       (main-there (rows_of text)
       ∙ found-there text (row_index (ascii "main") (rows_of text)) (row_of (ascii "main") (rows_of text)) found a)
-      ∙ by (is_some found)
+      ∙ by (is_ok found)
     where
       by : (b : Bool) → lowest (cond b [] (length text ∷ [])) ≡ cond b none (some (length text))
       by true = refl
       by false = refl
 
   -- the refusal, with main and without
-  pub refusal_is : Refuses text (lower_of (lowest_fault text) (cond (is_some found) none (some (length text))))
+  pub refusal_is : Refuses text (lower_of (lowest_fault text) (cond (is_ok found) none (some (length text))))
   unfolding lowest_fault
   refusal_is ms us e =
       ap (lower_of (lowest (all_faults (methods_of text) 0 ([] ∷ []) (events_from 0 0 (tokens_at text 0)))))
@@ -93,10 +94,10 @@ module _ (text : List ℕ) {found : P.Option MethodAt} (a : FirstNamed text (asc
       (lowest (main_fault_of (length text) (entries_of (events_from 0 0 ts))))) (sym (tokens-at-start text))
       ∙ text-refusal text (length text) ms us e
 
-pub main-found : (text : List ℕ) {m : MethodAt} → FirstNamed text (ascii "main") (P.Some m) → {o : Option ℕ}
+pub main-found : (text : List ℕ) {m : MethodAt} → FirstNamed text (ascii "main") (P.Ok m) → {o : Option ℕ}
     → o ≡ lowest_fault text → Refuses text o
 main-found text a l ms us e = l ∙ sym (lower-none (lowest_fault text)) ∙ refusal_is text a ms us e
 
-pub main-missing : (text : List ℕ) → FirstNamed text (ascii "main") P.None → {low o : Option ℕ}
+pub main-missing : (text : List ℕ) {n : NoSuchMethod} → FirstNamed text (ascii "main") (P.Err n) → {low o : Option ℕ}
     → low ≡ lowest_fault text → o ≡ lower_of low (some (length text)) → Refuses text o
 main-missing text a l m ms us e = m ∙ ap (λ o. lower_of o (some (length text))) l ∙ refusal_is text a ms us e

@@ -16,8 +16,8 @@ fn is_call(methods: &Methods<'_>, start: usize, end: usize, after: usize) -> boo
 {
     let n = count_arguments(methods.text, after);
     match methods.find_indexed(start, end) {
-        Some(m) => n == m.params,
-        None => false,
+        Ok(m) => n == m.params,
+        Err(_) => false,
     }
 }
 
@@ -28,8 +28,8 @@ fn is_invocation(methods: &Methods<'_>, start: usize, end: usize, after: usize) 
 {
     let n = count_arguments(methods.text, after);
     match methods.find_indexed(start, end) {
-        Some(m) => n == m.params,
-        None => gate_takes(gate_number(methods.text, start, end), n),
+        Ok(m) => n == m.params,
+        Err(_) => gate_takes(gate_number(methods.text, start, end), n),
     }
 }
 

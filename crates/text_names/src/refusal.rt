@@ -132,7 +132,7 @@ pub fn name_fault(methods: &Methods<'_>) -> Option<usize>
 {
     let lowest = lowest_fault(methods);
     match methods.find_word(b"main") {
-        Some(_) => lowest,
-        None => lower_place(lowest, Some(methods.text.len())),
+        Ok(_) => lowest,
+        Err(_) => lower_place(lowest, Some(methods.text.len())),
     }
 }

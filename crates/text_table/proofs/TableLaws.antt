@@ -18,6 +18,7 @@ use Rattle.text.proofs.Words.{method-within, code_words-length}
 use Rattle.text.proofs.Limited.{translated-limited}
 use Rattle.text_methods.specs.MethodSays.{MethodSays, stands, absent, MethodOf}
 use Rattle.text_methods.specs.declared.find.MethodAt.{MethodAt}
+use Rattle.text_methods.specs.declared.find.NoSuchMethod.{NoSuchMethod}
 use Rattle.text_put.specs.TableCode.{Writes, number_in, pairs_to, rows_to}
 use Rattle.text_put.specs.Measures.{TableText, Measures}
 use Rattle.text_put.proofs.MainAt.{MainStands, order_is, number_at, main-number, index_at}
@@ -83,24 +84,24 @@ module _ {text : List ℕ} {ns : Program} (g : TableText text ns) where
   abbrev x : Name
   x = record { spelling = ascii "main"; at = 0 }
 
-  main-found : {m : MethodAt} → MethodOf text (ascii "main") (P.Some m) → m.index ≡ length p.before
+  main-found : {m : MethodAt} → MethodOf text (ascii "main") (P.Ok m) → m.index ≡ length p.before
   main-found {m} f = by (f ns g.left 0 g.reads)
     where
-      by : MethodSays text ns x (P.Some m) → m.index ≡ length p.before
+      by : MethodSays text ns x (P.Ok m) → m.index ≡ length p.before
       by (stands k us o r q i) = i ∙ main-number ns p x refl
 
-  pub main-missing : MethodOf text (ascii "main") P.None → ⊥
-  main-missing f = by (f ns g.left 0 g.reads)
+  pub main-missing : {n : NoSuchMethod} → MethodOf text (ascii "main") (P.Err n) → ⊥
+  main-missing {n} f = by (f ns g.left 0 g.reads)
     where
-      by : MethodSays text ns x P.None → ⊥
-      by (absent o) = none-ne-some p.one (sym o ∙ main-of x refl)
+      by : MethodSays text ns x (P.Err n) → ⊥
+      by (absent o c) = none-ne-some p.one (sym o ∙ main-of x refl)
 
   pub few-methods : {methods instructions : ℕ} {lengths rows : List ℕ}
       → Measures ns methods instructions lengths rows → methods ≤ 32
   few-methods d =
       omega (arith, d.count, main_first-length ns, (translated-limited (length text) ns g.kept).few)
 
-  pub index-small : {m : MethodAt} → MethodOf text (ascii "main") (P.Some m) → m.index ≤ 31
+  pub index-small : {m : MethodAt} → MethodOf text (ascii "main") (P.Ok m) → m.index ≤ 31
   index-small f =
       omega (
         arith,
@@ -126,7 +127,7 @@ module _ {text : List ℕ} {ns : Program} (g : TableText text ns) where
 
   pub all-written : {methods instructions : ℕ} {lengths rows : List ℕ} (kept : List ℕ)
       → Measures ns methods instructions lengths rows → CodeKept ns methods lengths kept
-      → {m : MethodAt} → MethodOf text (ascii "main") (P.Some m) → (table : List ℕ) {mid next end : List ℕ} {i j r : ℕ}
+      → {m : MethodAt} → MethodOf text (ascii "main") (P.Ok m) → (table : List ℕ) {mid next end : List ℕ} {i j r : ℕ}
       → Writes table 0 (head_words methods instructions lengths rows m.index) mid i → i ≤ 642
       → (from long : ℕ) → from ≡ offset_in lengths m.index → long ≡ word lengths m.index
       → PutsOne text m.index false kept from long mid i next j

@@ -48,7 +48,7 @@ pub fn write_table(
         → CodeKept ns count lengths.now kept.now
         → (table.new ≡ put_from table.old 0 (text_table ns)) × (result ≡ length (text_table ns)) }
 {
-    let Some(m) = methods.find_main() else {
+    let Ok(m) = methods.find_main() else {
         return 0;
     };
     let main = m.index;

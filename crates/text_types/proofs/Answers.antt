@@ -1,21 +1,21 @@
 -- Laws of answers: of the next token, and through `expect`, `expect_name`, `and_then` and a choice.
-use Prim.Native.Nat.{ℕ, zero, suc, ◌≤◌, ◌<◌}
+use Prim.Native.Nat.{ℕ, suc, ◌≤◌, ◌<◌}
 use native.Mathlib.Omega.{arith}
 use mathlib.Core.Path.{◌≡◌, refl, sym, ap, ◌∙◌, subst}
-use mathlib.Core.Logic.{◌⊎◌, inl, inr, ⊎_elim}
+use mathlib.Core.Logic.{⊎_elim}
 use mathlib.Core.Bool.{Bool, true, false, cond}
-use mathlib.Core.List.{List, [], ◌∷◌}
+use mathlib.Core.List.{List, []}
 use Prim.Native.String.{String}
 use borrow.Author.Tests.{eq-eqb, ne_eqb, lt-ltb, ltb-true, ltb-false}
 use lib.Dec.{eqb, ltb}
-use lib.ListN.{length, take, drop}
+use lib.ListN.{length}
 use lib.Seq.{slice, slice_empty}
 use Rattle.lists.proofs.Tests.{decide, clash, passes}
 use Rattle.text_parse.specs.Tokens.{Token, is, is_name, name_of}
 use Rattle.text_parse.specs.Grammar.{Reading, read, leaves, and_then, first, rest, leaves_at, expect, expect_name}
 use Rattle.text.specs.Tree.{Name}
-use Rattle.text_tokens.specs.Places.{tokens_at, token_of, tokens_after}
-use Rattle.text_tokens.specs.PlacesCode.{start_at, end_at}
+use Rattle.text_tokens.specs.Places.{tokens_at, tokens_after}
+use Rattle.text_tokens.specs.PlacesCode.{end_at}
 use Rattle.text_tokens.specs.KindsCode.{kind_of}
 use Rattle.text_tokens.specs.NextCode.{NextToken, next_at as token_next}
 use Rattle.text_tokens.specs.declared.next.TokenAt.{TokenAt}
@@ -110,14 +110,6 @@ pub on-later : {before mid ok : Bool} {place middle at : ℕ} {S R Q : Type 0} �
     → On mid middle ok at R → (S → Q) → On before place ok at Q
 on-later a b f = record {
   on = λ e. f (a.on e);
-  off-ok = λ e. b.off-ok (a.off-ok e);
-  off_at = λ e. b.off_at (a.off-ok e) ∙ a.off_at e;
-}
-
-pub on-after : {before mid ok : Bool} {place middle at : ℕ} {S R Q : Type 0} → On before place mid middle S
-    → On mid middle ok at R → (before ≡ true → S → Q) → On before place ok at Q
-on-after a b f = record {
-  on = λ e. f e (a.on e);
   off-ok = λ e. b.off-ok (a.off-ok e);
   off_at = λ e. b.off_at (a.off-ok e) ∙ a.off_at e;
 }

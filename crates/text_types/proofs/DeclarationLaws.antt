@@ -1,22 +1,21 @@
 -- Declarations by places.
-use Prim.Native.Nat.{ℕ, zero, suc, ◌+◌, ◌≤◌, ◌<◌}
+use Prim.Native.Nat.{ℕ, suc, ◌<◌}
 use native.Mathlib.Omega.{arith}
 use mathlib.Core.Path.{◌≡◌, refl, sym, ap, ◌∙◌, subst}
 use mathlib.Core.Bool.{Bool, true, false, cond, ◌&&◌}
-use mathlib.Core.List.{List, [], ◌∷◌, ◌++◌, map, append-nil, append_assoc}
+use mathlib.Core.List.{List, [], ◌∷◌, ◌++◌, append-nil, append_assoc}
 use borrow.Author.Tests.{eq-eqb, ne_eqb}
-use lib.Dec.{eqb, ltb}
-use lib.ListN.{length}
+use lib.Dec.{eqb}
 use Rattle.lists.specs.Lists.{same}
 use Rattle.text.specs.Tree.{Name, Carried, int_type, boolean_type, qbit_type, NonVoidType, plain, channel_type, end_type, Declaration, plainly, declared_in, declared_by}
 use Rattle.text.specs.Translation.{carried_code, type_code}
-use Rattle.text_parse.specs.Tokens.{Token, name_of}
-use Rattle.text_parse.specs.Grammar.{Reading, read, first, rest, non_void_type, starts_type, end_names}
-use Rattle.text_parse.specs.Equations.{more_names_from, variables_rule, declaration_from, declaration_rule, declarations_from, declarations_rule}
+use Rattle.text_parse.specs.Tokens.{name_of}
+use Rattle.text_parse.specs.Grammar.{first, non_void_type, end_names}
+use Rattle.text_parse.specs.Equations.{more_names_from, variables_rule, declaration_from, declaration_rule, declarations_rule}
 use Rattle.text_parse.proofs.Equations.{grammar}
 use Rattle.text_tokens.specs.Places.{tokens_at}
 use Rattle.text_tokens.proofs.KindTests.{is-withends}
-use Rattle.text_types.specs.SaysCode.{next_kind, Passed, Expected, Says, reads, On, starts_kind}
+use Rattle.text_types.specs.SaysCode.{next_kind, Expected, Says, reads, On, starts_kind}
 use Rattle.text_types.specs.Found.{found_in, or_else}
 use Rattle.text_types.specs.FoundCode.{matching, NameSays, NamesSay, EndsSay, is_channel, VariablesSay, DeclarationSays, DeclarationsSay}
 use Rattle.text_types.proofs.Answers.{on-later, says-lower, says-also, name-says, then-says, passed_ok, ok-found, ok-missing}
@@ -112,7 +111,7 @@ module _ (text x : List ℕ) where
       says-lower text P ok at place (suc place) (omega arith)
       (name-says text P ok at place _ name.stands
       (record {
-        on = λ o w. says-lower text P ok at middle (suc middle) (omega arith) (later.on o t y c (name.finds o));
+        on = λ o w. says-lower text P ok at middle (suc middle) (omega arith) (later.on o t y c name.finds);
         off-ok = later.off-ok;
         off_at = later.off_at;
       })))))

@@ -14,7 +14,7 @@ use Rattle.text_tokens.specs.Places.{tokens_at}
 use Rattle.text_tokens.specs.KindsCode.{kind_of}
 use Rattle.text_tokens.proofs.KindTests.{is-name}
 use Rattle.text_types.specs.Every.{Every, every-read, every-left}
-use Rattle.text_types.specs.SaysCode.{next_kind, Passed, Expected, found, missing, Says, reads, leaves-at}
+use Rattle.text_types.specs.SaysCode.{next_kind, Expected, found, missing, Says, reads, leaves-at}
 
 -- by the grammar alone
 module _ {A : Type 0} (Q : A → Type 0) where

@@ -1,5 +1,5 @@
 -- What is found among what is read.
-use Prim.Native.Nat.{ℕ, suc, ◌≤◌, ◌<◌}
+use Prim.Native.Nat.{ℕ, ◌<◌}
 use native.Mathlib.Omega.{arith}
 use mathlib.Core.Path.{◌≡◌, refl, sym, ap, ◌∙◌}
 use mathlib.Core.Bool.{Bool, true, false}
@@ -7,7 +7,7 @@ use mathlib.Core.List.{List, [], map}
 use lib.ListN.{length}
 use Rattle.lists.proofs.Tests.{clash, passes}
 use Rattle.text.specs.Tree.{Declaration, declared_by, Parameter, parameter_of}
-use Rattle.text_parse.specs.Grammar.{Reading, read, leaves, starts_type}
+use Rattle.text_parse.specs.Grammar.{Reading}
 use Rattle.text_parse.specs.Equations.{declarations_from, declarations_rule}
 use Rattle.text_parse.proofs.Equations.{grammar}
 use Rattle.text_tokens.specs.Places.{tokens_at}

@@ -1,24 +1,23 @@
 -- The names of a declaration by places.
-use Prim.Native.Nat.{ℕ, zero, suc, ◌+◌, ◌≤◌, ◌<◌}
+use Prim.Native.Nat.{ℕ, suc, ◌<◌}
 use native.Mathlib.Omega.{arith}
 use mathlib.Core.Path.{◌≡◌, refl, sym, ap, ◌∙◌, subst}
-use mathlib.Core.Bool.{Bool, true, false, cond, ◌&&◌}
+use mathlib.Core.Bool.{Bool, true, cond}
 use mathlib.Core.List.{List, [], ◌∷◌, ◌++◌, map}
 use borrow.Author.Tests.{eq-eqb, ne_eqb}
-use lib.Dec.{eqb}
 use lib.ListN.{length}
 use Rattle.lists.specs.Lists.{same}
-use Rattle.text.specs.Tree.{Name, Carried, NonVoidType, plain, channel_type, end_type, Declaration, variables, withends, plainly, declared_in}
-use Rattle.text_parse.specs.Tokens.{Token, name_of}
-use Rattle.text_parse.specs.Grammar.{Reading, read, first, rest, expect, expect_name, end_names}
+use Rattle.text.specs.Tree.{channel_type, end_type, Declaration, variables, withends, plainly, declared_in}
+use Rattle.text_parse.specs.Tokens.{name_of}
+use Rattle.text_parse.specs.Grammar.{Reading, read, first, expect_name, end_names}
 use Rattle.text_parse.specs.Equations.{more_names_from, more_names_rule}
 use Rattle.text_parse.proofs.Equations.{grammar}
 use Rattle.text_tokens.specs.Places.{tokens_at}
 use Rattle.text_tokens.proofs.KindTests.{is-comma, is-semicolon, is-open-bracket, is-close-bracket}
-use Rattle.text_types.specs.SaysCode.{next_kind, Passed, Expected, Says, On}
+use Rattle.text_types.specs.SaysCode.{next_kind, Expected, Says, On}
 use Rattle.text_types.specs.Found.{found_in, or_else}
 use Rattle.text_types.specs.FoundCode.{matching, NameSays, NamesSay, EndsSay}
-use Rattle.text_types.proofs.Answers.{on-here, on-later, on-after, says-lower, says-read, says-also, expect-says, name-says, passed-found, passed_ok, found_ok}
+use Rattle.text_types.proofs.Answers.{on-here, on-later, says-lower, says-read, says-also, expect-says, name-says, passed-found, passed_ok, found_ok}
 use Rattle.text_types.proofs.Finding.{or-none, or_assoc, found-one, found_first, found_name}
 
 module _ (text x : List ℕ) where
@@ -54,9 +53,9 @@ module _ (text x : List ℕ) where
       (found_in x (map (plainly t) (xs ++ (y ∷ [])))) f in
       let pass = passed-found text i 25 (λ g. omega arith) k e in
       let on : i < place = pass.onward in
-      let same-found : n ≡ true → (d : Declaration) → Q d → P d = λ o d g.
+      let same-found : (d : Declaration) → Q d → P d = λ d g.
       g ∙ ap (λ (m : ℕ). or_else m f) (found_name x t xs y ∙ ap (or_else (found_in x (map (plainly t) xs)))
-      (sym (name.finds o)))
+      (sym name.finds))
       ∙ or_assoc (found_in x (map (plainly t) xs)) more f in
       rw (
         grammar.more_names-is t xs (tokens_at text i),
@@ -69,7 +68,7 @@ module _ (text x : List ℕ) where
       (name-says text P ok at place (λ y us. more_names_from t (xs ++ (y ∷ [])) us) name.stands
       (record {
         on = λ o w. says-lower text P ok at middle (suc middle) (omega arith)
-            (says-also text Q P (suc middle) (same-found o) (later.on o t (xs ++ (y ∷ []))));
+            (says-also text Q P (suc middle) same-found (later.on o t (xs ++ (y ∷ []))));
         off-ok = later.off-ok;
         off_at = later.off_at;
       }))))
@@ -111,13 +110,13 @@ module _ (text x : List ℕ) where
       λ m j. says-lower text P ok at j (suc j) (omega arith) in
       expect-says text P ok at "[" i 23 _ (λ e. omega arith) is-open-bracket s1
       (on-later s2 r3 (λ na w. low _ p1 (name-says text P ok at p1 _ na.stands
-      (on-after s3 r4 (λ oa e w. low _ p2 (expect-says text P ok at "," p2 25 _ (λ e. omega arith) is-comma e
+      (on-later s3 r4 (λ e w. low _ p2 (expect-says text P ok at "," p2 25 _ (λ e. omega arith) is-comma e
       (on-later s4 r5 (λ nb w. low _ p3 (name-says text P ok at p3 _ nb.stands
-      (on-after s5 s6 (λ ob e w. low _ p4 (expect-says text P ok at "]" p4 24 _ (λ e. omega arith) is-close-bracket e
+      (on-later s5 s6 (λ e w. low _ p4 (expect-says text P ok at "]" p4 24 _ (λ e. omega arith) is-close-bracket e
       (on-later s6 (on-here {S = Unit {0}} tt) (λ e w. low _ p5
       (expect-says text P ok at ";" p5 26 _ (λ e. omega arith) is-semicolon e
       (record {
-        on = λ o w. says-read text P ok at (withends t c a b) (all (sym (na.finds oa)) (sym (nb.finds ob))) w o;
+        on = λ o w. says-read text P ok at (withends t c a b) (all (sym na.finds) (sym nb.finds)) w o;
         off-ok = λ o. o;
         off_at = λ o. refl;
       }))))))))))))))))

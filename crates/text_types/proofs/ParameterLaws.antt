@@ -1,20 +1,20 @@
 -- Parameters by places.
-use Prim.Native.Nat.{ℕ, zero, suc, ◌+◌, ◌≤◌, ◌<◌}
+use Prim.Native.Nat.{ℕ, suc, ◌≤◌, ◌<◌}
 use native.Mathlib.Omega.{arith}
 use mathlib.Core.Path.{◌≡◌, refl, sym, ap, ◌∙◌, subst}
-use mathlib.Core.Bool.{Bool, true, false, cond}
+use mathlib.Core.Bool.{Bool, true, false}
 use mathlib.Core.List.{List, [], ◌∷◌, ◌++◌, map}
 use borrow.Author.Tests.{eq-eqb, ne_eqb}
 use lib.ListN.{length}
-use Rattle.text.specs.Tree.{NonVoidType, plainly, Parameter, parameter_of}
+use Rattle.text.specs.Tree.{plainly, Parameter, parameter_of}
 use Rattle.text.specs.Translation.{type_code}
-use Rattle.text_parse.specs.Tokens.{Token, name_of}
-use Rattle.text_parse.specs.Grammar.{Reading, read, first, rest, non_void_type, parameter}
+use Rattle.text_parse.specs.Tokens.{name_of}
+use Rattle.text_parse.specs.Grammar.{read, first, non_void_type, parameter}
 use Rattle.text_parse.specs.Equations.{more_parameters_from, more_parameters_rule, parameters_rule}
 use Rattle.text_parse.proofs.Equations.{grammar}
 use Rattle.text_tokens.specs.Places.{tokens_at}
 use Rattle.text_tokens.proofs.KindTests.{is-comma, is-close}
-use Rattle.text_types.specs.SaysCode.{next_kind, Passed, Expected, Says, reads, On}
+use Rattle.text_types.specs.SaysCode.{next_kind, Expected, Says, reads, On}
 use Rattle.text_types.specs.Found.{found_in, or_else}
 use Rattle.text_types.specs.FoundCode.{NameSays, ParameterSays, after_parameter, RestSays, ParametersSay}
 use Rattle.text_types.proofs.Answers.{on-here, on-later, says-lower, says-read, says-also, says-bounds, expect-says, name-says, then-says, passed-found, passed_ok, ok-found, ok-missing}
@@ -35,7 +35,7 @@ module _ (text x : List ℕ) where
       (name-says text P ok at place _ name.stands
       (record {
         on = λ o w. says-read text P ok at (record { type = t; name = y })
-            (found-one x (plainly t y) ∙ sym (name.finds o)) w o;
+            (found-one x (plainly t y) ∙ sym name.finds) w o;
         off-ok = λ o. o;
         off_at = λ o. refl;
       }))))

@@ -4,6 +4,7 @@ use Rattle.std.specs.Prelude.{ℕ, Option, Some, None, Result, Ok, Err}
 use Rattle.text_types.specs.declared.place.GrammarError.{GrammarError}
 use Rattle.text_types.specs.declared.types.TypeAt.{TypeAt}
 use Rattle.text_types.specs.declared.found.FoundAt.{FoundAt}
+use Rattle.text_types.specs.declared.found.NotAName.{NotAName}
 use Rattle.text_types.specs.declared.found.DeclaredAs.{DeclaredAs}
 use Rattle.text_types.specs.declared.found.DeclaredAs.TheVariants.{Variable, WithEnds}
 
@@ -24,6 +25,15 @@ abbrev pub declared_number : Option DeclaredAs → ℕ
 declared_number None = 0
 declared_number (Some Variable) = 1
 declared_number (Some WithEnds) = 2
+
+-- of a name that must stand at a place; what is found is said where none stands, too
+abbrev pub name_place : Result FoundAt NotAName → ℕ
+name_place (Ok d) = d.at
+name_place (Err e) = e.at
+
+abbrev pub name_found : Result FoundAt NotAName → ℕ
+name_found (Ok d) = declared_number d.found
+name_found (Err e) = declared_number e.found
 
 abbrev pub found_place : Result FoundAt GrammarError → ℕ
 found_place (Ok d) = d.at

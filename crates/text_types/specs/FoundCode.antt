@@ -1,5 +1,5 @@
 -- What the readings of declarations answer, with what is found of the name x. These definitions follow the code.
-use Rattle.std.specs.Prelude.{ℕ, suc, ◌≤◌, ◌≡◌, Bool, true, cond, ◌&&◌, List, [], ◌∷◌, map, eqb, ltb, length}
+use Rattle.std.specs.Prelude.{ℕ, suc, ◌≤◌, ◌≡◌, Bool, cond, ◌&&◌, List, [], ◌∷◌, map, ltb, length}
 use Rattle.lists.specs.Lists.{same}
 use Rattle.text.specs.Tree.{Name, Carried, NonVoidType, Declaration, plainly, declared_in, declared_by, Parameter, parameter_of}
 use Rattle.text.specs.Translation.{type_code}
@@ -16,7 +16,7 @@ matching x bs = cond (same x bs) 1 0
 
 pub record NameSays (text x : List ℕ) (i : ℕ) (ok : Bool) (at found : ℕ) : Type 0 where
   pub stands : Expected text i 33 ok at
-  pub finds : ok ≡ true → found ≡ matching x (first (tokens_at text i)).bytes
+  pub finds : found ≡ matching x (first (tokens_at text i)).bytes
 
 -- after the names xs
 abbrev pub NamesSay : List ℕ → List ℕ → ℕ → Bool → ℕ → ℕ → Type 0

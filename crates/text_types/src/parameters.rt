@@ -20,7 +20,7 @@ pub fn parameter(
         (found_of result) }
 {
     let t = non_void_type(text, from)?;
-    name_here(text, t.at, start, end)
+    Ok(name_here(text, t.at, start, end)?)
 }
 
 // "(, methodDeclParam)*" after a parameter, and the closing bracket.

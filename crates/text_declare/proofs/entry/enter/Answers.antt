@@ -6,10 +6,10 @@ use Rattle.text_declare.proofs.EnteredLaws.{entered-one}
 use Rattle.text_declare.proofs.entry.enter.Goals as goal
 
 pub returns-then-n-gt15 : goal.returns-then-n-gt15
-returns-then-n-gt15 c = (tt, (λ text d spelt ends type fits. let le = fits.slots in too_many refl (omega arith)))
+returns-then-n-gt15 c = (refl, (λ text d spelt ends type fits. let le = fits.slots in too_many refl (omega arith)))
 
 pub returns-then-used-gt15 : goal.returns-then-used-gt15
-returns-then-used-gt15 c = (tt, (λ text d spelt ends type fits. too_many refl (omega arith)))
+returns-then-used-gt15 c = (refl, (λ text d spelt ends type fits. too_many refl (omega arith)))
 
 pub returns : goal.returns
 returns c =

@@ -1,14 +1,12 @@
 -- `arguments`: where all before it fits.
 use mathlib.Core.Path.{refl}
 use mathlib.Core.Logic.{inl, inr}
-use Rattle.std.specs.Prelude.{Some}
 use Rattle.text.specs.Limits.{exprs_numbers}
 use Rattle.text_parse.specs.Equations.{arguments_rule}
 use Rattle.text_numbering.specs.CodeBy.{arguments_by, place_of}
 use Rattle.text_numbering.proofs.CodeLaws.{arguments-fit}
-use Rattle.text_emit_expr.specs.Emitted.{said}
 use Rattle.text_emit.specs.Reached.{there}
-use Rattle.text_emit.proofs.PartLaws.{part-within, part-emits, part-refused}
+use Rattle.text_emit.proofs.PartLaws.{part-within, part-fits, part-refused}
 use Rattle.text_emit.proofs.parts.arguments.Goals as goal
 
 pub returns-then-text-e : goal.returns-then-text-e
@@ -21,10 +19,11 @@ returns-then-e-gt4096 c =
 
 pub returns-in_err-a : goal.returns-in_err-a
 returns-in_err-a c =
-    rw c.from_residual.ensures (part-refused _ _ _ arguments_rule (arguments_by place_of) exprs_numbers (arguments-fit place_of) (there c.args.e) _ _
-    refl c.in_err-a.ensures.0)
+    rw c.from_residual.ensures
+    (part-refused _ _ _ arguments_rule (arguments_by place_of) exprs_numbers (arguments-fit place_of) (there c.args.e) _ _
+    _ c.in_err-a.ensures.value refl c.emit_arguments.ensures.0)
 
 pub returns : goal.returns
 returns c =
-    part-emits _ _ _ arguments_rule (arguments_by place_of) exprs_numbers (arguments-fit place_of) (there c.args.e) _ _ (said (Some c.in_ok-a.a)) refl
-    c.in_ok-a.ensures.0
+    part-fits _ _ _ arguments_rule (arguments_by place_of) exprs_numbers (arguments-fit place_of) (there c.args.e) _ _
+    _ c.in_ok-a.a c.in_ok-a.ensures.value refl c.emit_arguments.ensures.0

@@ -4,7 +4,8 @@ use Prim.Native.Nat.{◌≤◌, ◌<◌}
 use mathlib.Core.Path.{refl}
 use lib.ListN.{length}
 use borrow.Author.Tests.{ne_eqb}
-use Rattle.std.specs.Prelude.{Some, None}
+use Rattle.std.specs.Prelude.{Ok}
+use Rattle.std.proofs.lemmas.Result.{err_from_is_err_and}
 use Rattle.text_emit_expr.specs.Emitted.{Said, said}
 use Rattle.text_emit_expr.proofs.ArgumentLaws.{later-here, later-then, continued-by, comma-later, comma-onward, parameters-emitted, parameters-refused, token-reach}
 use Rattle.text_emit_expr.proofs.arguments.emit_parameters.Goals as goal
@@ -12,11 +13,12 @@ use Rattle.text_emit_expr.proofs.arguments.emit_parameters.Goals as goal
 pub returns-in_err-r : goal.returns-in_err-r
 returns-in_err-r c =
     let g = c.args in
-    rw c.from_residual.ensures (
-      parameters-refused g.text.now g.scope.now g.n g.from g.code.now g.count _
-          (continued-by g.text.now g.scope.now g.n g.from g.code.now g.count _ (said None) _ (said None)
-          c.in_err-r.ensures.0 (later-here g.text.now g.scope.now g.n _ (said None))),
-      tt,
+    let e = err_from_is_err_and c.from_residual.result c.from_residual.ensures.1 in
+    rw (e.1, e.2) (
+      parameters-refused g.text.now g.scope.now g.n g.from g.code.now g.count _ _ refl
+          (continued-by g.text.now g.scope.now g.n g.from g.code.now g.count _ _ _ _
+          c.in_err-r.ensures.0 (later-here g.text.now g.scope.now g.n _ _)),
+      c.in_err-r.ensures.1,
     )
 
 pub loop-t-init : goal.loop-t-init
@@ -36,23 +38,28 @@ pub returns-in_err-r-2 : goal.returns-in_err-r-2
 returns-in_err-r-2 c =
     let g = c.args in
     let l = c.loop-t in
-    let first : Said = said (Some c.in_ok-r.r) in
-    let last : Said = said (Some l.r) in
-    rw c.from_residual-in_err-r-2.ensures (
-      parameters-refused g.text.now g.scope.now g.n g.from g.code.now g.count _
-          (continued-by g.text.now g.scope.now g.n g.from g.code.now g.count _ first _ (said None)
+    let first : Said = said (Ok c.in_ok-r.r) in
+    let last : Said = said (Ok l.r) in
+    let on = comma-onward g.text.now g.scope.now g.n l.code last l.t l.invariant.0 c.loop-t-test.true in
+    let a : l.r.at < l.t.end = on.0 in
+    let b : g.from ≤ l.r.at = l.invariant.6 in
+    let e = err_from_is_err_and c.from_residual-in_err-r-2.result c.from_residual-in_err-r-2.ensures.1 in
+    let stopped = c.in_err-r-2.ensures.1 in
+    rw (e.1, e.2) (
+      parameters-refused g.text.now g.scope.now g.n g.from g.code.now g.count _ _ refl
+          (continued-by g.text.now g.scope.now g.n g.from g.code.now g.count _ first _ _
           c.in_ok-r.ensures.0
-          (later-then g.text.now g.scope.now g.n _ first l.code last _ (said None) l.invariant.1
-          (comma-later g.text.now g.scope.now g.n l.code last l.t l.invariant.0 _ (said None) refl c.loop-t-test.true
+          (later-then g.text.now g.scope.now g.n _ first l.code last _ _ l.invariant.1
+          (comma-later g.text.now g.scope.now g.n l.code last l.t l.invariant.0 _ _ refl c.loop-t-test.true
           c.in_err-r-2.ensures.0))),
-      tt,
+      (omega (arith, stopped.0), stopped.1, stopped.2),
     )
 
 pub loop-t-smaller : goal.loop-t-smaller
 loop-t-smaller c =
     let g = c.args in
     let l = c.loop-t in
-    let on = comma-onward g.text.now g.scope.now g.n l.code (said (Some l.r)) l.t l.invariant.0 c.loop-t-test.true in
+    let on = comma-onward g.text.now g.scope.now g.n l.code (said (Ok l.r)) l.t l.invariant.0 c.loop-t-test.true in
     let a : l.r.at < l.t.end = on.0 in
     let b : l.t.end ≤ c.in_ok-r-2.r.at = c.in_ok-r-2.ensures.1.0 in
     let d : c.in_ok-r-2.r.at ≤ length g.text.now = c.in_ok-r-2.ensures.1.1
@@ -63,7 +70,7 @@ loop-t-preserved c =
     let g = c.args in
     let l = c.loop-t in
     let next = c.in_ok-r-2.ensures in
-    let last : Said = said (Some l.r) in
+    let last : Said = said (Ok l.r) in
     let on = comma-onward g.text.now g.scope.now g.n l.code last l.t l.invariant.0 c.loop-t-test.true in
     let a : l.r.at < l.t.end = on.0 in
     let b : l.t.end ≤ c.in_ok-r-2.r.at = next.1.0 in
@@ -82,8 +89,8 @@ pub returns : goal.returns
 returns c =
     let g = c.args in
     let l = c.loop-t in
-    let first : Said = said (Some c.in_ok-r.r) in
-    let last : Said = said (Some l.r) in
+    let first : Said = said (Ok c.in_ok-r.r) in
+    let last : Said = said (Ok l.r) in
     let reach = token-reach g.text.now g.from l.r.at l.t l.invariant.0 l.invariant.6 l.invariant.2 in (
       parameters-emitted g.text.now g.scope.now g.n g.from g.code.now g.count l.code last
           l.t l.invariant.0

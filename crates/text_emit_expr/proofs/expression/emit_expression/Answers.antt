@@ -49,7 +49,7 @@ returns-then-s-ne3 c =
     let l = c.loop-s in (
       expression-refused g.text.now g.scope.now g.n g.from g.count g.pending.now g.code.now
           l.pending l.code l.s l.invariant.0 l.invariant.1 c.loop-s-test.false c.if-s-ne3.true,
-      tt,
+      (l.invariant.4, l.invariant.0.inside, l.invariant.0.room),
     )
 
 pub returns : goal.returns

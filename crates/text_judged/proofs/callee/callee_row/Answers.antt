@@ -9,8 +9,8 @@ method_indexed-requires c = (
   omega (arith, c.next_token-t.ensures.ends, c.next_token-t.ensures.within c.requires.0),
 )
 
-pub returns-in-Some : goal.returns-in-Some
-returns-in-Some c = header_at _ _ _ c.next_token-t.ensures _ c.in-Some.ensures _ c.header_row.ensures
+pub returns-in-Ok : goal.returns-in-Ok
+returns-in-Ok c = header_at _ _ _ c.next_token-t.ensures _ c.in-Ok.ensures _ c.header_row.ensures
 
-pub returns-in-None : goal.returns-in-None
-returns-in-None c = no-header _ _ _ c.next_token-t.ensures c.in-None.ensures _
+pub returns-in-Err : goal.returns-in-Err
+returns-in-Err c = no-header _ _ _ c.next_token-t.ensures c.in-Err.ensures _

@@ -2,9 +2,9 @@
 use Rattle.text_names.proofs.Calls.{invoke-found, gate-found}
 use Rattle.text_names.proofs.fault.is_invocation.Goals as goal
 
-pub returns-in-Some : goal.returns-in-Some
-returns-in-Some c = invoke-found _ _ _ _ c.count_arguments-n.ensures _ c.in-Some.ensures
+pub returns-in-Ok : goal.returns-in-Ok
+returns-in-Ok c = invoke-found _ _ _ _ c.count_arguments-n.ensures _ c.in-Ok.ensures
 
-pub returns-in-None : goal.returns-in-None
-returns-in-None c =
-    gate-found _ _ _ _ c.count_arguments-n.ensures c.in-None.ensures c.gate_number.ensures c.gate_takes.ensures
+pub returns-in-Err : goal.returns-in-Err
+returns-in-Err c =
+    gate-found _ _ _ _ c.count_arguments-n.ensures c.in-Err.ensures c.gate_number.ensures c.gate_takes.ensures

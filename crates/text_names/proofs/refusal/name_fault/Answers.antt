@@ -3,9 +3,9 @@ use Rattle.text_names.specs.Answer.{fault_in}
 use Rattle.text_names.proofs.Refused.{main-found, main-missing}
 use Rattle.text_names.proofs.refusal.name_fault.Goals as goal
 
-pub returns-in-Some : goal.returns-in-Some
-returns-in-Some c = main-found _ c.in-Some.ensures c.lowest_fault-lowest.ensures
+pub returns-in-Ok : goal.returns-in-Ok
+returns-in-Ok c = main-found _ c.in-Ok.ensures c.lowest_fault-lowest.ensures
 
-pub returns-in-None : goal.returns-in-None
+pub returns-in-Err : goal.returns-in-Err
 unfolding fault_in
-returns-in-None c = main-missing _ c.in-None.ensures c.lowest_fault-lowest.ensures c.lower_place.ensures
+returns-in-Err c = main-missing _ c.in-Err.ensures c.lowest_fault-lowest.ensures c.lower_place.ensures

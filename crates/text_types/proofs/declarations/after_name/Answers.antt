@@ -1,7 +1,7 @@
 -- `after_name`: with ends or not.
 use Prim.Native.Nat.{ℕ}
 use mathlib.Core.Path.{◌≡◌, refl, sym, ap, ◌∙◌, subst}
-use mathlib.Core.Bool.{Bool, false, ◌&&◌}
+use mathlib.Core.Bool.{false, ◌&&◌}
 use lib.Seq.{slice}
 use Rattle.text_types.specs.Answer.{declared_number}
 use Rattle.text_types.proofs.Finding.{or-number, ends-number}

@@ -1,6 +1,6 @@
 -- `declaration`: a type, a name and what comes after it.
 use lib.Seq.{slice}
-use Rattle.text_types.proofs.Answers.{then, gone, stays, says-left}
+use Rattle.text_types.proofs.Answers.{then, gone, stays}
 use Rattle.text_types.proofs.DeclarationLaws.{declaration-says}
 use Rattle.text_types.proofs.declarations.declaration.Goals as goal
 

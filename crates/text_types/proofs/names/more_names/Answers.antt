@@ -22,7 +22,7 @@ returns-in_err-name c =
     let text = g.text.now in
     let x = slice g.start g.end text in
     rw (stays c.from_residual.ensures)
-    (λ t xs. says-left (l.invariant _ _ 0 (names-on text x l.at 0 (ok-found text l.at 25 refl c.in-Ok.ensures) c.in-Ok.ensures
+    (λ t xs. says-left (l.invariant _ _ _ (names-on text x l.at 0 (ok-found text l.at 25 refl c.in-Ok.ensures) c.in-Ok.ensures
     (then c.in_err-name.ensures) gone) t xs))
 
 pub loop-comma-smaller : goal.loop-comma-smaller

@@ -1,7 +1,7 @@
 -- `find_word`: the entries before the one that is looked at have another name.
 use native.Mathlib.Omega.{arith}
 use mathlib.Core.Path.{sym, ◌∙◌, subst}
-use Rattle.std.specs.Prelude.{Some}
+use Rattle.std.specs.Prelude.{Ok}
 use Rattle.text_scan.proofs.Methods.{same-comm}
 use Rattle.text_methods.specs.RowsCode.{FirstNamed}
 use Rattle.text_methods.specs.declared.find.MethodAt.{MethodAt}
@@ -16,7 +16,7 @@ returns-then-is_entry c =
     let m = c.args.self.now in
     let x = c.args.word.now in
     let i = c.loop-i.i in
-    subst (λ (a : MethodAt). FirstNamed m.text.now x (Some a)) (sym c.entry.ensures)
+    subst (λ (a : MethodAt). FirstNamed m.text.now x (Ok a)) (sym c.entry.ensures)
     (look-found m.text.now m.index.now x m.indexed i c.loop-i.invariant
     (omega (arith, c.loop-i-test.true, c.min-i-end.ensures)) (omega (arith, c.loop-i-test.true, c.min-i-end.ensures))
     (same-comm x _ ∙ sym c.is_entry.ensures ∙ c.if-is_entry.true))
