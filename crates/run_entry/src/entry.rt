@@ -46,7 +46,9 @@ fn rest_of(step: StepResult) -> Rest
     }
 }
 
-// What the offer of the named process comes to, by what its step answered; a process that does not run waits.
+// What the offer of the named process comes to, by what its step answered; a process that does not run waits. It is marked
+// as cold, so that it stays out of the loop over plain steps, which has no registers to spare (docs/PERFORMANCE.md).
+#[cold]
 pub fn offer_at(
     p: &Program<'_>,
     work: &[u32],
